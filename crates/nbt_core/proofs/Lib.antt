@@ -1,0 +1,14 @@
+pub mod Numbers
+pub mod Steps
+pub mod Lists
+pub mod ItemsLoop
+pub mod MembersLoop
+pub mod Results
+pub mod Fronts
+pub mod Pieces
+pub mod LeafLaws
+pub mod TreeLaws
+pub mod FaultLaws
+pub mod RootLaws
+pub mod ReadRoot
+pub mod Uniqueness

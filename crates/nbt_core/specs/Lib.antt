@@ -1,0 +1,12 @@
+pub mod Value
+pub mod Code
+pub mod Weight
+pub mod View
+pub mod Falls
+pub mod Ids
+pub mod Spelling
+pub mod Breaking
+pub mod Answer
+pub mod Reading
+pub mod LeafReading
+pub mod TreeReading

@@ -1,0 +1,9 @@
+//! What no clause shows: the values that bytes from outside mean, printed faults, memory.
+mod build;
+mod depth;
+mod faults;
+mod files;
+mod hostile;
+mod leaves;
+mod memory;
+mod names;
