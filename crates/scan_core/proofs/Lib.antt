@@ -1,0 +1,12 @@
+pub mod CellLemmas
+pub mod ScanLemmas
+pub mod Building
+pub mod One
+pub mod PropertyLemmas
+pub mod WholeLemmas
+pub mod ValueLemmas
+pub mod SeenLemmas
+pub mod EachLemmas
+pub mod ListLemmas
+pub mod FillLemmas
+pub mod ReadLemmas

@@ -1,0 +1,13 @@
+use Rattle.std.proofs.Common.{sym, ◌∙◌, codes}
+use Rattle.nbt_core.specs.Value.{field}
+use Rattle.nbt_core.specs.View.{nbt}
+use Rattle.scan_core.specs.Box as grid
+use Rattle.scan_core.specs.Faults.{place_fault}
+use Rattle.scan_core.proofs.ScanLemmas.{on_is}
+use Rattle.scan_core.proofs.ValueLemmas.{on_triple-wrong}
+use Rattle.scan_core.proofs.block.place_of.Goals as goal
+
+pub returns-in_default-triple : goal.returns-in_default-triple
+returns-in_default-triple c =
+    on_is (field (codes "pos") (nbt c.args.entry.now)) (nbt c.in-Some.tag.now) _ _ (sym c.in-Some.ensures)
+    ∙ on_triple-wrong _ (place_fault (grid.point c.args.size) c.args.index) (nbt c.in-Some.tag.now) c.in_default-triple.ensures

@@ -1,0 +1,12 @@
+use Rattle.std.proofs.Common.{sym, subst, ◌+◌, List}
+use Rattle.scan_core.specs.Faults.{name_fault}
+use Rattle.scan_core.specs.Scan.{IsStateOf}
+use Rattle.scan_core.specs.declared.state.BlockState.{BlockState}
+use Rattle.scan_core.proofs.EachLemmas.{AreTold, told_more}
+use Rattle.scan_core.proofs.palette.states_of.Goals as goal
+
+pub loop-index-preserved : goal.loop-index-preserved
+loop-index-preserved c =
+    let told = c.in_ok-state_of.ensures in
+    subst (λ (states : List BlockState). AreTold IsStateOf name_fault c.args.entries.now (c.loop-index.index + 1) states) (sym {A = List BlockState} c.in_ok-push.ensures.items)
+    (told_more IsStateOf name_fault c.args.entries.now c.loop-index.index c.loop-index.states.items c.index-entries-index.result c.in_ok-state_of.field-0 c.loop-index.invariant c.loop-index-test.true c.index-entries-index.is told.0 told.1)

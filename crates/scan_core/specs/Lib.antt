@@ -1,0 +1,9 @@
+pub mod Box
+pub mod Properties
+pub mod Scan
+pub mod Judging
+pub mod Faults
+pub mod Answer
+pub mod Mapping
+pub mod Told
+pub mod Cells

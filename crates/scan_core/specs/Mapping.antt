@@ -1,0 +1,10 @@
+-- What a fault of the bytes becomes.
+use Rattle.nbt_core.specs.declared.fault.NbtFault.{NbtFault}
+use Rattle.nbt_core.specs.declared.fault.NbtFault.TheVariants as inner
+use Rattle.scan_core.specs.declared.fault.ScanFault.{ScanFault}
+use Rattle.scan_core.specs.declared.fault.ScanFault.TheVariants.{Nbt, OutOfMemory}
+
+-- a want of memory stays one, and any other fault is one of the bytes
+abbrev pub of_nbt : NbtFault → ScanFault
+of_nbt inner.OutOfMemory = OutOfMemory
+of_nbt fault = Nbt fault

@@ -1,0 +1,34 @@
+-- What single values tell, and the size and the palette of a root.
+use Rattle.std.specs.Prelude.{◌≡◌, ◌≢◌, ℤ, pos, true, false, IsTrue, List, Option, Some, None, codes, slice_index_or}
+use Rattle.nbt_core.specs.Value.{Nbt, list, items_of, field}
+use Rattle.scan_core.specs.Box.{Point, is_small}
+use Rattle.scan_core.specs.Scan.{triple, point_value, IsStateOf, IsListOf}
+use Rattle.scan_core.specs.Judging.{are_compounds, point_of}
+use Rattle.scan_core.specs.declared.state.BlockState.{BlockState}
+
+-- three Ints, as the code has them
+abbrev pub triple_value : List ℤ → Nbt
+triple_value ns = triple (slice_index_or ns 0 (pos 0)) (slice_index_or ns 1 (pos 0)) (slice_index_or ns 2 (pos 0))
+
+-- three numbers as coordinates, where none is negative
+abbrev pub point_of_list : List ℤ → Option Point
+point_of_list ns = point_of (slice_index_or ns 0 (pos 0)) (slice_index_or ns 1 (pos 0)) (slice_index_or ns 2 (pos 0))
+
+-- what a value of this shape holds, or none where it has another shape
+abbrev pub IsReadAs : {X : Type 0} → (X → Nbt) → Nbt → Option X → Type 0
+IsReadAs shape t (Some x) = t ≡ shape x
+IsReadAs {X} shape t None = (x : X) → t ≢ shape x
+
+-- the values of a list of compounds, or none where it is something else
+abbrev pub AreCompoundsOf : Nbt → Option (List Nbt) → Type 0
+AreCompoundsOf t (Some ts) = (t ≡ list (items_of ts)) × (are_compounds ts ≡ true)
+AreCompoundsOf t None = (ts : List Nbt) → t ≡ list (items_of ts) → are_compounds ts ≡ false
+
+-- the root's size, which is small
+pub record IsSizeOf (root : Nbt) (size : Point) : Type 0 where
+  pub sized : field (codes "size") root ≡ Some (point_value size)
+  pub small : IsTrue (is_small size)
+
+-- the root's palette
+abbrev pub IsPaletteOf : Nbt → List BlockState → Type 0
+IsPaletteOf root palette = IsListOf IsStateOf (field (codes "palette") root) palette

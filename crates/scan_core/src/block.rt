@@ -1,0 +1,124 @@
+ghost use Rattle.std.specs.Prelude.{◌≡◌, All, None, length, IsTrue};
+ghost use Rattle.nbt_core.specs.View.{nbt, nbts};
+ghost use Rattle.scan_core.specs.Answer.{Tells, TellsInRoom};
+ghost use Rattle.scan_core.specs.Box as grid;
+ghost use Rattle.scan_core.specs.Cells.{AreCellsOf, IsIndexOf, IsPlaced, IsPlaceOf, ShowEntries};
+ghost use Rattle.scan_core.specs.Faults.{blocks_fault, entry_faults, pos_fault, state_fault};
+ghost use Rattle.scan_core.specs.Judging.{each_from, first_fault};
+
+use crate::fault::{Field, ScanFault};
+use crate::grid::{Cell, is_within, number};
+use crate::value::{compounds, int, natural, triple};
+use nbt_core::Tag;
+use std::alloc::Global;
+
+/// For each cell of a box of this size the state that the root's blocks tell: an index into so many
+/// states, or none.
+pub fn cells_of(
+    alloc: Global,
+    root: &Tag,
+    size: [u32; 3],
+    states: usize,
+) -> Result<Vec<Option<u32>>, ScanFault>
+    requires { IsTrue (grid.is_small (grid.point size)) }
+    ensures { let told = nbt root.now in
+        let sides = grid.point size in
+        TellsInRoom result (λ cells. AreCellsOf told sides states cells.items)
+        (blocks_fault sides states told) }
+{
+    let Some(tag) = root.field(b"blocks") else {
+        return Err(ScanFault::Missing(Field::BlocksField));
+    };
+    let Some(entries) = compounds(tag) else {
+        return Err(ScanFault::WrongType(Field::BlocksField));
+    };
+    let count = size[0] * size[1] * size[2];
+    let mut cells = vec![in alloc; None; count as usize]?;
+    fill(cells.as_mut_slice(), size, states, entries)?;
+    Ok(cells)
+}
+
+/// Gives each cell the state of the last entry that names it.
+fn fill(
+    cells: &mut [Option<u32>],
+    size: [u32; 3],
+    states: usize,
+    entries: &[Tag],
+) -> Result<(), ScanFault>
+    requires small { IsTrue (grid.is_small (grid.point size)) }
+    requires whole { length cells.old ≡ grid.cell_count (grid.point size) }
+    requires void { All (λ cell. cell ≡ None) cells.old }
+    ensures { let told = nbts entries.now in
+        let sides = grid.point size in
+        Tells result (λ _. ShowEntries told sides states cells.new)
+        (first_fault (each_from 0 (entry_faults sides states) told)) }
+{
+    for (index, entry) in entries.iter().enumerate() {
+        let Placed { cell, state } = placement(size, states, index, entry)?;
+        cells[cell as usize] = Some(state);
+    }
+    Ok(())
+}
+
+/// An entry's cell, and its index into the palette.
+#[derive(Drop)]
+struct Placed {
+    cell: Cell,
+    state: u32,
+}
+
+/// What the entry with this index tells.
+fn placement(size: [u32; 3], states: usize, index: usize, entry: &Tag) -> Result<Placed, ScanFault>
+    requires { IsTrue (grid.is_small (grid.point size)) }
+    ensures { let told = nbt entry.now in
+        let sides = grid.point size in
+        Tells result (λ placed. IsPlaced told sides states placed.cell placed.state)
+        (first_fault (entry_faults sides states index told)) }
+{
+    let at = place_of(size, index, entry)?;
+    let state = index_of(states, index, entry)?;
+    Ok(Placed {
+        cell: number(size, at),
+        state,
+    })
+}
+
+/// The coordinates of the entry with this index.
+fn place_of(size: [u32; 3], index: usize, entry: &Tag) -> Result<[u32; 3], ScanFault>
+    ensures { let told = nbt entry.now in
+        let sides = grid.point size in
+        Tells result (λ at. IsPlaceOf told sides (grid.point at)) (pos_fault sides index told) }
+{
+    let Some(tag) = entry.field(b"pos") else {
+        return Err(ScanFault::Missing(Field::PosField(index)));
+    };
+    let Some(numbers) = triple(tag) else {
+        return Err(ScanFault::WrongType(Field::PosField(index)));
+    };
+    let Some(at) = natural(numbers) else {
+        return Err(ScanFault::BadPosition { index });
+    };
+    if is_within(size, at) {
+        Ok(at)
+    } else {
+        Err(ScanFault::BadPosition { index })
+    }
+}
+
+/// The index into so many states of the entry with this index.
+fn index_of(states: usize, index: usize, entry: &Tag) -> Result<u32, ScanFault>
+    ensures { let told = nbt entry.now in
+        Tells result (λ state. IsIndexOf told states state) (state_fault states index told) }
+{
+    let Some(tag) = entry.field(b"state") else {
+        return Err(ScanFault::Missing(Field::StateField(index)));
+    };
+    let Some(number) = int(tag) else {
+        return Err(ScanFault::WrongType(Field::StateField(index)));
+    };
+    if number >= 0 && (number as usize) < states {
+        Ok(number as u32)
+    } else {
+        Err(ScanFault::BadState { index })
+    }
+}

@@ -1,0 +1,45 @@
+ghost use Rattle.std.specs.Prelude.{◌≢◌, IfOk, IfErr};
+ghost use Rattle.nbt_core.specs.View.{nbt};
+ghost use Rattle.scan_core.specs.declared.fault.ScanFault.{ScanFault};
+ghost use Rattle.scan_core.specs.Answer.{IsAnswer, IsRefusal, TellsInRoom};
+ghost use Rattle.scan_core.specs.Faults.{IsFaultOf, fault_of};
+ghost use Rattle.scan_core.specs.Scan.{IsScanOf, Scans, Structure};
+
+use crate::block::cells_of;
+use crate::fault::ScanFault;
+use crate::palette::palette_of;
+use crate::scan::Scan;
+use crate::size::size_of;
+use nbt_core::{Tag, read_root};
+use std::alloc::Global;
+
+/// Reads the bytes of a structure file: an NBT root with a size, a palette and blocks. What else stands
+/// in it isn't judged (Minecraft Wiki, "Structure file"; limits and the order of faults are this
+/// project's own).
+pub fn read_scan(alloc: Global, bytes: &[u8]) -> Result<Scan, ScanFault>
+    // What is read is what the root at the front of the bytes tells.
+    ensures found { IfOk result (λ s. Scans bytes.now s) }
+    // Such a structure is read.
+    ensures only { (s : Structure) → Scans bytes.now s → IsAnswer result s }
+    // A fault is the first one.
+    ensures fault { IfErr result (λ e. e ≢ ScanFault.OutOfMemory → IsFaultOf bytes.now e) }
+    // Such a fault is answered.
+    ensures refused { (e : ScanFault) → IsFaultOf bytes.now e → IsRefusal result e }
+{
+    let root = read_root(alloc, bytes)?;
+    scan_of(alloc, &root)
+}
+
+/// What the root tells.
+fn scan_of(alloc: Global, root: &Tag) -> Result<Scan, ScanFault>
+    ensures { let told = nbt root.now in
+        TellsInRoom result (λ s. IsScanOf told s) (fault_of told) }
+{
+    let size = size_of(root)?;
+    if root.field(b"palettes").is_some() {
+        return Err(ScanFault::Palettes);
+    }
+    let palette = palette_of(alloc, root)?;
+    let cells = cells_of(alloc, root, size, palette.len())?;
+    Ok(Scan::new(size, palette, cells))
+}
