@@ -1,0 +1,2 @@
+pub mod LookUpLemmas
+pub mod ShippedLemmas

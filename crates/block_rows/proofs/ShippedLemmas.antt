@@ -1,0 +1,142 @@
+-- The shipped rows are sound, and no two of them are alike.
+use Rattle.std.proofs.Common.{◌≡◌, ◌≢◌, ℕ, Bool, true, false, not, ◌&&◌, ◌||◌, nat_le, nat_eq, List, [], ◌∷◌, ◌++◌, All, IsTrue, refl, sym, ap, ◌∙◌, bytes_eq, arith}
+use Rattle.std.specs.Prelude.{flat_map}
+use Rattle.std.specs.List.{list_all}
+use Rattle.std.proofs.lemmas.List.Elements.{All-nil, All-cons, All-append, All-map, All-weaker}
+use Rattle.std.proofs.lemmas.Slice.Eq.{bytes_eq-Decides}
+use Rattle.std.proofs.lemmas.Bool.{eqb-true, leb-true}
+use Rattle.std.proofs.lemmas.List.Kept.{AllPairs-cons}
+use Rattle.block_rows.specs.declared.class.Class.{Class}
+use Rattle.block_rows.specs.Class.{IsSoundClass}
+use Rattle.block_rows.specs.declared.row.Row.{Row}
+use Rattle.block_rows.specs.declared.table.TheConstants.{PREFIX}
+use Rattle.block_rows.specs.Rows.{AreSoundRows}
+use Rattle.block_rows.specs.Shipped.{Line, lines, rows_in, shipped_rows, AreDistinctRows}
+
+both_true : (a b : Bool) → (a && b) ≡ true → (a ≡ true) × (b ≡ true)
+both_true true true e = (refl, refl)
+both_true true false e = absurd (cc)
+both_true false b e = absurd (cc)
+
+then_true : (a b : Bool) → (not a || b) ≡ true → IsTrue a → b ≡ true
+then_true true b e h = e
+then_true false b e h = absurd (cc)
+
+not_true : (a : Bool) → not a ≡ true → a ≡ false
+not_true true e = absurd (cc)
+not_true false e = refl
+
+-- ---- each is sound
+
+abbrev is_plain : Class → Bool
+is_plain class = nat_eq class.opacity 0 && (nat_eq class.emission 0 && (class.free && (not class.stand && (not class.top && not class.side))))
+
+abbrev is_sound : Class → Bool
+is_sound class = nat_le class.opacity 15 && (nat_le class.emission 15 && (not class.put || is_plain class))
+
+-- what the test of a class that gives way to a torch tells
+record IsPlain (class : Class) : Type 0 where
+  dark : class.opacity ≡ 0
+  unlit : class.emission ≡ 0
+  roomy : class.free ≡ true
+  no_ground : class.stand ≡ false
+  no_top : class.top ≡ false
+  no_side : class.side ≡ false
+
+plain_of : (class : Class) → is_plain class ≡ true → IsPlain class
+plain_of class e =
+    let a = both_true (nat_eq class.opacity 0) _ e in
+    let b = both_true (nat_eq class.emission 0) _ a.1 in
+    let c = both_true class.free _ b.1 in
+    let d = both_true (not class.stand) _ c.1 in
+    let f = both_true (not class.top) (not class.side) d.1 in
+    record {
+      dark = eqb-true class.opacity 0 a.0;
+      unlit = eqb-true class.emission 0 b.0;
+      roomy = c.0;
+      no_ground = not_true class.stand d.0;
+      no_top = not_true class.top f.0;
+      no_side = not_true class.side f.1;
+    }
+
+sound_of : (class : Class) → is_sound class ≡ true → IsSoundClass class
+sound_of class e =
+    let a = both_true (nat_le class.opacity 15) _ e in
+    let b = both_true (nat_le class.emission 15) _ a.1 in
+    let plain = λ (p : IsTrue class.put). plain_of class (then_true class.put (is_plain class) b.1 p) in
+    record {
+      thin = leb-true class.opacity 15 a.0;
+      faint = leb-true class.emission 15 b.0;
+      clear = λ p. (plain p).dark;
+      unlit = λ p. (plain p).unlit;
+      roomy = λ p. (plain p).roomy;
+      no_ground = λ p. (plain p).no_ground;
+      no_top = λ p. (plain p).no_top;
+      no_side = λ p. (plain p).no_side;
+    }
+
+line_sound : (line : Line) → IsSoundClass line.class → AreSoundRows (rows_in line)
+line_sound line h = All-map (λ (row : Row). IsSoundClass row.class) (λ (name : List ℕ). record { name = PREFIX.now ++ name; when = line.when; class = line.class }) line.names (λ k d lt. h)
+
+rows_sound : (ls : List Line) → list_all (λ line. is_sound line.class) ls ≡ true → AreSoundRows (flat_map rows_in ls)
+rows_sound [] e = All-nil (λ row. IsSoundClass row.class)
+rows_sound (line ∷ ls) e =
+    let a = both_true (is_sound line.class) _ e in
+    All-append (λ (row : Row). IsSoundClass row.class) (rows_in line) (flat_map rows_in ls)
+    (line_sound line (sound_of line.class a.0)) (rows_sound ls a.1)
+
+pub shipped_sound : AreSoundRows shipped_rows
+unfolding shipped_rows
+shipped_sound = rows_sound lines refl
+
+-- ---- no two are alike
+
+abbrev are_alike : List (List ℕ × List ℕ) → List (List ℕ × List ℕ) → Bool
+are_alike [] [] = true
+are_alike [] (y ∷ ys) = false
+are_alike (x ∷ xs) [] = false
+are_alike (x ∷ xs) (y ∷ ys) = bytes_eq x.0 y.0 && bytes_eq x.1 y.1 && are_alike xs ys
+
+abbrev are_apart : Row → Row → Bool
+are_apart a b = not (bytes_eq a.name b.name && are_alike a.when b.when)
+
+abbrev all_apart : List Row → Bool
+all_apart [] = true
+all_apart (row ∷ rows) = list_all (are_apart row) rows && all_apart rows
+
+shipped_apart : all_apart shipped_rows ≡ true
+unfolding shipped_rows
+shipped_apart = refl
+
+three_true : (a b c : Bool) → a ≡ true → b ≡ true → c ≡ true → (a && b && c) ≡ true
+three_true a b c e f g = cc
+
+alike : (xs ys : List (List ℕ × List ℕ)) → xs ≡ ys → are_alike xs ys ≡ true
+alike xs ys e = ap (are_alike xs) (sym e) ∙ itself xs
+  where
+    itself : (xs : List (List ℕ × List ℕ)) → are_alike xs xs ≡ true
+    itself [] = refl
+    itself (x ∷ xs) = three_true _ _ _ ((bytes_eq-Decides x.0 x.0).1 refl) ((bytes_eq-Decides x.1 x.1).1 refl) (itself xs)
+
+not_apart : (a b : Bool) → not (a && b) ≡ true → a ≡ true → b ≡ true → ⊥
+not_apart a b e f g = absurd (cc)
+
+rows_apart : (a b : Row) → are_apart a b ≡ true → a.name ≡ b.name → a.when ≢ b.when
+rows_apart a b e same asked = not_apart (bytes_eq a.name b.name) (are_alike a.when b.when) e ((bytes_eq-Decides a.name b.name).1 same) (alike a.when b.when asked)
+
+all_of : (test : Row → Bool) (rows : List Row) → list_all test rows ≡ true → All (λ row. test row ≡ true) rows
+all_of test [] e = All-nil (λ row. test row ≡ true)
+all_of test (row ∷ rows) e =
+    let a = both_true (test row) _ e in
+    All-cons (λ row. test row ≡ true) row rows a.0 (all_of test rows a.1)
+
+apart_rows : (rows : List Row) → all_apart rows ≡ true → AreDistinctRows rows
+apart_rows [] e = λ i j d lt h. absurd (omega arith)
+apart_rows (row ∷ rows) e =
+    let a = both_true (list_all (are_apart row) rows) _ e in
+    AllPairs-cons (λ (a b : Row). a.name ≡ b.name → a.when ≢ b.when) row rows
+    (All-weaker (λ (b : Row). are_apart row b ≡ true) (λ (b : Row). row.name ≡ b.name → row.when ≢ b.when) (rows_apart row) rows (all_of (are_apart row) rows a.0))
+    (apart_rows rows a.1)
+
+pub shipped_distinct : AreDistinctRows shipped_rows
+shipped_distinct = apart_rows shipped_rows shipped_apart

@@ -1,0 +1,45 @@
+-- Which row a block state has: the first that fits. The rows and the look-up are this project's own.
+use Rattle.std.specs.Prelude.{ℕ, ◌&&◌, ◌++◌, Bool, not, List, codes, bytes_eq, find, Option, All}
+use Rattle.std.specs.List.{list_any, list_all}
+use Rattle.std.specs.Option.{option_or}
+use Rattle.scan_core.specs.declared.state.BlockState.{BlockState}
+use Rattle.block_rows.specs.declared.row.Row.{Row}
+use Rattle.block_rows.specs.Class.{IsSoundClass}
+
+-- a table of rows: the user's go before the shipped ones
+pub record Table : Type 0 where
+  pub user : List Row
+  pub shipped : List Row
+
+-- a row for whatever no other row names
+abbrev pub is_joker : Row → Bool
+is_joker row = bytes_eq row.name (codes "*")
+
+-- the state has this property with this value
+abbrev pub has_prop : BlockState → (List ℕ × List ℕ) → Bool
+has_prop state asked = list_any (λ told. bytes_eq told.0 asked.0 && bytes_eq told.1 asked.1) state.props
+
+-- the state has each property that the row asks for, with its value
+abbrev pub conditions_hold : BlockState → Row → Bool
+conditions_hold state row = list_all (has_prop state) row.when
+
+-- the row fits by its name
+abbrev pub fits : BlockState → Row → Bool
+fits state row = not (is_joker row) && bytes_eq row.name state.name && conditions_hold state row
+
+-- the row fits whatever the name
+abbrev pub fits_as_joker : BlockState → Row → Bool
+fits_as_joker state row = is_joker row && conditions_hold state row
+
+-- the first row that fits by its name, else the first of the user's that fits whatever the name
+abbrev pub row_of : Table → BlockState → Option Row
+row_of table state = option_or (find (fits state) (table.user ++ table.shipped)) (find (fits_as_joker state) table.user)
+
+-- each of the rows has a sound class
+abbrev pub AreSoundRows : List Row → Type 0
+AreSoundRows rows = All (λ row. IsSoundClass row.class) rows
+
+-- what every table keeps
+pub record IsSoundTable (table : Table) : Type 0 where
+  pub user_sound : AreSoundRows table.user
+  pub shipped_sound : AreSoundRows table.shipped

@@ -1,0 +1,62 @@
+ghost use Rattle.std.specs.Prelude.{◌≡◌, [], IfErr, IfOk, IfSome, option_copied};
+ghost use Rattle.block_rows.specs.Class.{IsSoundClass};
+ghost use Rattle.block_rows.specs.Rows.{row_of};
+ghost use Rattle.block_rows.specs.Shipped.{shipped_rows};
+
+use crate::fault::RowsFault;
+use crate::look_up::{first_by_name, first_joker};
+use crate::row::Row;
+use crate::shipped::shipped_table;
+use scan_core::BlockState;
+use std::alloc::Global;
+use std::marker::Model;
+
+/// A table of rows: the user's, which go first, and the shipped ones. Every row is sound: opacity and emission are
+/// at most 15, and a block that gives way to a torch is as air (this project's own).
+#[derive(Debug, Drop)]
+pub struct Rows {
+    user: Vec<Row>,
+    shipped: Vec<Row>,
+}
+
+impl Model for Rows {
+    ghost use Rattle.block_rows.specs.Rows.{Table, IsSoundTable};
+
+    ghost Value = { Table };
+
+    ghost view = { λ r. record { user = r.user.items; shipped = r.shipped.items } };
+
+    ghost invariant = { λ r. IsSoundTable (record { user = r.user.items; shipped = r.shipped.items }) };
+}
+
+impl Rows {
+    /// The shipped rows alone.
+    pub fn shipped(alloc: Global) -> Result<Rows, RowsFault>
+        ensures rows { IfOk result (λ rows. rows ≡ record { user = []; shipped = shipped_rows }) }
+        ensures memory { IfErr result (λ e. e ≡ RowsFault.OutOfMemory) }
+    {
+        let shipped = shipped_table(alloc)?;
+        Ok(Rows {
+            user: Vec::new(alloc),
+            shipped,
+        })
+    }
+
+    /// The row of a block state: the first that fits by its name, the user's before the shipped; else the first of
+    /// the user's named `*` whose conditions hold.
+    ///
+    /// It takes no memory, and time in proportion to the number of rows: each row's name is compared first, and
+    /// what it asks for only where the names are equal.
+    pub fn row_of(&self, state: &BlockState) -> Option<&Row>
+        ensures row { option_copied result ≡ row_of self.now state.now }
+        ensures sound { IfSome result (λ row. IsSoundClass row.now.class) }
+    {
+        if let Some(row) = first_by_name(&self.user, state) {
+            return Some(row);
+        }
+        if let Some(row) = first_by_name(&self.shipped, state) {
+            return Some(row);
+        }
+        first_joker(&self.user, state)
+    }
+}
