@@ -1,0 +1,5 @@
+pub mod FaceLemmas
+pub mod LightLemmas
+pub mod TorchLemmas
+pub mod StateLemmas
+pub mod CaveLemmas

@@ -1,0 +1,12 @@
+pub mod Cells
+pub mod Faces
+pub mod Cave
+pub mod World
+pub mod Building
+pub mod Light
+pub mod Relaxation
+pub mod Spawn
+pub mod Torches
+pub mod Plan
+pub mod Regions
+pub mod Answer

@@ -1,0 +1,85 @@
+ghost use Rattle.std.specs.Prelude.{◌≡◌, ◌<◌, ◌≤◌, IsTrue};
+ghost use Rattle.block_rows.specs.Class.{IsSoundClass};
+ghost use Rattle.scan_core.specs.Box as grid;
+ghost use Rattle.scan_core.specs.Box.{is_small, point};
+ghost use Rattle.cave_model.specs.Cave.{IsSound, class_at};
+
+use crate::rule::Rule;
+use block_rows::Class;
+use scan_core::Cell;
+use std::marker::Model;
+
+/// A cell of which nothing is told, and all that lies outside the box (this project's own).
+pub(crate) const VOID: Class = Class {
+    opacity: 15,
+    emission: 0,
+    free: false,
+    stand: false,
+    put: false,
+    top: false,
+    side: false,
+};
+
+/// A cave: a box, a class for each of its cells, and the rule of spawning.
+#[derive(Debug, Drop)]
+pub struct World {
+    pub(crate) size: [u32; 3],
+    pub(crate) classes: Vec<Class>,
+    pub(crate) rule: Rule,
+}
+
+impl Model for World {
+    ghost use Rattle.cave_model.specs.Cave.{Cave, IsWorld};
+    ghost use Rattle.scan_core.specs.Box.{point};
+
+    ghost Value = { Cave };
+
+    ghost view = { λ w. record { size = point w.size; classes = w.classes.items; headroom = w.rule.headroom; need = 1 } };
+
+    ghost invariant = { λ w. IsWorld (record { size = point w.size; classes = w.classes.items; headroom = w.rule.headroom; need = 1 }) };
+}
+
+impl World {
+    /// The sides of the box: along x, y and z.
+    pub fn size(&self) -> [u32; 3]
+        ensures size { point result ≡ self.now.size }
+        ensures small { IsTrue (is_small self.now.size) }
+        ensures sound { IsSound self.now }
+    {
+        self.size
+    }
+
+    /// The number of cells of the box.
+    pub fn cell_count(&self) -> Cell
+        ensures count { result ≡ grid.cell_count self.now.size }
+        ensures sound { IsSound self.now }
+    {
+        let [x, y, z] = self.size();
+        x * y * z
+    }
+
+    /// The least light that keeps mobs away: 1, from 1.18 on (Minecraft Wiki, "Spawn").
+    pub fn need(&self) -> u8
+        ensures need { result ≡ self.now.need }
+        ensures positive { 1 ≤ result }
+    {
+        let _ = &self.rule;
+        1
+    }
+
+    /// The rule of spawning.
+    pub fn rule(&self) -> Rule
+        ensures { result.headroom ≡ self.now.headroom }
+    {
+        self.rule
+    }
+
+    /// What the cell is.
+    pub fn class_of(&self, cell: Cell) -> Class
+        requires in_box { cell < grid.cell_count self.now.size }
+        ensures class { result ≡ class_at self.now cell }
+        ensures sound { IsSoundClass result }
+    {
+        self.classes[cell as usize]
+    }
+}
