@@ -1,0 +1,8 @@
+pub mod WaitingLemmas
+pub mod SpreadLemmas
+pub mod PassLemmas
+pub mod LevelLemmas
+pub mod DenseLemmas
+pub mod FloodLemmas
+pub mod ReachLemmas
+pub mod DarkLemmas

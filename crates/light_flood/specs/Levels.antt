@@ -1,0 +1,20 @@
+-- Levels of light by the number of the cell.
+-- Source: Minecraft Wiki, "Light".
+use Rattle.std.specs.Prelude.{◌≡◌, ◌≢◌, ◌<◌, ◌↔◌, ℕ, List, length, slice_index, AllPairs, Contains}
+use Rattle.scan_core.specs.Box.{cell_count}
+use Rattle.cave_model.specs.Cave.{Cave}
+use Rattle.cave_model.specs.Light.{BringsFrom, IsLevelOf, IsReachOf}
+
+-- the levels of the cave's cells
+pub record AreLevelsOf (cave : Cave) (levels : List ℕ) : Type 0 where
+  pub whole : length levels ≡ cell_count cave.size
+  pub each : (cell : ℕ) → cell < cell_count cave.size → IsLevelOf cave cell (slice_index levels cell)
+
+-- the levels that an emission at the source alone gives
+abbrev pub AreReachOf : Cave → ℕ → ℕ → (ℕ → ℕ) → Type 0
+AreReachOf cave source emission levels = (cell : ℕ) → cell < cell_count cave.size → IsReachOf cave source emission cell (levels cell)
+
+-- each cell to which an emission at the source alone brings at least this level, once
+pub record ListsLit (cave : Cave) (source emission least : ℕ) (cells : List ℕ) : Type 0 where
+  pub once : AllPairs (λ a b. a ≢ b) cells
+  pub exact : (cell : ℕ) → Contains cells cell ↔ BringsFrom cave source emission cell least

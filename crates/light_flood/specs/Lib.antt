@@ -1,0 +1,4 @@
+pub mod Levels
+pub mod Spreading
+pub mod Dense
+pub mod Reached

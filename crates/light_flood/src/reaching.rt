@@ -1,0 +1,27 @@
+ghost use Rattle.std.specs.Prelude.{◌≡◌, ◌<◌, ◌≤◌, IfOk};
+ghost use Rattle.scan_core.specs.Box.{cell_count};
+ghost use Rattle.light_flood.specs.Levels.{AreReachOf};
+ghost use Rattle.light_flood.specs.Reached.{reached};
+
+use crate::kindling::kindle;
+use crate::reached::Reach;
+use crate::sparse::Sparse;
+use crate::spreading::spread;
+use crate::waiting::Waiting;
+use cave_model::{OutOfMemory, World};
+use scan_core::Cell;
+use std::alloc::Global;
+
+/// The levels that an emission at this cell alone gives, whatever the cell's own. Time and memory go by the cells that
+/// the light reaches, not by the box.
+pub fn reach(alloc: Global, world: &World, cell: Cell, emission: u8) -> Result<Reach, OutOfMemory>
+    requires in_box { cell < cell_count world.now.size }
+    requires emission { emission ≤ 15 }
+    ensures { IfOk result (λ r. AreReachOf world.now cell emission (reached r)) }
+{
+    let mut store = Sparse::new(alloc, world.cell_count());
+    let mut waiting = Waiting::new(alloc)?;
+    kindle(world, &mut store, &mut waiting, cell, emission)?;
+    spread(world, &mut store, &mut waiting)?;
+    Ok(Reach::from_map(store.into_levels()))
+}

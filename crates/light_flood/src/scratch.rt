@@ -1,0 +1,62 @@
+ghost use Rattle.std.specs.Prelude.{◌≡◌, ◌≢◌, ◌<◌, ◌≤◌, ◌↔◌, ℕ, AllPairs, IfOk, OnOk};
+ghost use Rattle.scan_core.specs.Box.{cell_count};
+ghost use Rattle.light_flood.specs.Levels.{ListsLit};
+
+use crate::dense::Dense;
+use crate::kindling::kindle;
+use crate::spreading::spread;
+use crate::waiting::Waiting;
+use cave_model::{OutOfMemory, World};
+use scan_core::Cell;
+use std::alloc::Global;
+use std::marker::Model;
+
+/// Memory for many floods in boxes of one size, one after another. Each touches only the cells that its light reaches.
+#[derive(Debug, Drop)]
+pub struct Scratch {
+    alloc: Global,
+    store: Dense,
+}
+
+impl Model for Scratch {
+    ghost use Rattle.std.specs.Prelude.{ℕ, length};
+
+    // how many cells the boxes have
+    ghost Value = { ℕ };
+
+    ghost view = { λ s. length s.store.levels };
+}
+
+impl Scratch {
+    /// Memory for boxes with so many cells.
+    pub fn new(alloc: Global, count: u32) -> Result<Scratch, OutOfMemory>
+        ensures { IfOk result (λ s. s ≡ count) }
+    {
+        Ok(Scratch {
+            alloc,
+            store: Dense::new(alloc, count)?,
+        })
+    }
+
+    /// The cells to which an emission at this cell alone brings at least this level, each once, in no order.
+    pub fn lit(
+        &mut self,
+        world: &World,
+        cell: Cell,
+        emission: u8,
+        least: u8,
+    ) -> Result<Vec<Cell>, OutOfMemory>
+        requires count { self.old ≡ cell_count world.now.size }
+        requires in_box { cell < cell_count world.now.size }
+        requires emission { emission ≤ 15 }
+        requires least { 1 ≤ least }
+        ensures lit { IfOk result (λ v. ListsLit world.now cell emission least v.items) }
+        ensures same { self.new ≡ self.old }
+    {
+        self.store.clear();
+        let mut waiting = Waiting::new(self.alloc)?;
+        kindle(world, &mut self.store, &mut waiting, cell, emission)?;
+        spread(world, &mut self.store, &mut waiting)?;
+        self.store.at_least(self.alloc, least)
+    }
+}

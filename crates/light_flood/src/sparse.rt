@@ -1,0 +1,51 @@
+ghost use Rattle.std.specs.Prelude.{◌≡◌, [], unwrap_or};
+ghost use Rattle.std.specs.Ordering.{nat_cmp};
+ghost use Rattle.std.specs.BTreeMap.{get};
+
+use crate::store::Store;
+use scan_core::Cell;
+use std::alloc::{AllocError, Global};
+use std::collections::BTreeMap;
+
+/// The levels of the cells that have light, out of so many cells: memory for those alone.
+#[derive(Debug, Drop)]
+pub struct Sparse {
+    count: u32,
+    levels: BTreeMap<Cell, u8>,
+}
+
+impl Sparse {
+    /// So many cells without light.
+    pub fn new(alloc: Global, count: u32) -> Sparse
+        ensures count { result.count ≡ count }
+        ensures none { result.levels.entries ≡ [] }
+    {
+        Sparse {
+            count,
+            levels: BTreeMap::new(alloc),
+        }
+    }
+
+    /// The levels alone.
+    pub fn into_levels(self) -> BTreeMap<Cell, u8>
+        ensures { result ≡ self.levels }
+    {
+        let Sparse { count: _, levels } = self;
+        levels
+    }
+}
+
+impl Store for Sparse {
+    ghost levels = { λ s cell. unwrap_or (get nat_cmp s.levels cell) 0 };
+
+    ghost cells = { λ s. s.count };
+
+    fn level(&self, cell: Cell) -> u8 {
+        self.levels.get(&cell).copied().unwrap_or(0)
+    }
+
+    fn raise(&mut self, cell: Cell, level: u8) -> Result<(), AllocError> {
+        self.levels.insert(cell, level)?;
+        Ok(())
+    }
+}
