@@ -1,0 +1,62 @@
+//! The command line.
+use cave_model::Rule;
+use clap::error::ErrorKind;
+use clap::{Arg, ArgAction, Command, Error};
+use std::alloc::{AllocError, Global};
+
+/// What the words of a command line ask for.
+#[derive(Clone, Copy, Debug, PartialEq, Eq)]
+pub enum Request<'a> {
+    /// The dark cells of the structure in this file, or of standard input where that is `-`.
+    Dark { file: &'a str, rule: Rule },
+}
+
+fn dark_command<'a>(alloc: Global) -> Result<Command<'a>, AllocError> {
+    let file = Arg::new(alloc, "FILE")
+        .required(true)
+        .action(ArgAction::Set)
+        .help("The structure file, unpacked (NBT), or - for standard input");
+    let headroom = Arg::new(alloc, "headroom")
+        .long("headroom")
+        .value_name("1|2")
+        .action(ArgAction::Set)
+        .value_parser(clap::value_parser!(u8).range(1..=2))
+        .help("How many free cells above its ground a mob needs [default: 2]");
+    Command::new(alloc, "dark")
+        .about(
+            "Print the cells in which a hostile mob could spawn: their number, then x y z of each",
+        )
+        .arg(file)?
+        .arg(headroom)
+}
+
+fn command<'a>(alloc: Global) -> Result<Command<'a>, AllocError> {
+    Command::new(alloc, "torchplan")
+        .about("Plan the fewest torches for a Minecraft cave, saved as a structure file")
+        .after_help(
+            "Save a cave with a structure block, then: gunzip -c cave.nbt | torchplan dark -",
+        )
+        .subcommand_required(true)
+        .arg_required_else_help(true)
+        .disable_version_flag(true)
+        .subcommand(dark_command(alloc)?)
+}
+
+/// What the words ask for; the first is the program's name. An error has the text for the user: help where that was
+/// asked for, else the mistake and the usage.
+pub fn request_of<'a>(alloc: Global, words: &'a [String]) -> Result<Request<'a>, Error> {
+    let mut command = command(alloc)?;
+    let matches = command.try_get_matches_from_mut(words)?;
+    if let Some(("dark", dark)) = matches.subcommand() {
+        if let Some(file) = dark.get_str("FILE") {
+            let headroom = dark.get_one::<u8>("headroom").unwrap_or(2);
+            let rule = if headroom == 1 {
+                Rule::new(1)
+            } else {
+                Rule::new(2)
+            };
+            return Ok(Request::Dark { file, rule });
+        }
+    }
+    Err(command.error(ErrorKind::MissingSubcommand, "no command")?)
+}

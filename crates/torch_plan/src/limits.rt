@@ -1,0 +1,7 @@
+//! The limits of a run, all this project's own.
+
+/// A structure file has at most so many bytes.
+pub const STRUCTURE_LIMIT: usize = 67_108_864;
+
+/// Reading an input ends after so many calls of its reader.
+pub const READ_CALLS: u32 = 134_217_728;

@@ -1,0 +1,40 @@
+ghost use Rattle.std.specs.Prelude.{◌≡◌, ◌≤◌, ◌<◌, ◌⊎◌, length, IfOk, IfErr, IfSome};
+ghost use Rattle.torch_plan.specs.declared.fault.RunFault.{RunFault};
+
+use crate::fault::{Input, RunFault};
+use crate::limits::READ_CALLS;
+use std::alloc::Global;
+use std::io::Read;
+
+/// All that the reader has left, where that is at most `limit` bytes. Any error of a read is `ReadFailed`.
+pub fn read_all<R: Read>(
+    alloc: Global,
+    reader: &mut R,
+    limit: usize,
+    input: Input,
+) -> Result<Vec<u8>, RunFault>
+    ensures all { IfOk result (λ v. IfSome (R.remaining reader.old) (λ bytes. v.items ≡ bytes)) }
+    ensures within { IfOk result (λ v. length v.items ≤ limit) }
+    ensures too_long { IfErr result (λ e. e ≡ RunFault.TooLong input
+        → IfSome (R.remaining reader.old) (λ bytes. limit < length bytes)) }
+    ensures kinds { IfErr result (λ e. (e ≡ RunFault.ReadFailed) ⊎ (e ≡ RunFault.TooLong input)
+        ⊎ (e ≡ RunFault.OutOfMemory)) }
+{
+    let mut bytes = Vec::new(alloc);
+    let mut buffer = [0; 8192];
+    for _ in 0..READ_CALLS {
+        let Ok(count) = reader.read(&mut buffer) else {
+            return Err(RunFault::ReadFailed);
+        };
+        if count == 0 {
+            return Ok(bytes);
+        }
+        if limit - bytes.len() < count {
+            return Err(RunFault::TooLong(input));
+        }
+        if bytes.extend_from_slice(&buffer[..count]).is_err() {
+            return Err(RunFault::OutOfMemory);
+        }
+    }
+    Err(RunFault::ReadFailed)
+}

@@ -1,0 +1,17 @@
+ghost use Rattle.std.specs.Prelude.{◌≡◌};
+ghost use Rattle.torch_plan.specs.Status.{status};
+
+use crate::fault::RunFault;
+
+/// The exit status of a refused run: 1 refused input, 3 a cell that no torch lights, 6 reading or writing failed,
+/// 7 memory or threads refused (this project's own).
+pub fn status_of(fault: &RunFault) -> u8
+    ensures { result ≡ status fault.now }
+{
+    match fault {
+        RunFault::TooLong(_) | RunFault::Scan(_) | RunFault::Table(_) | RunFault::Build(_) => 1,
+        RunFault::Unlightable { .. } => 3,
+        RunFault::ReadFailed | RunFault::WriteFailed => 6,
+        RunFault::NoThread | RunFault::OutOfMemory => 7,
+    }
+}
