@@ -1,0 +1,68 @@
+//! The program `torchplan`: opens what the command line names, runs, and answers a status.
+#![tactic(auto)]
+
+use clap::error::ErrorKind;
+use std::fs::File;
+use std::process::ExitCode;
+use std::{env, io};
+use torch_plan::{Request, Rule, RunFault, request_of, run_dark, status_of};
+
+/// The words of the command line. One that is no text is a mistake in usage.
+fn words_of(rt: &HostRuntime) -> Result<Vec<String>, ExitCode> {
+    let words = match env::args(rt) {
+        Ok(words) => words,
+        Err(error) if error.kind() == io::ErrorKind::OutOfMemory => {
+            return Err(refused(rt, &RunFault::OutOfMemory));
+        }
+        Err(_) => {
+            let _ = eprintln!(rt; "error: a word of the command line isn't UTF-8");
+            return Err(ExitCode::from(2));
+        }
+    };
+    words
+        .collect(rt.alloc())
+        .map_err(|_| refused(rt, &RunFault::OutOfMemory))
+}
+
+/// Prints the fault line, and answers its status.
+fn refused(rt: &HostRuntime, fault: &RunFault) -> ExitCode {
+    let _ = eprintln!(rt; "torchplan: {fault}");
+    ExitCode::from(status_of(fault))
+}
+
+/// Prints the help that was asked for, or the mistake in usage.
+fn explained(rt: &HostRuntime, error: &clap::Error) -> ExitCode {
+    if error.kind() == ErrorKind::OutOfMemory {
+        return refused(rt, &RunFault::OutOfMemory);
+    }
+    if error.print(rt).is_err() {
+        return refused(rt, &RunFault::WriteFailed);
+    }
+    ExitCode::from(if error.use_stderr() { 2 } else { 0 })
+}
+
+fn dark(rt: &HostRuntime, file: &str, rule: Rule) -> Result<(), RunFault> {
+    let mut output = io::writer(rt);
+    if file == "-" {
+        return run_dark(rt.alloc(), &mut rt.reader(), rule, &mut output);
+    }
+    match File::open(rt, file) {
+        Ok(mut input) => run_dark(rt.alloc(), &mut input, rule, &mut output),
+        Err(_) => Err(RunFault::ReadFailed),
+    }
+}
+
+fn main(rt: HostRuntime) -> ExitCode {
+    let words = match words_of(&rt) {
+        Ok(words) => words,
+        Err(status) => return status,
+    };
+    let ended = match request_of(rt.alloc(), &words) {
+        Ok(Request::Dark { file, rule }) => dark(&rt, file, rule),
+        Err(error) => return explained(&rt, &error),
+    };
+    match ended {
+        Ok(()) => ExitCode::from(0),
+        Err(fault) => refused(&rt, &fault),
+    }
+}
