@@ -1,0 +1,19 @@
+//! The worked examples: caves built byte by byte, run through the library, and compared text by text.
+#![tactic(auto)]
+
+#[cfg(test)]
+mod caves;
+#[cfg(test)]
+mod damaged;
+#[cfg(test)]
+mod dark;
+#[cfg(test)]
+mod light;
+#[cfg(test)]
+mod running;
+#[cfg(test)]
+mod streams;
+#[cfg(test)]
+mod structure;
+#[cfg(test)]
+mod words;

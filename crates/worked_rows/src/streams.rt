@@ -1,0 +1,163 @@
+//! Readers and writers that fail.
+
+use crate::caves::{AIR, STONE};
+use crate::structure::{Fill, Structure};
+use std::alloc::{AllocError, Global};
+use std::io::{Error, ErrorKind, Read, Result as Done, Write};
+use std::test::Fail;
+use torch_plan::{Rule, RunFault, run_dark};
+
+/// Gives so many bytes a call, and fails at the call with this number.
+#[derive(Drop)]
+struct Reading<'a> {
+    rest: &'a [u8],
+    chunk: usize,
+    calls: usize,
+    fails_at: usize,
+}
+
+impl Read for Reading<'_> {
+    fn read(&mut self, buf: &mut [u8]) -> Done<usize> {
+        if self.calls == self.fails_at {
+            return Err(Error::from(ErrorKind::Other));
+        }
+        self.calls = self.calls.wrapping_add(1);
+        let count = self.chunk.min(self.rest.len()).min(buf.len());
+        let (taken, rest) = self.rest.split_at(count);
+        buf[..count].copy_from_slice(taken);
+        self.rest = rest;
+        Ok(count)
+    }
+}
+
+/// Takes so many bytes a call, and fails once it has this many.
+#[derive(Drop)]
+struct Taking {
+    taken: Vec<u8>,
+    chunk: usize,
+    fails_at: usize,
+}
+
+impl Write for Taking {
+    fn write(&mut self, buf: &[u8]) -> Done<usize> {
+        if self.fails_at <= self.taken.len() {
+            return Err(Error::from(ErrorKind::Other));
+        }
+        let count = self.chunk.min(buf.len());
+        if self.taken.extend_from_slice(&buf[..count]).is_err() {
+            return Err(Error::from(ErrorKind::OutOfMemory));
+        }
+        Ok(count)
+    }
+
+    fn flush(&mut self) -> Done<()> {
+        Ok(())
+    }
+}
+
+fn pillar(alloc: Global) -> Result<Vec<u8>, AllocError> {
+    let structure = Structure {
+        size: [1, 3, 1],
+        palette: &[STONE, AIR],
+        fills: &[
+            Fill {
+                from: [0, 0, 0],
+                to: [0, 0, 0],
+                state: Some(0),
+            },
+            Fill {
+                from: [0, 1, 0],
+                to: [0, 2, 0],
+                state: Some(1),
+            },
+        ],
+        more: &[],
+    };
+    structure.bytes(alloc)
+}
+
+const TEXT: &[u8] = b"dark 1\n0 1 0\n";
+
+#[test]
+fn a_reader_may_give_one_byte_a_call(rt: HostRuntime) -> Result<(), Fail> {
+    let alloc = rt.alloc();
+    let bytes = pillar(alloc)?;
+    let mut reader = Reading {
+        rest: &bytes,
+        chunk: 1,
+        calls: 0,
+        fails_at: usize::MAX,
+    };
+    let mut written = Vec::new(alloc);
+    assert!(rt; run_dark(alloc, &mut reader, Rule::new(2), &mut written).is_ok());
+    assert_eq!(rt; written.as_slice(), TEXT);
+    Ok(())
+}
+
+#[test]
+fn a_read_that_fails_anywhere_is_told_and_nothing_is_written(rt: HostRuntime) -> Result<(), Fail> {
+    let alloc = rt.alloc();
+    let bytes = pillar(alloc)?;
+    for fails_at in 0..=bytes.len() {
+        let mut reader = Reading {
+            rest: &bytes,
+            chunk: 1,
+            calls: 0,
+            fails_at,
+        };
+        let mut written = Vec::new(alloc);
+        let ended = run_dark(alloc, &mut reader, Rule::new(2), &mut written);
+        assert!(rt; matches!(&ended, Err(RunFault::ReadFailed)));
+        assert!(rt; written.is_empty());
+    }
+    Ok(())
+}
+
+#[test]
+fn a_writer_may_take_one_byte_a_call(rt: HostRuntime) -> Result<(), Fail> {
+    let alloc = rt.alloc();
+    let bytes = pillar(alloc)?;
+    let mut reader = bytes.as_slice();
+    let mut writer = Taking {
+        taken: Vec::new(alloc),
+        chunk: 1,
+        fails_at: usize::MAX,
+    };
+    assert!(rt; run_dark(alloc, &mut reader, Rule::new(2), &mut writer).is_ok());
+    assert_eq!(rt; writer.taken.as_slice(), TEXT);
+    Ok(())
+}
+
+#[test]
+fn a_writer_that_takes_nothing_has_failed(rt: HostRuntime) -> Result<(), Fail> {
+    let alloc = rt.alloc();
+    let bytes = pillar(alloc)?;
+    let mut reader = bytes.as_slice();
+    let mut writer = Taking {
+        taken: Vec::new(alloc),
+        chunk: 0,
+        fails_at: usize::MAX,
+    };
+    let ended = run_dark(alloc, &mut reader, Rule::new(2), &mut writer);
+    assert!(rt; matches!(&ended, Err(RunFault::WriteFailed)));
+    assert!(rt; writer.taken.is_empty());
+    Ok(())
+}
+
+#[test]
+fn a_write_that_fails_leaves_a_beginning(rt: HostRuntime) -> Result<(), Fail> {
+    let alloc = rt.alloc();
+    let bytes = pillar(alloc)?;
+    for fails_at in 0..TEXT.len() {
+        let mut reader = bytes.as_slice();
+        let mut writer = Taking {
+            taken: Vec::new(alloc),
+            chunk: 1,
+            fails_at,
+        };
+        let ended = run_dark(alloc, &mut reader, Rule::new(2), &mut writer);
+        assert!(rt; matches!(&ended, Err(RunFault::WriteFailed)));
+        assert_eq!(rt; writer.taken.as_slice(), &TEXT[..fails_at]);
+    }
+    Ok(())
+}
