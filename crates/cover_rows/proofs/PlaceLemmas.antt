@@ -1,0 +1,156 @@
+-- Legal places, one after another, and their hangs.
+use Rattle.std.proofs.Common.{◌≡◌, ℕ, ◌+◌, ◌<◌, ◌≤◌, Bool, true, false, ◌&&◌, cond, List, [], ◌∷◌, ◌++◌, Option, Some, None, length, slice_index, Contains, refl, sym, ap, subst, ◌∙◌, arith, inl, inr, length-append}
+use Rattle.std.specs.Prelude.{MatchOption, is_some, find, unwrap_or}
+use Rattle.std.specs.List.Sorted.{IsStrictlyIncreasing}
+use Rattle.std.proofs.lemmas.Bool.{cases_lt, true≢false}
+use Rattle.std.proofs.lemmas.List.{get_or_push, get_or_append_left, get_or_past}
+use Rattle.std.proofs.lemmas.List.Elements.{Contains-push, Contains-push_cases, Contains-append_left}
+use Rattle.scan_core.specs.Box.{cell_count}
+use Rattle.cave_model.specs.Cave.{Cave, IsSound, class_at}
+use Rattle.cave_model.specs.Torches.{IsPlace, is_legal, hang_of}
+use Rattle.cave_model.specs.declared.hang.Hang.{Hang}
+use Rattle.cave_model.specs.declared.hang.Hang.TheVariants.{Floor, North, East, South, West}
+use Rattle.cover_rows.specs.Coverage.{ArePlaces}
+
+-- ---- one place
+
+-- something is there that passes the test
+abbrev Passes : (Hang → Bool) → Option Hang → Type 0
+Passes test found = MatchOption found ⊥ (λ hang. test hang ≡ true)
+
+passes_here : (test : Hang → Bool) (hang : Hang) (rest : Option Hang) (b : Bool) → test hang ≡ b → b ≡ true → Passes test (cond b (Some hang) rest)
+passes_here test hang rest true e t = e
+passes_here test hang rest false e t = absurd (true≢false (sym t))
+
+passes_later : (test : Hang → Bool) (hang : Hang) (rest : Option Hang) (b : Bool) → test hang ≡ b → Passes test rest → Passes test (cond b (Some hang) rest)
+passes_later test hang rest true e later = e
+passes_later test hang rest false e later = later
+
+here : (test : Hang → Bool) (hang : Hang) (hangs : List Hang) → test hang ≡ true → Passes test (find test (hang ∷ hangs))
+here test hang hangs t = passes_here test hang (find test hangs) (test hang) refl t
+
+later : (test : Hang → Bool) (hang : Hang) (hangs : List Hang) → Passes test (find test hangs) → Passes test (find test (hang ∷ hangs))
+later test hang hangs p = passes_later test hang (find test hangs) (test hang) refl p
+
+-- a hang that passes is found
+pub found : (test : Hang → Bool) (hang : Hang) → test hang ≡ true → Passes test (find test (Floor ∷ North ∷ East ∷ South ∷ West ∷ []))
+found test Floor t = here test Floor (North ∷ East ∷ South ∷ West ∷ []) t
+found test North t = later test Floor (North ∷ East ∷ South ∷ West ∷ []) (here test North (East ∷ South ∷ West ∷ []) t)
+found test East t = later test Floor (North ∷ East ∷ South ∷ West ∷ []) (later test North (East ∷ South ∷ West ∷ []) (here test East (South ∷ West ∷ []) t))
+found test South t = later test Floor (North ∷ East ∷ South ∷ West ∷ []) (later test North (East ∷ South ∷ West ∷ []) (later test East (South ∷ West ∷ []) (here test South (West ∷ []) t)))
+found test West t = later test Floor (North ∷ East ∷ South ∷ West ∷ []) (later test North (East ∷ South ∷ West ∷ []) (later test East (South ∷ West ∷ []) (later test South (West ∷ []) (here test West [] t))))
+
+some_if : (test : Hang → Bool) (o : Option Hang) → Passes test o → is_some o ≡ true
+some_if test (Some hang) p = refl
+some_if test None p = absurd p
+
+holds_at : (test : Hang → Bool) (o : Option Hang) → Passes test o → test (unwrap_or o Floor) ≡ true
+holds_at test (Some hang) p = p
+holds_at test None p = absurd p
+
+passes_first : (test : Hang → Bool) (hang : Hang) (rest : Option Hang) (b : Bool) → test hang ≡ b → (is_some rest ≡ true → Passes test rest) → is_some (cond b (Some hang) rest) ≡ true → Passes test (cond b (Some hang) rest)
+passes_first test hang rest true e later s = e
+passes_first test hang rest false e later s = later s
+
+-- what is found passes
+passes_if : (test : Hang → Bool) (hangs : List Hang) → is_some (find test hangs) ≡ true → Passes test (find test hangs)
+passes_if test [] s = absurd (true≢false (sym s))
+passes_if test (hang ∷ hangs) s = passes_first test hang (find test hangs) (test hang) refl (λ more. passes_if test hangs more) s
+
+pub place_some : (cave : Cave) (cell : ℕ) → IsPlace cave cell → is_some (hang_of cave cell) ≡ true
+place_some cave cell place = some_if (is_legal cave cell) (hang_of cave cell) (found (is_legal cave cell) place.0 place.1)
+
+hang_with : (test : Hang → Bool) (o : Option Hang) → Passes test o → (hang : Hang) × (test hang ≡ true)
+hang_with test (Some hang) p = (hang, p)
+hang_with test None p = absurd p
+
+pub some_place : (cave : Cave) (cell : ℕ) → is_some (hang_of cave cell) ≡ true → IsPlace cave cell
+some_place cave cell s = hang_with (is_legal cave cell) (hang_of cave cell) (passes_if (is_legal cave cell) (Floor ∷ North ∷ East ∷ South ∷ West ∷ []) s)
+
+-- the first legal hang is legal
+pub legal_hang : (cave : Cave) (cell : ℕ) → IsPlace cave cell → is_legal cave cell (unwrap_or (hang_of cave cell) Floor) ≡ true
+legal_hang cave cell place = holds_at (is_legal cave cell) (hang_of cave cell) (found (is_legal cave cell) place.0 place.1)
+
+first_true : (a b : Bool) → (a && b) ≡ true → a ≡ true
+first_true true b e = refl
+first_true false b e = e
+
+-- nothing may go beyond the box
+no_put_past : (cave : Cave) (cell : ℕ) → length cave.classes ≤ cell → (class_at cave cell).put ≡ false
+no_put_past cave cell past = rw get_or_past refl
+
+-- places are cells of the box
+pub place_inside : (cave : Cave) (cell : ℕ) → IsSound cave → IsPlace cave cell → cell < cell_count cave.size
+place_inside cave cell sound place = subst (λ (n : ℕ). cell < n) sound.whole (elim (cases_lt cell (length cave.classes)) [
+  | inl lt ↦ lt
+  | inr past ↦ (let put : (class_at cave cell).put ≡ true = first_true _ _ place.1 in absurd (true≢false (sym put ∙ no_put_past cave cell past)))
+])
+
+-- ---- all of them
+
+-- they are the places below this number
+pub record PlacesBelow (cave : Cave) (count : ℕ) (cells : List ℕ) : Type 0 where
+  pub ascending : IsStrictlyIncreasing cells
+  pub below : (k : ℕ) → k < length cells → slice_index cells k < count
+  pub are_places : (cell : ℕ) → Contains cells cell → (cell < count) × IsPlace cave cell
+  pub all_places : (cell : ℕ) → cell < count → IsPlace cave cell → Contains cells cell
+
+not_in_none : (cell : ℕ) → Contains [] cell → ⊥
+not_in_none cell h = absurd (omega (arith, h.1))
+
+pub places_none : (cave : Cave) (cells : List ℕ) → cells ≡ [] → PlacesBelow cave 0 cells
+places_none cave cells e = record {
+  ascending = λ k h. (let l : length cells ≡ 0 = ap length e in absurd (omega arith));
+  below = λ k h. (let l : length cells ≡ 0 = ap length e in absurd (omega arith));
+  are_places = λ cell h. absurd (not_in_none cell (subst (λ (xs : List ℕ). Contains xs cell) e h));
+  all_places = λ cell h d. absurd (omega arith);
+}
+
+-- a cell that is no place is left out
+pub places_skip : (cave : Cave) (count : ℕ) (cells : List ℕ) → PlacesBelow cave count cells → (IsPlace cave count → ⊥) → PlacesBelow cave (count + 1) cells
+places_skip cave count cells s none = record {
+  ascending = s.ascending;
+  below = λ k h. (let b = s.below k h in omega arith);
+  are_places = λ cell h. (let b = s.are_places cell h in let lt : cell < count + 1 = omega (arith, b.0) in (lt, b.1));
+  all_places = λ cell h d. (elim (cases_lt cell count) [
+    | inl lt ↦ s.all_places cell lt d
+    | inr le ↦ (let same : cell ≡ count = omega arith in absurd (none (subst (IsPlace cave) same d)))
+  ]);
+}
+
+-- a place is added
+pub places_push : (cave : Cave) (count : ℕ) (cells : List ℕ) → PlacesBelow cave count cells → IsPlace cave count → PlacesBelow cave (count + 1) (cells ++ count ∷ [])
+places_push cave count cells s place = record {
+  ascending = λ k h. (elim (cases_lt (k + 1) (length cells)) [
+    | inl lt ↦ (let now = old k (omega arith) in let next = old (k + 1) lt in let up = s.ascending k lt in omega arith)
+    | inr le ↦ (let at_end : k + 1 ≡ length cells = omega (arith, long) in
+        let now = old k (omega arith) in
+        let next : slice_index (cells ++ count ∷ []) (k + 1) ≡ count = get_or_push cells count 0 (k + 1) (sym at_end) in
+        let b = s.below k (omega arith) in omega arith)
+  ]);
+  below = λ k h. (elim (cases_lt k (length cells)) [
+    | inl lt ↦ (let now = old k lt in let b = s.below k lt in omega arith)
+    | inr le ↦ (let at_end : k ≡ length cells = omega (arith, long) in
+        let last : slice_index (cells ++ count ∷ []) k ≡ count = get_or_push cells count 0 k (sym at_end) in omega arith)
+  ]);
+  are_places = λ cell h. (elim (Contains-push_cases cells count cell h) [
+    | inl in_front ↦ (let b = s.are_places cell in_front in let lt : cell < count + 1 = omega (arith, b.0) in (lt, b.1))
+    | inr same ↦ (let lt : cell < count + 1 = omega arith in (lt, subst (IsPlace cave) same place))
+  ]);
+  all_places = λ cell h d. (elim (cases_lt cell count) [
+    | inl lt ↦ Contains-append_left cells (count ∷ []) cell (s.all_places cell lt d)
+    | inr le ↦ (let same : count ≡ cell = omega arith in subst (λ (c : ℕ). Contains (cells ++ count ∷ []) c) same (Contains-push cells count))
+  ]);
+}
+  where
+    long : length (cells ++ count ∷ []) ≡ length cells + 1
+    long = omega (arith, length-append cells (count ∷ []))
+
+    old : (k : ℕ) → k < length cells → slice_index (cells ++ count ∷ []) k ≡ slice_index cells k
+    old k h = get_or_append_left cells (count ∷ []) 0 k h
+
+pub places_all : (cave : Cave) (count : ℕ) (cells : List ℕ) → IsSound cave → count ≡ cell_count cave.size → PlacesBelow cave count cells → ArePlaces cave cells
+places_all cave count cells sound e s = record {
+  ascending = s.ascending;
+  exact = λ cell. (λ h. (s.are_places cell h).1, λ d. s.all_places cell (let b = place_inside cave cell sound d in omega (arith, e)) d);
+}

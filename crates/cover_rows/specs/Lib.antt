@@ -1,0 +1,5 @@
+pub mod Instance
+pub mod Coverage
+pub mod Answer
+pub mod Marks
+pub mod Rows

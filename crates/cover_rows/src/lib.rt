@@ -1,0 +1,17 @@
+//! Which place for a torch lights which dark cell: an instance of set cover.
+//!
+//! The dark cells of a cave are the elements, its legal places are the candidates, and a place covers the dark cells
+//! that a torch there lights.
+#![tactic(auto)]
+
+mod building;
+mod fault;
+pub mod laws;
+mod marking;
+mod places;
+mod problem;
+mod rows;
+mod search;
+
+pub use fault::CoverFault;
+pub use problem::Problem;

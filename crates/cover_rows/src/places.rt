@@ -1,0 +1,30 @@
+ghost use Rattle.std.specs.Prelude.{◌<◌, ◌↔◌, All, IfOk, IsTrue};
+ghost use Rattle.scan_core.specs.Box as grid;
+ghost use Rattle.cave_model.specs.Torches.{IsPlace};
+ghost use Rattle.cover_rows.specs.Coverage.{ArePlaces};
+
+use cave_model::{OutOfMemory, World};
+use scan_core::Cell;
+use std::alloc::Global;
+
+/// Whether a new torch may go into the cell.
+fn is_place(world: &World, cell: Cell) -> bool
+    requires in_box { cell < grid.cell_count world.now.size }
+    ensures { IsTrue result ↔ IsPlace world.now cell }
+{
+    world.hang_of(cell).is_some()
+}
+
+/// The cells into which a new torch may go, ascending.
+pub fn legal_places(alloc: Global, world: &World) -> Result<Vec<Cell>, OutOfMemory>
+    ensures places { IfOk result (λ v. ArePlaces world.now v.items) }
+    ensures in_box { IfOk result (λ v. All (λ cell. cell < grid.cell_count world.now.size) v.items) }
+{
+    let mut places = Vec::new(alloc);
+    for cell in 0..world.cell_count() {
+        if is_place(world, cell) {
+            places.push(cell)?;
+        }
+    }
+    Ok(places)
+}
