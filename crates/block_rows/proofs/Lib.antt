@@ -1,2 +1,5 @@
 pub mod LookUpLemmas
+pub mod ClassLemmas
 pub mod ShippedLemmas
+pub mod ColumnLemmas
+pub mod UserLemmas

@@ -1,79 +1,29 @@
 -- The shipped rows are sound, and no two of them are alike.
-use Rattle.std.proofs.Common.{◌≡◌, ◌≢◌, ℕ, Bool, true, false, not, ◌&&◌, ◌||◌, nat_le, nat_eq, List, [], ◌∷◌, ◌++◌, All, IsTrue, refl, sym, ap, ◌∙◌, bytes_eq, arith}
+use Rattle.std.proofs.Common.{◌≡◌, ◌≢◌, ℕ, Bool, true, false, not, ◌&&◌, nat_le, List, [], ◌∷◌, ◌++◌, All, refl, sym, ap, ◌∙◌, bytes_eq, arith}
 use Rattle.std.specs.Prelude.{flat_map}
 use Rattle.std.specs.List.{list_all}
 use Rattle.std.proofs.lemmas.List.Elements.{All-nil, All-cons, All-append, All-map, All-weaker}
 use Rattle.std.proofs.lemmas.Slice.Eq.{bytes_eq-Decides}
-use Rattle.std.proofs.lemmas.Bool.{eqb-true, leb-true}
+use Rattle.std.proofs.lemmas.Bool.{leb-true}
 use Rattle.std.proofs.lemmas.List.Kept.{AllPairs-cons}
 use Rattle.block_rows.specs.declared.class.Class.{Class}
-use Rattle.block_rows.specs.Class.{IsSoundClass}
+use Rattle.block_rows.specs.Class.{IsSoundClass, gives_way_as_air}
 use Rattle.block_rows.specs.declared.row.Row.{Row}
 use Rattle.block_rows.specs.declared.table.TheConstants.{PREFIX}
 use Rattle.block_rows.specs.Rows.{AreSoundRows}
+use Rattle.block_rows.proofs.ClassLemmas.{both_true, sound_class}
 use Rattle.block_rows.specs.Shipped.{Line, lines, rows_in, shipped_rows, AreDistinctRows}
-
-both_true : (a b : Bool) → (a && b) ≡ true → (a ≡ true) × (b ≡ true)
-both_true true true e = (refl, refl)
-both_true true false e = absurd (cc)
-both_true false b e = absurd (cc)
-
-then_true : (a b : Bool) → (not a || b) ≡ true → IsTrue a → b ≡ true
-then_true true b e h = e
-then_true false b e h = absurd (cc)
-
-not_true : (a : Bool) → not a ≡ true → a ≡ false
-not_true true e = absurd (cc)
-not_true false e = refl
 
 -- ---- each is sound
 
-abbrev is_plain : Class → Bool
-is_plain class = nat_eq class.opacity 0 && (nat_eq class.emission 0 && (class.free && (not class.stand && (not class.top && not class.side))))
-
 abbrev is_sound : Class → Bool
-is_sound class = nat_le class.opacity 15 && (nat_le class.emission 15 && (not class.put || is_plain class))
-
--- what the test of a class that gives way to a torch tells
-record IsPlain (class : Class) : Type 0 where
-  dark : class.opacity ≡ 0
-  unlit : class.emission ≡ 0
-  roomy : class.free ≡ true
-  no_ground : class.stand ≡ false
-  no_top : class.top ≡ false
-  no_side : class.side ≡ false
-
-plain_of : (class : Class) → is_plain class ≡ true → IsPlain class
-plain_of class e =
-    let a = both_true (nat_eq class.opacity 0) _ e in
-    let b = both_true (nat_eq class.emission 0) _ a.1 in
-    let c = both_true class.free _ b.1 in
-    let d = both_true (not class.stand) _ c.1 in
-    let f = both_true (not class.top) (not class.side) d.1 in
-    record {
-      dark = eqb-true class.opacity 0 a.0;
-      unlit = eqb-true class.emission 0 b.0;
-      roomy = c.0;
-      no_ground = not_true class.stand d.0;
-      no_top = not_true class.top f.0;
-      no_side = not_true class.side f.1;
-    }
+is_sound class = nat_le class.opacity 15 && (nat_le class.emission 15 && gives_way_as_air class)
 
 sound_of : (class : Class) → is_sound class ≡ true → IsSoundClass class
 sound_of class e =
     let a = both_true (nat_le class.opacity 15) _ e in
     let b = both_true (nat_le class.emission 15) _ a.1 in
-    let plain = λ (p : IsTrue class.put). plain_of class (then_true class.put (is_plain class) b.1 p) in
-    record {
-      thin = leb-true class.opacity 15 a.0;
-      faint = leb-true class.emission 15 b.0;
-      clear = λ p. (plain p).dark;
-      unlit = λ p. (plain p).unlit;
-      roomy = λ p. (plain p).roomy;
-      no_ground = λ p. (plain p).no_ground;
-      no_top = λ p. (plain p).no_top;
-      no_side = λ p. (plain p).no_side;
-    }
+    sound_class class (leb-true class.opacity 15 a.0) (leb-true class.emission 15 b.0) b.1
 
 line_sound : (line : Line) → IsSoundClass line.class → AreSoundRows (rows_in line)
 line_sound line h = All-map (λ (row : Row). IsSoundClass row.class) (λ (name : List ℕ). record { name = PREFIX.now ++ name; when = line.when; class = line.class }) line.names (λ k d lt. h)

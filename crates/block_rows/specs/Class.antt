@@ -1,6 +1,6 @@
 -- What a cell is, for light, mobs and torches. These classes are this project's own.
 use Rattle.block_rows.specs.declared.class.Class.{Class}
-use Rattle.std.specs.Prelude.{◌≡◌, ◌≤◌, true, false, IsTrue}
+use Rattle.std.specs.Prelude.{◌≡◌, ◌≤◌, Bool, true, false, not, ◌&&◌, ◌||◌, nat_eq, IsTrue}
 
 -- a cell of which nothing is told, and all that lies outside
 abbrev pub void : Class
@@ -20,3 +20,7 @@ pub record IsSoundClass (class : Class) : Type 0 where
   pub no_ground : IsTrue class.put → class.stand ≡ false
   pub no_top : IsTrue class.put → class.top ≡ false
   pub no_side : IsTrue class.put → class.side ≡ false
+
+-- the test of it: what gives way to a torch is as air
+abbrev pub gives_way_as_air : Class → Bool
+gives_way_as_air class = not class.put || (nat_eq class.opacity 0 && nat_eq class.emission 0 && class.free && not class.stand && not class.top && not class.side)

@@ -5,7 +5,9 @@
 #![tactic(auto)]
 
 mod class;
+mod columns;
 mod fault;
+mod judging;
 pub mod laws;
 mod look_up;
 mod row;
@@ -14,6 +16,7 @@ mod shipped;
 mod table;
 #[cfg(test)]
 mod tests;
+mod user;
 
 pub use class::Class;
 pub use fault::{RowFault, RowsFault};

@@ -1,12 +1,16 @@
-ghost use Rattle.std.specs.Prelude.{◌≡◌, [], IfErr, IfOk, IfSome, option_copied};
+ghost use Rattle.std.specs.Prelude.{◌≡◌, ◌≢◌, [], IfErr, IfOk, IfSome, option_copied};
+ghost use Rattle.block_rows.specs.Answer.{IsAnswer, IsRefusal};
 ghost use Rattle.block_rows.specs.Class.{IsSoundClass};
-ghost use Rattle.block_rows.specs.Rows.{row_of};
+ghost use Rattle.block_rows.specs.Rows.{Table, row_of};
 ghost use Rattle.block_rows.specs.Shipped.{shipped_rows};
+ghost use Rattle.block_rows.specs.UserTable.{IsFaultOf, IsTableOf};
+ghost use Rattle.block_rows.specs.declared.fault.RowsFault.{RowsFault};
 
 use crate::fault::RowsFault;
 use crate::look_up::{first_by_name, first_joker};
 use crate::row::Row;
 use crate::shipped::shipped_table;
+use crate::user::{document, document_rows};
 use scan_core::BlockState;
 use std::alloc::Global;
 use std::marker::Model;
@@ -40,6 +44,25 @@ impl Rows {
             user: Vec::new(alloc),
             shipped,
         })
+    }
+
+    /// The rows of the user's table before the shipped ones. The table is a TOML text with an array of tables under
+    /// `row`, each with a `name`, an `opacity`, and optionally `when`, `emission`, `free`, `stand`, `put`, `top` and
+    /// `side` (this project's own). The first fault is told: the text's, then the top's, then the rows' in order.
+    pub fn with_table(alloc: Global, text: &[u8]) -> Result<Rows, RowsFault>
+        // What is made is the table of the text.
+        ensures found { IfOk result (IsTableOf text.now) }
+        // Such a table is made.
+        ensures only { (table : Table) → IsTableOf text.now table → IsAnswer result table }
+        // A fault is the first one.
+        ensures fault { IfErr result (λ e. e ≢ RowsFault.OutOfMemory → IsFaultOf text.now e) }
+        // Such a fault is answered.
+        ensures refused { (e : RowsFault) → IsFaultOf text.now e → IsRefusal result e }
+    {
+        let document = document(alloc, text)?;
+        let user = document_rows(alloc, &document)?;
+        let shipped = shipped_table(alloc)?;
+        Ok(Rows { user, shipped })
     }
 
     /// The row of a block state: the first that fits by its name, the user's before the shipped; else the first of

@@ -7,7 +7,7 @@ use nbt_core::Sequence;
 use std::alloc::{AllocError, Global};
 
 /// The bytes of a text.
-fn bytes_of(alloc: Global, text: &str) -> Result<Sequence<u8>, AllocError>
+pub(crate) fn bytes_of(alloc: Global, text: &str) -> Result<Sequence<u8>, AllocError>
     ensures { IfOk result (λ bytes. bytes ≡ text.now) }
 {
     Ok(Sequence::from_vec(Vec::from_slice(alloc, text.as_bytes())?))

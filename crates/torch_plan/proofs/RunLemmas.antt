@@ -6,82 +6,112 @@ use Rattle.scan_core.specs.Faults.{IsFaultOf}
 use Rattle.scan_core.specs.declared.fault.ScanFault.{ScanFault}
 use Rattle.scan_core.specs.declared.fault.ScanFault.TheVariants as scanning
 use Rattle.block_rows.specs.Rows.{Table}
+use Rattle.block_rows.specs.declared.fault.RowsFault.{RowsFault}
+use Rattle.block_rows.specs.declared.fault.RowsFault.TheVariants as tabling
 use Rattle.cave_model.specs.World.{IsUnknownBlock}
 use Rattle.cave_model.specs.declared.fault.BuildFault.{BuildFault}
 use Rattle.cave_model.specs.declared.fault.BuildFault.TheVariants as building
-use Rattle.torch_plan.specs.Faults.{of_scan, of_build}
-use Rattle.torch_plan.specs.Runs.{IsFaultOfBytes, IsFaultOfInput, IsRefusedRun, IsDarkTextOf, BeginsDark, shipped_table}
+use Rattle.torch_plan.specs.Faults.{of_scan, of_rows, of_build}
+use Rattle.torch_plan.specs.Runs.{IsFaultOfBytes, IsFaultOfInput, IsRefusedRun, IsDarkTextOf, IsTableFor, IsTableFault, IsNoTable, IsUnknownIn, BeginsDark}
 use Rattle.torch_plan.specs.Writing.{AppendsFront}
 use Rattle.torch_plan.specs.declared.limits.TheConstants.{STRUCTURE_LIMIT}
 use Rattle.torch_plan.specs.declared.fault.RunFault.{RunFault}
 use Rattle.torch_plan.specs.declared.fault.RunFault.TheVariants as faults
 
-module _ (bytes : List ℕ) (rows : Table) where
-  scan_of_bytes : (e : ScanFault) → e ≢ scanning.OutOfMemory → (e ≢ scanning.OutOfMemory → IsFaultOf bytes e) → IsFaultOfBytes bytes rows (faults.Scan e)
+module _ (bytes : List ℕ) (table : Option (List ℕ)) where
+  scan_of_bytes : (e : ScanFault) → e ≢ scanning.OutOfMemory → (e ≢ scanning.OutOfMemory → IsFaultOf bytes e) → IsFaultOfBytes bytes table (faults.Scan e)
   scan_of_bytes e other told = inl (e, told other, refl)
 
   -- a fault of the structure is one of the bytes
-  pub scan_fault : (e : ScanFault) → (e ≢ scanning.OutOfMemory → IsFaultOf bytes e) → of_scan e ≢ faults.OutOfMemory → IsFaultOfBytes bytes rows (of_scan e)
+  pub scan_fault : (e : ScanFault) → (e ≢ scanning.OutOfMemory → IsFaultOf bytes e) → of_scan e ≢ faults.OutOfMemory → IsFaultOfBytes bytes table (of_scan e)
   scan_fault scanning.OutOfMemory told other = absurd (other refl)
   scan_fault e told other = scan_of_bytes e (λ same. cc) told
 
-  build_of_bytes : (scan : Structure) (e : BuildFault) → Scans bytes scan → e ≢ building.OutOfMemory → (e ≢ building.OutOfMemory → IsUnknownBlock scan rows e) → IsFaultOfBytes bytes rows (faults.Build e)
-  build_of_bytes scan e scans other told = inr (scan, e, scans, told other, refl)
+  rows_of_bytes : (scan : Structure) (e : RowsFault) → Scans bytes scan → e ≢ tabling.OutOfMemory → (e ≢ tabling.OutOfMemory → IsTableFault table e) → IsFaultOfBytes bytes table (faults.Table e)
+  rows_of_bytes scan e scans other told = inr (scan, scans, inl (e, told other, refl))
 
-  -- and so is an unknown block
-  pub build_fault : (scan : Structure) (e : BuildFault) → Scans bytes scan → (e ≢ building.OutOfMemory → IsUnknownBlock scan rows e) → of_build e ≢ faults.OutOfMemory → IsFaultOfBytes bytes rows (of_build e)
-  build_fault scan building.OutOfMemory scans told other = absurd (other refl)
-  build_fault scan e scans told other = build_of_bytes scan e scans (λ same. cc) told
+  -- and so is one of the table
+  pub rows_fault : (scan : Structure) (e : RowsFault) → Scans bytes scan → (e ≢ tabling.OutOfMemory → IsTableFault table e) → of_rows e ≢ faults.OutOfMemory → IsFaultOfBytes bytes table (of_rows e)
+  rows_fault scan tabling.OutOfMemory scans told other = absurd (other refl)
+  rows_fault scan e scans told other = rows_of_bytes scan e scans (λ same. cc) told
+
+  build_of_bytes : (scan : Structure) (rows : Table) (e : BuildFault) → Scans bytes scan → IsTableFor table rows → e ≢ building.OutOfMemory → (e ≢ building.OutOfMemory → IsUnknownBlock scan rows e) → IsFaultOfBytes bytes table (faults.Build e)
+  build_of_bytes scan rows e scans tells other told = inr (scan, scans, inr (rows, tells, (e, told other, refl)))
+
+  -- and an unknown block
+  pub build_fault : (scan : Structure) (rows : Table) (e : BuildFault) → Scans bytes scan → IsTableFor table rows → (e ≢ building.OutOfMemory → IsUnknownBlock scan rows e) → of_build e ≢ faults.OutOfMemory → IsFaultOfBytes bytes table (of_build e)
+  build_fault scan rows building.OutOfMemory scans tells told other = absurd (other refl)
+  build_fault scan rows e scans tells told other = build_of_bytes scan rows e scans tells (λ same. cc) told
 
   same_scan : (e inner : ScanFault) (due : RunFault) → due ≡ faults.Scan inner → (e ≡ inner) ⊎ (e ≡ scanning.OutOfMemory) → (of_scan e ≡ due) ⊎ (of_scan e ≡ faults.OutOfMemory)
   same_scan e inner due is (inr none) = inr (ap of_scan none)
   same_scan scanning.OutOfMemory inner due is (inl same) = inr refl
   same_scan e inner due is (inl same) = inl (ap faults.Scan same ∙ sym is)
 
-  only_memory : (e : ScanFault) (due : RunFault) → e ≡ scanning.OutOfMemory → (of_scan e ≡ due) ⊎ (of_scan e ≡ faults.OutOfMemory)
-  only_memory e due none = inr (ap of_scan none)
+  scan_memory : (e : ScanFault) (due : RunFault) → e ≡ scanning.OutOfMemory → (of_scan e ≡ due) ⊎ (of_scan e ≡ faults.OutOfMemory)
+  scan_memory e due none = inr (ap of_scan none)
 
   -- where the structure is refused, a fault that is due is answered, or want of memory
   pub scan_refused : (e : ScanFault) → ((s : Structure) → Scans bytes s → e ≡ scanning.OutOfMemory) → ((f : ScanFault) → IsFaultOf bytes f → (e ≡ f) ⊎ (e ≡ scanning.OutOfMemory))
-      → (due : RunFault) → IsFaultOfBytes bytes rows due → (of_scan e ≡ due) ⊎ (of_scan e ≡ faults.OutOfMemory)
+      → (due : RunFault) → IsFaultOfBytes bytes table due → (of_scan e ≡ due) ⊎ (of_scan e ≡ faults.OutOfMemory)
   scan_refused e only refused due (inl f) = same_scan e f.0 due f.2 (refused f.0 f.1)
-  scan_refused e only refused due (inr b) = only_memory e due (only b.0 b.2)
+  scan_refused e only refused due (inr b) = scan_memory e due (only b.0 b.1)
+
+  same_rows : (e inner : RowsFault) (due : RunFault) → due ≡ faults.Table inner → (e ≡ inner) ⊎ (e ≡ tabling.OutOfMemory) → (of_rows e ≡ due) ⊎ (of_rows e ≡ faults.OutOfMemory)
+  same_rows e inner due is (inr none) = inr (ap of_rows none)
+  same_rows tabling.OutOfMemory inner due is (inl same) = inr refl
+  same_rows e inner due is (inl same) = inl (ap faults.Table same ∙ sym is)
+
+  rows_memory : (e : RowsFault) (due : RunFault) → e ≡ tabling.OutOfMemory → (of_rows e ≡ due) ⊎ (of_rows e ≡ faults.OutOfMemory)
+  rows_memory e due none = inr (ap of_rows none)
+
+  -- where the table is refused, likewise
+  pub rows_refused : (e : RowsFault) → ((f : ScanFault) → IsFaultOf bytes f → ⊥) → ((rows : Table) → IsTableFor table rows → e ≡ tabling.OutOfMemory) → ((f : RowsFault) → IsTableFault table f → (e ≡ f) ⊎ (e ≡ tabling.OutOfMemory))
+      → (due : RunFault) → IsFaultOfBytes bytes table due → (of_rows e ≡ due) ⊎ (of_rows e ≡ faults.OutOfMemory)
+  rows_refused e clean only refused due (inl f) = absurd (clean f.0 f.1)
+  rows_refused e clean only refused due (inr (scan, scans, inl t)) = same_rows e t.0 due t.2 (refused t.0 t.1)
+  rows_refused e clean only refused due (inr (scan, scans, inr u)) = rows_memory e due (only u.0 u.1)
 
   same_build : (e inner : BuildFault) (due : RunFault) → due ≡ faults.Build inner → (e ≡ inner) ⊎ (e ≡ building.OutOfMemory) → (of_build e ≡ due) ⊎ (of_build e ≡ faults.OutOfMemory)
   same_build e inner due is (inr none) = inr (ap of_build none)
   same_build building.OutOfMemory inner due is (inl same) = inr refl
   same_build e inner due is (inl same) = inl (ap faults.Build same ∙ sym is)
 
-  -- where the cave can't be built, likewise
-  pub build_refused : (scan : Structure) (e : BuildFault) → ((s : Structure) → Scans bytes s → scan ≡ s) → ((f : ScanFault) → IsFaultOf bytes f → ⊥) → ((f : BuildFault) → IsUnknownBlock scan rows f → (e ≡ f) ⊎ (e ≡ building.OutOfMemory))
-      → (due : RunFault) → IsFaultOfBytes bytes rows due → (of_build e ≡ due) ⊎ (of_build e ≡ faults.OutOfMemory)
-  build_refused scan e only clean refused due (inl f) = absurd (clean f.0 f.1)
-  build_refused scan e only clean refused due (inr b) =
-      let known : IsUnknownBlock scan rows b.1 = subst (λ (s : Structure). IsUnknownBlock s rows b.1) (sym (only b.0 b.2)) b.3 in
-      same_build e b.1 due b.4 (refused b.1 known)
+  module _ (scan : Structure) (rows : Table) (only : (s : Structure) → Scans bytes s → scan ≡ s) (clean : (f : ScanFault) → IsFaultOf bytes f → ⊥) (only_rows : (t : Table) → IsTableFor table t → rows ≡ t) (clean_table : (f : RowsFault) → IsTableFault table f → ⊥) where
+    -- what is unknown in a structure and a table of these bytes is unknown in those at hand
+    known_in : (s : Structure) (t : Table) (f : BuildFault) → Scans bytes s → IsTableFor table t → IsUnknownBlock s t f → IsUnknownBlock scan rows f
+    known_in s t f scans tells unknown =
+        subst (λ (x : Structure). IsUnknownBlock x rows f) (sym (only s scans)) (subst (λ (x : Table). IsUnknownBlock s x f) (sym (only_rows t tells)) unknown)
 
-  -- where the cave is built, no fault is due
-  pub built_clean : (scan : Structure) → ((s : Structure) → Scans bytes s → scan ≡ s) → ((f : ScanFault) → IsFaultOf bytes f → ⊥) → ((f : BuildFault) → IsUnknownBlock scan rows f → ⊥)
-      → (due : RunFault) → IsFaultOfBytes bytes rows due → ⊥
-  built_clean scan only clean known due (inl f) = clean f.0 f.1
-  built_clean scan only clean known due (inr b) = known b.1 (subst (λ (s : Structure). IsUnknownBlock s rows b.1) (sym (only b.0 b.2)) b.3)
+    -- where the cave can't be built, likewise
+    pub build_refused : (e : BuildFault) → ((f : BuildFault) → IsUnknownBlock scan rows f → (e ≡ f) ⊎ (e ≡ building.OutOfMemory))
+        → (due : RunFault) → IsFaultOfBytes bytes table due → (of_build e ≡ due) ⊎ (of_build e ≡ faults.OutOfMemory)
+    build_refused e refused due (inl f) = absurd (clean f.0 f.1)
+    build_refused e refused due (inr (s, scans, inl t)) = absurd (clean_table t.0 t.1)
+    build_refused e refused due (inr (s, scans, inr u)) = same_build e u.2.0 due u.2.2 (refused u.2.0 (known_in s u.0 u.2.0 scans u.1 u.2.1))
+
+    -- where the cave is built, no fault is due
+    pub built_clean : ((f : BuildFault) → IsUnknownBlock scan rows f → ⊥) → (due : RunFault) → IsFaultOfBytes bytes table due → ⊥
+    built_clean known due (inl f) = clean f.0 f.1
+    built_clean known due (inr (s, scans, inl t)) = clean_table t.0 t.1
+    built_clean known due (inr (s, scans, inr u)) = known u.2.0 (known_in s u.0 u.2.0 scans u.1 u.2.1)
 
 -- what is said of the bytes that were read, said of those that the reader had
-pub input_fault : (known : Option (List ℕ)) (bytes : List ℕ) (rows : Table) (e : RunFault) → IfSome known (λ b. bytes ≡ b) → length bytes ≤ STRUCTURE_LIMIT → IsFaultOfBytes bytes rows e → IfSome known (λ b. IsFaultOfInput b rows e)
-input_fault None bytes rows e same within fault = tt
-input_fault (Some b) bytes rows e same within fault =
-    inr (subst (λ (x : List ℕ). length x ≤ STRUCTURE_LIMIT) same within, subst (λ (x : List ℕ). IsFaultOfBytes x rows e) same fault)
+pub input_fault : (known : Option (List ℕ)) (bytes : List ℕ) (table : Option (List ℕ)) (e : RunFault) → IfSome known (λ b. bytes ≡ b) → length bytes ≤ STRUCTURE_LIMIT → IsFaultOfBytes bytes table e → IfSome known (λ b. IsFaultOfInput b table e)
+input_fault None bytes table e same within fault = tt
+input_fault (Some b) bytes table e same within fault =
+    inr (subst (λ (x : List ℕ). length x ≤ STRUCTURE_LIMIT) same within, subst (λ (x : List ℕ). IsFaultOfBytes x table e) same fault)
 
 -- a fault that is due to an input within the limit is one of its bytes
-pub within_limit : (bytes : List ℕ) (rows : Table) (due : RunFault) → length bytes ≤ STRUCTURE_LIMIT → IsFaultOfInput bytes rows due → IsFaultOfBytes bytes rows due
-within_limit bytes rows due within (inl long) = absurd (omega (arith, long.0))
-within_limit bytes rows due within (inr fault) = fault.1
+pub within_limit : (bytes : List ℕ) (table : Option (List ℕ)) (due : RunFault) → length bytes ≤ STRUCTURE_LIMIT → IsFaultOfInput bytes table due → IsFaultOfBytes bytes table due
+within_limit bytes table due within (inl long) = absurd (omega (arith, long.0))
+within_limit bytes table due within (inr fault) = fault.1
 
 -- what the bytes' faults meet, those of the input meet
-pub input_refused : (known : Option (List ℕ)) (bytes : List ℕ) (rows : Table) (Met : RunFault → Type 0) → IfSome known (λ b. bytes ≡ b) → length bytes ≤ STRUCTURE_LIMIT → ((due : RunFault) → IsFaultOfBytes bytes rows due → Met due) → IfSome known (λ b. (due : RunFault) → IsFaultOfInput b rows due → Met due)
-input_refused None bytes rows Met same within met = tt
-input_refused (Some b) bytes rows Met same within met =
-    λ due fault. met due (within_limit bytes rows due within (subst (λ (x : List ℕ). IsFaultOfInput x rows due) (sym same) fault))
+pub input_refused : (known : Option (List ℕ)) (bytes : List ℕ) (table : Option (List ℕ)) (Met : RunFault → Type 0) → IfSome known (λ b. bytes ≡ b) → length bytes ≤ STRUCTURE_LIMIT → ((due : RunFault) → IsFaultOfBytes bytes table due → Met due) → IfSome known (λ b. (due : RunFault) → IsFaultOfInput b table due → Met due)
+input_refused None bytes table Met same within met = tt
+input_refused (Some b) bytes table Met same within met =
+    λ due fault. met due (within_limit bytes table due within (subst (λ (x : List ℕ). IsFaultOfInput x table due) (sym same) fault))
 
 -- a refusal without streams is one with them
 pub widened : {X : Type 0} (r : Result X RunFault) (e due : RunFault) → r ≡ Err e → (e ≡ due) ⊎ (e ≡ faults.OutOfMemory) → IsRefusedRun r due
@@ -89,9 +119,9 @@ widened r e due is (inl same) = rw is (inl same)
 widened r e due is (inr none) = rw is (inr (inr none))
 
 -- what a failed write leaves of the text of the bytes that were read
-pub begun_text : {X : Type 0} (r : Result X RunFault) (known : Option (List ℕ)) (bytes : List ℕ) (headroom : ℕ) (text : List ℕ) (old new : Option (List ℕ)) → IfSome known (λ b. bytes ≡ b) → IsDarkTextOf bytes shipped_table headroom text → OnErr r (AppendsFront old new text)
-    → IfErr r (λ e. e ≡ faults.WriteFailed → IfSome known (λ b. BeginsDark b headroom old new))
-begun_text (Ok x) known bytes headroom text old new same dark begun = tt
-begun_text (Err e) None bytes headroom text old new same dark begun = λ is. tt
-begun_text (Err e) (Some b) bytes headroom text old new same dark begun =
-    λ is. (text, subst (λ (x : List ℕ). IsDarkTextOf x shipped_table headroom text) same dark, begun)
+pub begun_text : {X : Type 0} (r : Result X RunFault) (known : Option (List ℕ)) (bytes : List ℕ) (table : Option (List ℕ)) (headroom : ℕ) (text : List ℕ) (old new : Option (List ℕ)) → IfSome known (λ b. bytes ≡ b) → IsDarkTextOf bytes table headroom text → OnErr r (AppendsFront old new text)
+    → IfErr r (λ e. e ≡ faults.WriteFailed → IfSome known (λ b. BeginsDark b table headroom old new))
+begun_text (Ok x) known bytes table headroom text old new same dark begun = tt
+begun_text (Err e) None bytes table headroom text old new same dark begun = λ is. tt
+begun_text (Err e) (Some b) bytes table headroom text old new same dark begun =
+    λ is. (text, subst (λ (x : List ℕ). IsDarkTextOf x table headroom text) same dark, begun)

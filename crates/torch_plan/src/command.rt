@@ -7,8 +7,13 @@ use std::alloc::{AllocError, Global};
 /// What the words of a command line ask for.
 #[derive(Clone, Copy, Debug, PartialEq, Eq)]
 pub enum Request<'a> {
-    /// The dark cells of the structure in this file, or of standard input where that is `-`.
-    Dark { file: &'a str, rule: Rule },
+    /// The dark cells of the structure in this file, or of standard input where that is `-`, by the user's table in
+    /// that file, where there is one.
+    Dark {
+        file: &'a str,
+        table: Option<&'a str>,
+        rule: Rule,
+    },
 }
 
 fn dark_command<'a>(alloc: Global) -> Result<Command<'a>, AllocError> {
@@ -22,12 +27,18 @@ fn dark_command<'a>(alloc: Global) -> Result<Command<'a>, AllocError> {
         .action(ArgAction::Set)
         .value_parser(clap::value_parser!(u8).range(1..=2))
         .help("How many free cells above its ground a mob needs [default: 2]");
+    let table = Arg::new(alloc, "table")
+        .long("table")
+        .value_name("T")
+        .action(ArgAction::Set)
+        .help("A table of blocks (TOML) whose rows go before the shipped ones");
     Command::new(alloc, "dark")
         .about(
             "Print the cells in which a hostile mob could spawn: their number, then x y z of each",
         )
         .arg(file)?
-        .arg(headroom)
+        .arg(headroom)?
+        .arg(table)
 }
 
 fn command<'a>(alloc: Global) -> Result<Command<'a>, AllocError> {
@@ -55,7 +66,8 @@ pub fn request_of<'a>(alloc: Global, words: &'a [String]) -> Result<Request<'a>,
             } else {
                 Rule::new(2)
             };
-            return Ok(Request::Dark { file, rule });
+            let table = dark.get_str("table");
+            return Ok(Request::Dark { file, table, rule });
         }
     }
     Err(command.error(ErrorKind::MissingSubcommand, "no command")?)

@@ -1,8 +1,10 @@
 ghost use Rattle.std.specs.Prelude.{◌≡◌, ◌≤◌, ◌<◌, ◌⊎◌, length, IfOk, IfErr, IfSome};
+ghost use Rattle.torch_plan.specs.declared.fault.Input.TheVariants.{TableInput};
 ghost use Rattle.torch_plan.specs.declared.fault.RunFault.{RunFault};
+ghost use Rattle.torch_plan.specs.declared.limits.TheConstants.{TABLE_LIMIT};
 
 use crate::fault::{Input, RunFault};
-use crate::limits::READ_CALLS;
+use crate::limits::{READ_CALLS, TABLE_LIMIT};
 use std::alloc::Global;
 use std::io::Read;
 
@@ -37,4 +39,18 @@ pub fn read_all<R: Read>(
         }
     }
     Err(RunFault::ReadFailed)
+}
+
+/// Reads a user's table to the end of the reader: it has at most 1,048,576 bytes.
+pub fn read_table<R: Read>(alloc: Global, reader: &mut R) -> Result<Vec<u8>, RunFault>
+    // What is answered is just what the reader had.
+    ensures all { IfOk result (λ v. IfSome (R.remaining reader.old) (λ bytes. v.items ≡ bytes)) }
+    ensures within { IfOk result (λ v. length v.items ≤ TABLE_LIMIT) }
+    // It is too long only above the limit.
+    ensures too_long { IfErr result (λ e. e ≡ RunFault.TooLong TableInput
+        → IfSome (R.remaining reader.old) (λ bytes. TABLE_LIMIT < length bytes)) }
+    ensures kinds { IfErr result (λ e. (e ≡ RunFault.ReadFailed) ⊎ (e ≡ RunFault.TooLong TableInput)
+        ⊎ (e ≡ RunFault.OutOfMemory)) }
+{
+    read_all(alloc, reader, TABLE_LIMIT, Input::TableInput)
 }

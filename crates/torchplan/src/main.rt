@@ -5,7 +5,7 @@ use clap::error::ErrorKind;
 use std::fs::File;
 use std::process::ExitCode;
 use std::{env, io};
-use torch_plan::{Request, Rule, RunFault, request_of, run_dark, status_of};
+use torch_plan::{Request, Rule, RunFault, read_table, request_of, run_dark, status_of};
 
 /// The words of the command line. One that is no text is a mistake in usage.
 fn words_of(rt: &HostRuntime) -> Result<Vec<String>, ExitCode> {
@@ -41,13 +41,26 @@ fn explained(rt: &HostRuntime, error: &clap::Error) -> ExitCode {
     ExitCode::from(if error.use_stderr() { 2 } else { 0 })
 }
 
-fn dark(rt: &HostRuntime, file: &str, rule: Rule) -> Result<(), RunFault> {
+/// The bytes of the user's table, where one is named. It is read before the structure is opened.
+fn table_of(rt: &HostRuntime, table: Option<&str>) -> Result<Option<Vec<u8>>, RunFault> {
+    let Some(path) = table else {
+        return Ok(None);
+    };
+    match File::open(rt, path) {
+        Ok(mut input) => Ok(Some(read_table(rt.alloc(), &mut input)?)),
+        Err(_) => Err(RunFault::ReadFailed),
+    }
+}
+
+fn dark(rt: &HostRuntime, file: &str, table: Option<&str>, rule: Rule) -> Result<(), RunFault> {
     let mut output = io::writer(rt);
+    let table = table_of(rt, table)?;
+    let table = table.as_deref();
     if file == "-" {
-        return run_dark(rt.alloc(), &mut rt.reader(), rule, &mut output);
+        return run_dark(rt.alloc(), &mut rt.reader(), table, rule, &mut output);
     }
     match File::open(rt, file) {
-        Ok(mut input) => run_dark(rt.alloc(), &mut input, rule, &mut output),
+        Ok(mut input) => run_dark(rt.alloc(), &mut input, table, rule, &mut output),
         Err(_) => Err(RunFault::ReadFailed),
     }
 }
@@ -58,7 +71,7 @@ fn main(rt: HostRuntime) -> ExitCode {
         Err(status) => return status,
     };
     let ended = match request_of(rt.alloc(), &words) {
-        Ok(Request::Dark { file, rule }) => dark(&rt, file, rule),
+        Ok(Request::Dark { file, table, rule }) => dark(&rt, file, table, rule),
         Err(error) => return explained(&rt, &error),
     };
     match ended {

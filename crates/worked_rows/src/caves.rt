@@ -12,6 +12,14 @@ pub const AIR: Block<'static> = Block {
     props: &[],
 };
 
+/// A block that holds no torch and lets no light through, known by the table below alone.
+pub const FELT: Block<'static> = Block {
+    name: "cave:felt",
+    props: &[],
+};
+
+pub const FELT_TABLE: &[u8] = b"[[row]]\nname = \"cave:felt\"\nopacity = 15\nstand = true\n";
+
 /// All of the box of a corridor of 27 cells.
 pub const ROCK: Fill = Fill {
     from: [0, 0, 0],

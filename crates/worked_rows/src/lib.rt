@@ -4,6 +4,8 @@
 #[cfg(test)]
 mod caves;
 #[cfg(test)]
+mod coverage;
+#[cfg(test)]
 mod damaged;
 #[cfg(test)]
 mod dark;
@@ -15,5 +17,7 @@ mod running;
 mod streams;
 #[cfg(test)]
 mod structure;
+#[cfg(test)]
+mod tables;
 #[cfg(test)]
 mod words;

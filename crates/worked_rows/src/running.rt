@@ -13,11 +13,21 @@ pub struct Shown {
     pub written: Vec<u8>,
 }
 
-/// Runs `dark` on these bytes.
+/// Runs `dark` on these bytes by the shipped rows.
 pub fn dark(alloc: Global, bytes: &[u8], rule: Rule) -> Result<Shown, AllocError> {
+    dark_by(alloc, bytes, None, rule)
+}
+
+/// Runs `dark` on these bytes by a user's table.
+pub fn dark_by(
+    alloc: Global,
+    bytes: &[u8],
+    table: Option<&[u8]>,
+    rule: Rule,
+) -> Result<Shown, AllocError> {
     let mut reader = bytes;
     let mut written = Vec::new(alloc);
-    let refusal = match run_dark(alloc, &mut reader, rule, &mut written) {
+    let refusal = match run_dark(alloc, &mut reader, table, rule, &mut written) {
         Ok(()) => None,
         Err(fault) => Some(line_of(alloc, &fault)?),
     };

@@ -50,15 +50,22 @@ fn faults_have_their_statuses(rt: HostRuntime) {
 fn dark_asks_for_headroom_2_unless_told(rt: HostRuntime) -> Result<(), Fail> {
     let alloc = rt.alloc();
     let words = ["torchplan", "dark", "cave.nbt"].try_map(|word| String::from_str(alloc, word))?;
-    let Request::Dark { file, rule } = request_of(alloc, &words)?;
+    let Request::Dark { file, table, rule } = request_of(alloc, &words)?;
     assert_eq!(rt; file, "cave.nbt");
+    assert!(rt; table.is_none());
     assert_eq!(rt; rule.headroom, 2);
     let words = ["torchplan", "dark", "--headroom", "1", "-"].try_map(|word| String::from_str(
         alloc, word,
     ))?;
-    let Request::Dark { file, rule } = request_of(alloc, &words)?;
+    let Request::Dark { file, table, rule } = request_of(alloc, &words)?;
     assert_eq!(rt; file, "-");
     assert_eq!(rt; rule.headroom, 1);
+    assert!(rt; table.is_none());
+    let words = ["torchplan", "dark", "-", "--table", "felt.toml"].try_map(|word| {
+        String::from_str(alloc, word)
+    })?;
+    let Request::Dark { table, .. } = request_of(alloc, &words)?;
+    assert!(rt; matches!(table, Some(path) if path == "felt.toml"));
     Ok(())
 }
 

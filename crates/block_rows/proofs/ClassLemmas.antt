@@ -1,0 +1,56 @@
+-- When a class is sound.
+use Rattle.std.proofs.Common.{◌≡◌, ◌≤◌, Bool, true, false, not, ◌&&◌, ◌||◌, nat_eq, IsTrue, refl}
+use Rattle.std.proofs.lemmas.Bool.{eqb-true}
+use Rattle.block_rows.specs.declared.class.Class.{Class}
+use Rattle.block_rows.specs.Class.{IsSoundClass, gives_way_as_air}
+
+pub both_true : (a b : Bool) → (a && b) ≡ true → (a ≡ true) × (b ≡ true)
+both_true true true e = (refl, refl)
+both_true true false e = absurd (cc)
+both_true false b e = absurd (cc)
+
+then_true : (a b : Bool) → (not a || b) ≡ true → IsTrue a → b ≡ true
+then_true true b e h = e
+then_true false b e h = absurd (cc)
+
+not_true : (a : Bool) → not a ≡ true → a ≡ false
+not_true true e = absurd (cc)
+not_true false e = refl
+
+-- as air
+record IsAsAir (class : Class) : Type 0 where
+  clear : class.opacity ≡ 0
+  unlit : class.emission ≡ 0
+  roomy : class.free ≡ true
+  no_ground : class.stand ≡ false
+  no_top : class.top ≡ false
+  no_side : class.side ≡ false
+
+as_air : (class : Class) → gives_way_as_air class ≡ true → IsTrue class.put → IsAsAir class
+as_air class e put =
+    let all = then_true class.put _ e put in
+    let a = both_true _ (not class.side) all in
+    let b = both_true _ (not class.top) a.0 in
+    let c = both_true _ (not class.stand) b.0 in
+    let d = both_true _ class.free c.0 in
+    let f = both_true (nat_eq class.opacity 0) (nat_eq class.emission 0) d.0 in
+    record {
+      clear = eqb-true class.opacity 0 f.0;
+      unlit = eqb-true class.emission 0 f.1;
+      roomy = d.1;
+      no_ground = not_true class.stand c.1;
+      no_top = not_true class.top b.1;
+      no_side = not_true class.side a.1;
+    }
+
+pub sound_class : (class : Class) → class.opacity ≤ 15 → class.emission ≤ 15 → gives_way_as_air class ≡ true → IsSoundClass class
+sound_class class thin faint e = record {
+  thin = thin;
+  faint = faint;
+  clear = λ put. (as_air class e put).clear;
+  unlit = λ put. (as_air class e put).unlit;
+  roomy = λ put. (as_air class e put).roomy;
+  no_ground = λ put. (as_air class e put).no_ground;
+  no_top = λ put. (as_air class e put).no_top;
+  no_side = λ put. (as_air class e put).no_side;
+}

@@ -1,0 +1,135 @@
+-- The rows of a user's table without a fault are whole and sound.
+use Rattle.std.proofs.Common.{◌≡◌, ℕ, suc, ℤ, pos, negsuc, ◌≤◌, Bool, true, false, not, ◌&&◌, ◌||◌, cond, nat_le, [], ◌∷◌, Option, Some, None, is_some, is_none, unwrap_or, option_map, refl, arith}
+use Rattle.std.specs.Prelude.{option_and_then, option_to_list, codes}
+use Rattle.std.specs.Option.{option_or}
+use Rattle.std.proofs.lemmas.Bool.{leb-true}
+use Rattle.std.proofs.lemmas.List.Elements.{All-nil, All-cons, All-append}
+use Rattle.toml.specs.Data.{Data, Items, no_items, item, Members, get_member, as_integer, as_table}
+use Rattle.block_rows.specs.declared.row.Row.{Row}
+use Rattle.block_rows.specs.declared.fault.RowFault.{RowFault}
+use Rattle.block_rows.specs.declared.fault.RowFault.TheVariants.{Shape, UnknownKey, BadName, BadWhen, BadNumber, BadFlag, PutNotPlain}
+use Rattle.block_rows.specs.declared.fault.RowsFault.{RowsFault}
+use Rattle.block_rows.specs.declared.fault.RowsFault.TheVariants.{BadRow}
+use Rattle.block_rows.specs.Class.{IsSoundClass, gives_way_as_air}
+use Rattle.block_rows.specs.Columns.{has_only, in_column, small, level_of, name_in, when_in, opacity_in, emission_in, flag_in, class_in, row_in}
+use Rattle.block_rows.specs.Rows.{AreSoundRows}
+use Rattle.block_rows.specs.UserTable.{row_columns, has_flags, row_fault, IsWhole, element_fault, rows_fault, elements_in, document_fault, rows_of}
+use Rattle.block_rows.proofs.ClassLemmas.{both_true, sound_class}
+
+-- ---- levels
+
+taken : (n : ℕ) (b : Bool) → nat_le n 15 ≡ b → unwrap_or (cond b (Some n) None) 0 ≤ 15
+taken n true e = leb-true n 15 e
+taken n false e = omega arith
+
+small_fits : (n : ℤ) → unwrap_or (small n) 0 ≤ 15
+small_fits (pos n) = taken n (nat_le n 15) refl
+small_fits (negsuc n) = omega arith
+
+number_fits : (o : Option ℤ) → unwrap_or (option_and_then small o) 0 ≤ 15
+number_fits None = omega arith
+number_fits (Some n) = small_fits n
+
+opacity_fits : (o : Option Data) → unwrap_or (option_and_then level_of o) 0 ≤ 15
+opacity_fits None = omega arith
+opacity_fits (Some d) = number_fits (as_integer d)
+
+emission_fits : (o : Option Data) → unwrap_or (in_column 0 level_of o) 0 ≤ 15
+emission_fits None = omega arith
+emission_fits (Some d) = number_fits (as_integer d)
+
+-- ---- a row
+
+unmet : (b : Bool) (fault : RowFault) (rest : Option RowFault) → cond b (Some fault) rest ≡ None → (b ≡ false) × (rest ≡ None)
+unmet true fault rest e = absurd (cc)
+unmet false fault rest e = (refl, e)
+
+not_false : (b : Bool) → not b ≡ false → b ≡ true
+not_false true e = refl
+not_false false e = absurd (cc)
+
+-- what it means that none of the tests is met
+record IsFaultless (ms : Members) : Type 0 where
+  named : is_none (name_in ms) ≡ false
+  asks : is_none (when_in ms) ≡ false
+  numbers : (is_none (opacity_in ms) || is_none (emission_in ms)) ≡ false
+  flags : has_flags ms ≡ true
+  as_air : gives_way_as_air (class_in ms) ≡ true
+
+faultless : (ms : Members) → row_fault ms ≡ None → IsFaultless ms
+faultless ms e =
+    let a = unmet (not (has_only row_columns ms)) UnknownKey _ e in
+    let b = unmet (is_none (name_in ms)) BadName _ a.1 in
+    let c = unmet (is_none (when_in ms)) BadWhen _ b.1 in
+    let d = unmet (is_none (opacity_in ms) || is_none (emission_in ms)) BadNumber _ c.1 in
+    let f = unmet (not (has_flags ms)) BadFlag _ d.1 in
+    let g = unmet (not (gives_way_as_air (class_in ms))) PutNotPlain None f.1 in
+    record {
+      named = b.0;
+      asks = c.0;
+      numbers = d.0;
+      flags = not_false (has_flags ms) f.0;
+      as_air = not_false (gives_way_as_air (class_in ms)) g.0;
+    }
+
+faultless_sound : (ms : Members) → row_fault ms ≡ None → IsSoundClass (class_in ms)
+faultless_sound ms e = sound_class (class_in ms) (opacity_fits (get_member (codes "opacity") ms)) (emission_fits (get_member (codes "emission") ms)) (faultless ms e).as_air
+
+-- ---- its columns
+
+there : {X : Type 0} (o : Option X) (d : X) → is_none o ≡ false → o ≡ Some (unwrap_or o d)
+there None d e = absurd (cc)
+there (Some x) d e = refl
+
+some : {X : Type 0} (o : Option X) (d : X) → is_some o ≡ true → o ≡ Some (unwrap_or o d)
+some None d e = absurd (cc)
+some (Some x) d e = refl
+
+neither : (a b : Bool) → (a || b) ≡ false → (a ≡ false) × (b ≡ false)
+neither true b e = absurd (cc)
+neither false b e = (refl, e)
+
+pub whole : (ms : Members) → row_fault ms ≡ None → IsWhole ms (row_in ms)
+whole ms e =
+    let is = faultless ms e in
+    let numbers = neither (is_none (opacity_in ms)) (is_none (emission_in ms)) is.numbers in
+    let a = both_true _ (is_some (flag_in (codes "side") ms)) is.flags in
+    let b = both_true _ (is_some (flag_in (codes "top") ms)) a.0 in
+    let c = both_true _ (is_some (flag_in (codes "put") ms)) b.0 in
+    let d = both_true (is_some (flag_in (codes "free") ms)) (is_some (flag_in (codes "stand") ms)) c.0 in
+    record {
+      named = there (name_in ms) [] is.named;
+      asks = there (when_in ms) [] is.asks;
+      opaque = there (opacity_in ms) 0 numbers.0;
+      glows = there (emission_in ms) 0 numbers.1;
+      free = some (flag_in (codes "free") ms) false d.0;
+      stand = some (flag_in (codes "stand") ms) false d.1;
+      put = some (flag_in (codes "put") ms) false c.1;
+      top = some (flag_in (codes "top") ms) false b.1;
+      side = some (flag_in (codes "side") ms) false a.1;
+    }
+
+-- ---- all rows
+
+element_sound : (o : Option Members) → unwrap_or (option_map row_fault o) (Some Shape) ≡ None → AreSoundRows (option_to_list (option_map row_in o))
+element_sound None e = absurd (cc)
+element_sound (Some ms) e = All-cons (λ (row : Row). IsSoundClass row.class) (row_in ms) [] (faultless_sound ms e) (All-nil (λ (row : Row). IsSoundClass row.class))
+
+no_fault : (index : ℕ) (o : Option RowFault) (rest : Option RowsFault) → option_or (option_map (BadRow index) o) rest ≡ None → (o ≡ None) × (rest ≡ None)
+no_fault index None rest e = (refl, e)
+no_fault index (Some fault) rest e = absurd (cc)
+
+rows_sound : (index : ℕ) (elements : Items) → rows_fault index elements ≡ None → AreSoundRows (rows_of elements)
+rows_sound index no_items e = All-nil (λ (row : Row). IsSoundClass row.class)
+rows_sound index (item d ds) e =
+    let a = no_fault index (element_fault d) (rows_fault (suc index) ds) e in
+    All-append (λ (row : Row). IsSoundClass row.class) (option_to_list (option_map row_in (as_table d))) (rows_of ds)
+    (element_sound (as_table d) a.0) (rows_sound (suc index) ds a.1)
+
+shaped : (b : Bool) (rows : Option RowsFault) → cond b rows (Some (BadRow 0 Shape)) ≡ None → rows ≡ None
+shaped true rows e = e
+shaped false rows e = absurd (cc)
+
+pub user_sound : (document : Members) → document_fault document ≡ None → AreSoundRows (rows_of (unwrap_or (elements_in document) no_items))
+user_sound document e = rows_sound 0 (unwrap_or (elements_in document) no_items)
+    (shaped (has_only (codes "row" ∷ []) document && is_some (elements_in document)) (rows_fault 0 (unwrap_or (elements_in document) no_items)) e)
