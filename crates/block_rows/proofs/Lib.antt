@@ -3,3 +3,4 @@ pub mod ClassLemmas
 pub mod ShippedLemmas
 pub mod ColumnLemmas
 pub mod UserLemmas
+pub mod FaultLemmas

@@ -1,18 +1,16 @@
 -- The shipped rows are sound, and no two of them are alike.
-use Rattle.std.proofs.Common.{◌≡◌, ◌≢◌, ℕ, Bool, true, false, not, ◌&&◌, nat_le, List, [], ◌∷◌, ◌++◌, All, refl, sym, ap, ◌∙◌, bytes_eq, arith}
-use Rattle.std.specs.Prelude.{flat_map}
+use Rattle.std.proofs.Common.{◌≡◌, ◌≢◌, ℕ, Bool, true, false, not, ◌&&◌, nat_le, List, [], ◌∷◌, All, refl, sym, ap, ◌∙◌, bytes_eq, arith}
 use Rattle.std.specs.List.{list_all}
-use Rattle.std.proofs.lemmas.List.Elements.{All-nil, All-cons, All-append, All-map, All-weaker}
+use Rattle.std.proofs.lemmas.List.Elements.{All-nil, All-cons, All-weaker}
 use Rattle.std.proofs.lemmas.Slice.Eq.{bytes_eq-Decides}
 use Rattle.std.proofs.lemmas.Bool.{leb-true}
 use Rattle.std.proofs.lemmas.List.Kept.{AllPairs-cons}
 use Rattle.block_rows.specs.declared.class.Class.{Class}
 use Rattle.block_rows.specs.Class.{IsSoundClass, gives_way_as_air}
 use Rattle.block_rows.specs.declared.row.Row.{Row}
-use Rattle.block_rows.specs.declared.table.TheConstants.{PREFIX}
 use Rattle.block_rows.specs.Rows.{AreSoundRows}
 use Rattle.block_rows.proofs.ClassLemmas.{both_true, sound_class}
-use Rattle.block_rows.specs.Shipped.{Line, lines, rows_in, shipped_rows, AreDistinctRows}
+use Rattle.block_rows.specs.Shipped.{shipped_rows, AreDistinctRows}
 
 -- ---- each is sound
 
@@ -25,19 +23,19 @@ sound_of class e =
     let b = both_true (nat_le class.emission 15) _ a.1 in
     sound_class class (leb-true class.opacity 15 a.0) (leb-true class.emission 15 b.0) b.1
 
-line_sound : (line : Line) → IsSoundClass line.class → AreSoundRows (rows_in line)
-line_sound line h = All-map (λ (row : Row). IsSoundClass row.class) (λ (name : List ℕ). record { name = PREFIX.now ++ name; when = line.when; class = line.class }) line.names (λ k d lt. h)
+-- a test of all the rows
+all_of : (test : Row → Bool) (rows : List Row) → list_all test rows ≡ true → All (λ row. test row ≡ true) rows
+all_of test [] e = All-nil (λ row. test row ≡ true)
+all_of test (row ∷ rows) e =
+    let a = both_true (test row) _ e in
+    All-cons (λ row. test row ≡ true) row rows a.0 (all_of test rows a.1)
 
-rows_sound : (ls : List Line) → list_all (λ line. is_sound line.class) ls ≡ true → AreSoundRows (flat_map rows_in ls)
-rows_sound [] e = All-nil (λ row. IsSoundClass row.class)
-rows_sound (line ∷ ls) e =
-    let a = both_true (is_sound line.class) _ e in
-    All-append (λ (row : Row). IsSoundClass row.class) (rows_in line) (flat_map rows_in ls)
-    (line_sound line (sound_of line.class a.0)) (rows_sound ls a.1)
+all_sound : list_all (λ row. is_sound row.class) shipped_rows ≡ true
+unfolding shipped_rows
+all_sound = refl
 
 pub shipped_sound : AreSoundRows shipped_rows
-unfolding shipped_rows
-shipped_sound = rows_sound lines refl
+shipped_sound = All-weaker (λ (row : Row). is_sound row.class ≡ true) (λ (row : Row). IsSoundClass row.class) (λ row e. sound_of row.class e) shipped_rows (all_of (λ row. is_sound row.class) shipped_rows all_sound)
 
 -- ---- no two are alike
 
@@ -73,12 +71,6 @@ not_apart a b e f g = absurd (cc)
 
 rows_apart : (a b : Row) → are_apart a b ≡ true → a.name ≡ b.name → a.when ≢ b.when
 rows_apart a b e same asked = not_apart (bytes_eq a.name b.name) (are_alike a.when b.when) e ((bytes_eq-Decides a.name b.name).1 same) (alike a.when b.when asked)
-
-all_of : (test : Row → Bool) (rows : List Row) → list_all test rows ≡ true → All (λ row. test row ≡ true) rows
-all_of test [] e = All-nil (λ row. test row ≡ true)
-all_of test (row ∷ rows) e =
-    let a = both_true (test row) _ e in
-    All-cons (λ row. test row ≡ true) row rows a.0 (all_of test rows a.1)
 
 apart_rows : (rows : List Row) → all_apart rows ≡ true → AreDistinctRows rows
 apart_rows [] e = λ i j d lt h. absurd (omega arith)

@@ -1,19 +1,16 @@
 -- The rows of a user's table without a fault are whole and sound.
-use Rattle.std.proofs.Common.{◌≡◌, ℕ, suc, ℤ, pos, negsuc, ◌≤◌, Bool, true, false, not, ◌&&◌, ◌||◌, cond, nat_le, [], ◌∷◌, Option, Some, None, is_some, is_none, unwrap_or, option_map, refl, arith}
-use Rattle.std.specs.Prelude.{option_and_then, option_to_list, codes}
-use Rattle.std.specs.Option.{option_or}
+use Rattle.std.proofs.Common.{◌≡◌, ℕ, suc, ℤ, pos, negsuc, ◌≤◌, Bool, true, false, not, ◌||◌, cond, nat_le, [], Option, Some, None, is_some, is_none, unwrap_or, option_map, refl, arith}
+use Rattle.std.specs.Prelude.{List, option_and_then, option_to_list, codes}
 use Rattle.std.proofs.lemmas.Bool.{leb-true}
 use Rattle.std.proofs.lemmas.List.Elements.{All-nil, All-cons, All-append}
 use Rattle.toml.specs.Data.{Data, Items, no_items, item, Members, get_member, as_integer, as_table}
 use Rattle.block_rows.specs.declared.row.Row.{Row}
 use Rattle.block_rows.specs.declared.fault.RowFault.{RowFault}
 use Rattle.block_rows.specs.declared.fault.RowFault.TheVariants.{Shape, UnknownKey, BadName, BadWhen, BadNumber, BadFlag, PutNotPlain}
-use Rattle.block_rows.specs.declared.fault.RowsFault.{RowsFault}
-use Rattle.block_rows.specs.declared.fault.RowsFault.TheVariants.{BadRow}
 use Rattle.block_rows.specs.Class.{IsSoundClass, gives_way_as_air}
 use Rattle.block_rows.specs.Columns.{has_only, in_column, small, level_of, name_in, when_in, opacity_in, emission_in, flag_in, class_in, row_in}
 use Rattle.block_rows.specs.Rows.{AreSoundRows}
-use Rattle.block_rows.specs.UserTable.{row_columns, has_flags, row_fault, IsWhole, element_fault, rows_fault, elements_in, document_fault, rows_of}
+use Rattle.block_rows.specs.UserTable.{row_columns, has_flags, row_fault, IsWhole, fault_at, elements_of, TellsRows, rows_of}
 use Rattle.block_rows.proofs.ClassLemmas.{both_true, sound_class}
 
 -- ---- levels
@@ -115,21 +112,10 @@ element_sound : (o : Option Members) → unwrap_or (option_map row_fault o) (Som
 element_sound None e = absurd (cc)
 element_sound (Some ms) e = All-cons (λ (row : Row). IsSoundClass row.class) (row_in ms) [] (faultless_sound ms e) (All-nil (λ (row : Row). IsSoundClass row.class))
 
-no_fault : (index : ℕ) (o : Option RowFault) (rest : Option RowsFault) → option_or (option_map (BadRow index) o) rest ≡ None → (o ≡ None) × (rest ≡ None)
-no_fault index None rest e = (refl, e)
-no_fault index (Some fault) rest e = absurd (cc)
+rows_sound : (elements : Items) → ((index : ℕ) → fault_at elements index ≡ None) → AreSoundRows (rows_of elements)
+rows_sound no_items e = All-nil (λ (row : Row). IsSoundClass row.class)
+rows_sound (item d ds) e = All-append (λ (row : Row). IsSoundClass row.class) (option_to_list (option_map row_in (as_table d))) (rows_of ds)
+    (element_sound (as_table d) (e 0)) (rows_sound ds (λ index. e (suc index)))
 
-rows_sound : (index : ℕ) (elements : Items) → rows_fault index elements ≡ None → AreSoundRows (rows_of elements)
-rows_sound index no_items e = All-nil (λ (row : Row). IsSoundClass row.class)
-rows_sound index (item d ds) e =
-    let a = no_fault index (element_fault d) (rows_fault (suc index) ds) e in
-    All-append (λ (row : Row). IsSoundClass row.class) (option_to_list (option_map row_in (as_table d))) (rows_of ds)
-    (element_sound (as_table d) a.0) (rows_sound (suc index) ds a.1)
-
-shaped : (b : Bool) (rows : Option RowsFault) → cond b rows (Some (BadRow 0 Shape)) ≡ None → rows ≡ None
-shaped true rows e = e
-shaped false rows e = absurd (cc)
-
-pub user_sound : (document : Members) → document_fault document ≡ None → AreSoundRows (rows_of (unwrap_or (elements_in document) no_items))
-user_sound document e = rows_sound 0 (unwrap_or (elements_in document) no_items)
-    (shaped (has_only (codes "row" ∷ []) document && is_some (elements_in document)) (rows_fault 0 (unwrap_or (elements_in document) no_items)) e)
+pub user_sound : (document : Members) (rows : List Row) → TellsRows document rows → AreSoundRows (rows_of (elements_of document))
+user_sound document rows tells = rows_sound (elements_of document) tells.faultless

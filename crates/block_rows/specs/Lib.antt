@@ -1,6 +1,9 @@
 pub mod Class
 pub mod Rows
 pub mod Shipped
+pub mod Lines
 pub mod Columns
 pub mod UserTable
+pub mod Judging
 pub mod Answer
+pub mod Texts

@@ -1,31 +1,51 @@
--- The shipped rows: the table of src/table.rt, line by line, with whole names. They are this project's own.
-use Rattle.std.specs.Prelude.{◌≡◌, ◌≢◌, ℕ, List, ◌++◌, map, flat_map, AllPairs}
-use Rattle.std.specs.Borrow.{Bor}
+-- The shipped rows, block by block, in their order. Every entry is this project's own.
+use Rattle.std.specs.Prelude.{◌≡◌, ◌≢◌, ℕ, Bool, true, false, List, [], ◌∷◌, ◌++◌, map, codes, AllPairs}
 use Rattle.block_rows.specs.declared.row.Row.{Row}
 use Rattle.block_rows.specs.declared.class.Class.{Class}
-use Rattle.block_rows.specs.declared.table.TheConstants.{PREFIX, LINES}
 
--- a line of the table: the names of its blocks, the properties that it asks for, and the class
-pub record Line : Type 0 where
-  pub names : List (List ℕ)
-  pub when : List (List ℕ × List ℕ)
-  pub class : Class
+-- a row for each name, which stands behind the game's prefix, with the properties that it asks for
+abbrev pub rows_named : List (List ℕ) → List (List ℕ × List ℕ) → Class → List Row
+rows_named names when class = map (λ name. record { name = codes "minecraft:" ++ name; when = when; class = class }) names
 
--- the rows of a line, one for each name
-abbrev pub rows_in : Line → List Row
-rows_in line = map (λ name. record { name = PREFIX.now ++ name; when = line.when; class = line.class }) line.names
+-- a class by its columns: opacity, emission, free, stand, put, top, side
+abbrev pub columns : ℕ → ℕ → Bool → Bool → Bool → Bool → Bool → Class
+columns opacity emission free stand put top side = record { opacity = opacity; emission = emission; free = free; stand = stand; put = put; top = top; side = side }
 
--- a line as the code has it
-abbrev pub line_of : Bor (List (Bor (List ℕ))) × Bor (List (Bor (List ℕ) × Bor (List ℕ))) × Class → Line
-line_of line = record { names = map (λ name. name.now) line.0.now; when = map (λ asked. (asked.0.now, asked.1.now)) line.1.now; class = line.2 }
+-- the blocks that fill their cell, give no light, and hold whatever stands on them or hangs on their sides
+abbrev pub full_blocks : List (List ℕ)
+full_blocks = codes "stone" ∷ codes "granite" ∷ codes "diorite" ∷ codes "andesite" ∷ codes "deepslate" ∷ codes "tuff"
+    ∷ codes "calcite" ∷ codes "cobblestone" ∷ codes "mossy_cobblestone" ∷ codes "cobbled_deepslate"
+    ∷ codes "polished_deepslate" ∷ codes "deepslate_bricks" ∷ codes "deepslate_tiles" ∷ codes "stone_bricks"
+    ∷ codes "mossy_stone_bricks" ∷ codes "cracked_stone_bricks" ∷ codes "chiseled_stone_bricks" ∷ codes "bricks"
+    ∷ codes "dirt" ∷ codes "coarse_dirt" ∷ codes "rooted_dirt" ∷ codes "grass_block" ∷ codes "gravel" ∷ codes "sand"
+    ∷ codes "red_sand" ∷ codes "sandstone" ∷ codes "red_sandstone" ∷ codes "clay" ∷ codes "terracotta" ∷ codes "basalt"
+    ∷ codes "smooth_basalt" ∷ codes "dripstone_block" ∷ codes "moss_block" ∷ codes "obsidian" ∷ codes "amethyst_block"
+    ∷ codes "coal_ore" ∷ codes "iron_ore" ∷ codes "copper_ore" ∷ codes "gold_ore" ∷ codes "redstone_ore"
+    ∷ codes "emerald_ore" ∷ codes "lapis_ore" ∷ codes "diamond_ore" ∷ codes "deepslate_coal_ore"
+    ∷ codes "deepslate_iron_ore" ∷ codes "deepslate_copper_ore" ∷ codes "deepslate_gold_ore"
+    ∷ codes "deepslate_redstone_ore" ∷ codes "deepslate_emerald_ore" ∷ codes "deepslate_lapis_ore"
+    ∷ codes "deepslate_diamond_ore" ∷ codes "raw_iron_block" ∷ codes "raw_copper_block" ∷ codes "raw_gold_block"
+    ∷ codes "oak_planks" ∷ []
 
--- the lines of the table
-abbrev pub lines : List Line
-lines = map (λ line. record { names = map (λ name. name.now) line.0.now; when = map (λ asked. (asked.0.now, asked.1.now)) line.1.now; class = line.2 }) LINES.now
-
--- the rows of all lines, in their order
+-- the rows; a redstone lamp asks for `lit` in the first of its two
 unfoldable pub shipped_rows : List Row
-shipped_rows = flat_map rows_in lines
+shipped_rows =
+    rows_named (codes "air" ∷ codes "cave_air" ∷ codes "void_air" ∷ []) [] (columns 0 0 true false true false false)
+    ++ rows_named full_blocks [] (columns 15 0 false true false true true)
+    ++ rows_named (codes "bedrock" ∷ []) [] (columns 15 0 false false false true true)
+    ++ rows_named (codes "glass" ∷ []) [] (columns 0 0 false false false true true)
+    ++ rows_named (codes "water" ∷ []) [] (columns 1 0 false false false false false)
+    ++ rows_named (codes "lava" ∷ []) [] (columns 1 15 false false false false false)
+    ++ rows_named (codes "torch" ∷ codes "wall_torch" ∷ []) [] (columns 0 14 true false false false false)
+    ++ rows_named (codes "soul_torch" ∷ codes "soul_wall_torch" ∷ []) [] (columns 0 10 true false false false false)
+    ++ rows_named (codes "lantern" ∷ []) [] (columns 0 15 false false false false false)
+    ++ rows_named (codes "soul_lantern" ∷ []) [] (columns 0 10 false false false false false)
+    ++ rows_named (codes "glowstone" ∷ codes "sea_lantern" ∷ codes "shroomlight" ∷ []) [] (columns 15 15 false false false true true)
+    ++ rows_named (codes "magma_block" ∷ []) [] (columns 15 3 false false false true true)
+    ++ rows_named (codes "jack_o_lantern" ∷ []) [] (columns 15 15 false true false true true)
+    ++ rows_named (codes "redstone_lamp" ∷ []) ((codes "lit", codes "true") ∷ []) (columns 15 15 false true false true true)
+    ++ rows_named (codes "redstone_lamp" ∷ []) [] (columns 15 0 false true false true true)
+    ++ rows_named (codes "rail" ∷ codes "powered_rail" ∷ codes "detector_rail" ∷ codes "activator_rail" ∷ []) [] (columns 0 0 false false false false false)
 
 -- rows of one name differ in what they ask for
 abbrev pub AreDistinctRows : List Row → Type 0

@@ -1,8 +1,7 @@
 -- The user's table: a TOML document with an array of tables under `row`, and its first fault.
 -- What a text means is the word of the crate `toml`; the rest is this project's own.
-use Rattle.std.specs.Prelude.{◌≡◌, ℕ, suc, ◌⊎◌, Bool, not, ◌&&◌, ◌||◌, List, [], ◌∷◌, ◌++◌, codes, IsUtf8, Option, Some, None, is_some, is_none, unwrap_or, option_map, option_to_list, if◌then◌else◌}
-use Rattle.std.specs.Option.{option_or}
-use Rattle.toml.specs.Data.{Data, Items, no_items, item, Members, get_member, as_array, as_table}
+use Rattle.std.specs.Prelude.{◌≡◌, ℕ, ◌<◌, ◌⊎◌, Bool, true, false, not, ◌&&◌, ◌||◌, List, [], ◌∷◌, ◌++◌, codes, IsUtf8, Option, Some, None, is_some, is_none, unwrap_or, option_map, option_and_then, option_to_list, if◌then◌else◌}
+use Rattle.toml.specs.Data.{Data, Items, no_items, item, Members, get_item, get_member, as_array, as_table}
 use Rattle.toml.specs.Parse.{parse_document}
 use Rattle.block_rows.specs.Class.{gives_way_as_air}
 use Rattle.block_rows.specs.declared.row.Row.{Row}
@@ -62,20 +61,34 @@ element_fault d = unwrap_or (option_map row_fault (as_table d)) (Some Shape)
 
 -- ---- the whole table
 
--- the first fault of the rows, from this index on
-abbrev pub rows_fault : ℕ → Items → Option RowsFault
-rows_fault index no_items = None
-rows_fault index (item d ds) = option_or (option_map (BadRow index) (element_fault d)) (rows_fault (suc index) ds)
-
 -- the array under `row`, which may be absent
 abbrev pub elements_in : Members → Option Items
 elements_in document = in_column no_items as_array (get_member (codes "row") document)
 
+-- the top has no other key than `row`, and an array there
+abbrev pub has_shape : Members → Bool
+has_shape document = has_only (codes "row" ∷ []) document && is_some (elements_in document)
+
+-- the elements of that array
+abbrev pub elements_of : Members → Items
+elements_of document = unwrap_or (elements_in document) no_items
+
+-- the fault of the element at this index
+abbrev pub fault_at : Items → ℕ → Option RowFault
+fault_at elements index = option_and_then element_fault (get_item index elements)
+
+-- the fault is that of the least index with one
+pub record IsFirstFault (elements : Items) (fault : RowsFault) : Type 0 where
+  pub index : ℕ
+  pub kind : RowFault
+  pub found : fault_at elements index ≡ Some kind
+  pub least : (before : ℕ) → before < index → fault_at elements before ≡ None
+  pub told : fault ≡ BadRow index kind
+
 -- the first fault of a document: its shape is judged before any row
-abbrev pub document_fault : Members → Option RowsFault
-document_fault document = if has_only (codes "row" ∷ []) document && is_some (elements_in document)
-    then rows_fault 0 (unwrap_or (elements_in document) no_items)
-    else Some (BadRow 0 Shape)
+abbrev pub IsDocumentFault : Members → RowsFault → Type 0
+IsDocumentFault document fault = ((has_shape document ≡ false) × (fault ≡ BadRow 0 Shape))
+    ⊎ ((has_shape document ≡ true) × IsFirstFault (elements_of document) fault)
 
 -- the rows of the elements that are tables
 abbrev pub rows_of : Items → List Row
@@ -84,8 +97,9 @@ rows_of (item d ds) = option_to_list (option_map row_in (as_table d)) ++ rows_of
 
 -- a document without a fault, and its rows
 pub record TellsRows (document : Members) (rows : List Row) : Type 0 where
-  pub faultless : document_fault document ≡ None
-  pub told : rows ≡ rows_of (unwrap_or (elements_in document) no_items)
+  pub shaped : has_shape document ≡ true
+  pub faultless : (index : ℕ) → fault_at (elements_of document) index ≡ None
+  pub told : rows ≡ rows_of (elements_of document)
 
 -- the rows of the text's document before the shipped ones
 pub record IsTableOf (text : List ℕ) (table : Table) : Type 0 where
@@ -97,4 +111,4 @@ pub record IsTableOf (text : List ℕ) (table : Table) : Type 0 where
 -- the first fault of a text
 abbrev pub IsFaultOf : List ℕ → RowsFault → Type 0
 IsFaultOf text fault = (((document : Members) → ¬ IsDocument text document) × (fault ≡ Toml))
-    ⊎ ((document : Members) × IsDocument text document × (document_fault document ≡ Some fault))
+    ⊎ ((document : Members) × IsDocument text document × IsDocumentFault document fault)

@@ -21,6 +21,11 @@ pub enum RowFault {
 }
 
 impl fmt::Display for RowFault {
+    ghost use Rattle.std.specs.Prelude.{Some};
+    ghost use Rattle.block_rows.specs.Texts.{row_fault_text};
+
+    ghost output = { λ fault. Some (row_fault_text fault) };
+
     fn fmt<W: fmt::Write>(&self, f: &mut fmt::Formatter<W>) -> fmt::Result {
         match self {
             RowFault::Shape => write!(f, "shape"),
@@ -45,6 +50,11 @@ pub enum RowsFault {
 }
 
 impl fmt::Display for RowsFault {
+    ghost use Rattle.std.specs.Prelude.{Some};
+    ghost use Rattle.block_rows.specs.Texts.{fault_text};
+
+    ghost output = { λ fault. Some (fault_text fault) };
+
     fn fmt<W: fmt::Write>(&self, f: &mut fmt::Formatter<W>) -> fmt::Result {
         match self {
             RowsFault::Toml => write!(f, "table: not TOML"),

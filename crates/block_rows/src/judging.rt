@@ -3,6 +3,7 @@ ghost use Rattle.std.specs.Prelude.{◌≡◌, map, option_map};
 ghost use Rattle.toml.specs.View.{items_view, table_view, view};
 ghost use Rattle.block_rows.specs.Class.{gives_way_as_air};
 ghost use Rattle.block_rows.specs.Columns.{has_only};
+ghost use Rattle.block_rows.specs.Judging as found;
 ghost use Rattle.block_rows.specs.UserTable as judging;
 
 use crate::class::Class;
@@ -83,7 +84,7 @@ fn element_fault(element: &Value) -> Option<RowFault>
 
 /// The first fault of the elements.
 fn rows_fault(elements: &[Value]) -> Option<RowsFault>
-    ensures { result ≡ judging.rows_fault 0 (items_view elements.now) }
+    ensures { result ≡ found.rows_fault 0 (items_view elements.now) }
 {
     for (index, element) in elements.iter().enumerate() {
         if let Some(fault) = element_fault(element) {
@@ -109,7 +110,7 @@ pub(crate) fn elements(document: &Table) -> Option<&[Value]>
 
 /// The first fault of a document: its shape is judged before any row.
 pub(crate) fn document_fault(document: &Table) -> Option<RowsFault>
-    ensures { result ≡ judging.document_fault (table_view document.now) }
+    ensures { result ≡ found.document_fault (table_view document.now) }
 {
     let wrong_shape = RowsFault::BadRow {
         index: 0,

@@ -1,5 +1,6 @@
 ghost use Rattle.std.specs.Prelude.{◌≡◌, ◌++◌, IfOk, OnOk, flat_map, map};
-ghost use Rattle.block_rows.specs.Shipped.{line_of, rows_in, shipped_rows};
+ghost use Rattle.block_rows.specs.Lines.{line_of, rows_in};
+ghost use Rattle.block_rows.specs.Shipped.{shipped_rows};
 
 use crate::row::Row;
 use crate::table::{LINES, Line, PREFIX};

@@ -3,7 +3,7 @@ ghost use Rattle.std.specs.Prelude.{◌≡◌, ◌≢◌, IfOk, IfErr, unwrap_or
 ghost use Rattle.toml.specs.Data.{Members};
 ghost use Rattle.toml.specs.View.{items_view, table_view};
 ghost use Rattle.block_rows.specs.Columns.{row_in, texts_of, when_in};
-ghost use Rattle.block_rows.specs.UserTable.{IsDocument, TellsRows, document_fault, rows_of};
+ghost use Rattle.block_rows.specs.UserTable.{IsDocument, IsDocumentFault, TellsRows, rows_of};
 
 use crate::columns::{class, member, name};
 use crate::fault::RowsFault;
@@ -87,7 +87,7 @@ pub(crate) fn user_rows(alloc: Global, elements: &[Value]) -> Result<Vec<Row>, A
 pub(crate) fn document_rows(alloc: Global, document: &Table) -> Result<Vec<Row>, RowsFault>
     ensures found { IfOk result (λ rows. TellsRows (table_view document.now) rows.items) }
     ensures fault { IfErr result (λ e. e ≢ RowsFault.OutOfMemory
-        → document_fault (table_view document.now) ≡ Some e) }
+        → IsDocumentFault (table_view document.now) e) }
 {
     if let Some(fault) = judging::document_fault(document) {
         return Err(fault);

@@ -3,3 +3,4 @@ pub mod LightLemmas
 pub mod TorchLemmas
 pub mod StateLemmas
 pub mod CaveLemmas
+pub mod ListingLemmas

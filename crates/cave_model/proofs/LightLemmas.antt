@@ -9,6 +9,11 @@ use Rattle.cave_model.specs.Light.Path.{start, onward}
 use Rattle.cave_model.specs.Relaxation.{brought, best_of, relaxed}
 use Rattle.cave_model.proofs.FaceLemmas.{opposite, neighbours_mutual, mutual_beyond}
 
+-- a path ends in the box
+pub path_end_inside : {cave : Cave} {a c n : ℕ} → Path cave a c n → c < cell_count cave.size
+path_end_inside (start h) = h
+path_end_inside {cave = cave} (onward {before = b} p to n) = (neighbours_mutual cave.size b to n).inside
+
 -- ---- a round brings no more than paths do
 
 -- what is at most the greater of two is at most one of them

@@ -5,8 +5,10 @@ pub mod World
 pub mod Building
 pub mod Light
 pub mod Relaxation
+pub mod Listing
 pub mod Spawn
 pub mod Torches
 pub mod Plan
 pub mod Regions
 pub mod Answer
+pub mod Texts

@@ -1,4 +1,6 @@
 ghost use Rattle.std.specs.Prelude.{◌≡◌};
+ghost use Rattle.std.specs.Fmt.{WritesOnOk};
+ghost use Rattle.cave_model.specs.Texts.{shown_byte};
 ghost use Rattle.cave_model.specs.declared.fault.BuildFault.TheVariants.{OutOfMemory};
 
 use nbt_core::Sequence;
@@ -14,18 +16,31 @@ pub enum BuildFault {
     OutOfMemory,
 }
 
+/// A byte of a name: printable ASCII other than the backslash is written as it is, any other byte as `\x` and two
+/// digits.
+fn write_byte<W: fmt::Write>(byte: u8, f: &mut fmt::Formatter<W>) -> fmt::Result
+    ensures { WritesOnOk W.write_str_gives f.old result (shown_byte byte) f.new }
+{
+    match byte {
+        b'\\' => write!(f, "\\x5c"),
+        b' '..=b'~' => write!(f, "{}", byte as char),
+        _ => write!(f, "\\x{byte:02x}"),
+    }
+}
+
 impl fmt::Display for BuildFault {
+    ghost use Rattle.std.specs.Prelude.{Some};
+    ghost use Rattle.cave_model.specs.Texts.{fault_text};
+
+    ghost output = { λ fault. Some (fault_text fault) };
+
     /// Of a name, printable ASCII other than the backslash is written as it is, any other byte as `\x` and two digits.
     fn fmt<W: fmt::Write>(&self, f: &mut fmt::Formatter<W>) -> fmt::Result {
         match self {
             BuildFault::UnknownBlock { index: _, name } => {
                 write!(f, "unknown block ")?;
                 for byte in name.as_slice() {
-                    match *byte {
-                        b'\\' => write!(f, "\\x5c")?,
-                        b' '..=b'~' => write!(f, "{}", *byte as char)?,
-                        _ => write!(f, "\\x{byte:02x}")?,
-                    }
+                    write_byte(*byte, f)?;
                 }
                 Ok(())
             }

@@ -34,9 +34,19 @@ impl Model for World {
 
     ghost Value = { Cave };
 
-    ghost view = { λ w. record { size = point w.size; classes = w.classes.items; headroom = w.rule.headroom; need = 1 } };
+    ghost view = { λ w. record {
+      size = point w.size;
+      classes = w.classes.items;
+      headroom = w.rule.headroom;
+      need = 1;
+    } };
 
-    ghost invariant = { λ w. IsWorld (record { size = point w.size; classes = w.classes.items; headroom = w.rule.headroom; need = 1 }) };
+    ghost invariant = { λ w. IsWorld (record {
+      size = point w.size;
+      classes = w.classes.items;
+      headroom = w.rule.headroom;
+      need = 1;
+    }) };
 }
 
 impl World {
@@ -63,6 +73,7 @@ impl World {
         ensures need { result ≡ self.now.need }
         ensures positive { 1 ≤ result }
     {
+        // Looking at a part of the world lets the proof see its value, whose need is 1.
         let _ = &self.rule;
         1
     }

@@ -1,18 +1,13 @@
--- Legal places, one after another, and their hangs.
-use Rattle.std.proofs.Common.{◌≡◌, ℕ, ◌+◌, ◌<◌, ◌≤◌, Bool, true, false, ◌&&◌, cond, List, [], ◌∷◌, ◌++◌, Option, Some, None, length, slice_index, Contains, refl, sym, ap, subst, ◌∙◌, arith, inl, inr, length-append}
+-- Legal places and their hangs.
+use Rattle.std.proofs.Common.{◌≡◌, ℕ, ◌<◌, ◌≤◌, Bool, true, false, ◌&&◌, cond, List, [], ◌∷◌, Option, Some, None, length, refl, sym, subst, ◌∙◌, inl, inr}
 use Rattle.std.specs.Prelude.{MatchOption, is_some, find, unwrap_or}
-use Rattle.std.specs.List.Sorted.{IsStrictlyIncreasing}
 use Rattle.std.proofs.lemmas.Bool.{cases_lt, true≢false}
-use Rattle.std.proofs.lemmas.List.{get_or_push, get_or_append_left, get_or_past}
-use Rattle.std.proofs.lemmas.List.Elements.{Contains-push, Contains-push_cases, Contains-append_left}
+use Rattle.std.proofs.lemmas.List.{get_or_past}
 use Rattle.scan_core.specs.Box.{cell_count}
 use Rattle.cave_model.specs.Cave.{Cave, IsSound, class_at}
 use Rattle.cave_model.specs.Torches.{IsPlace, is_legal, hang_of}
 use Rattle.cave_model.specs.declared.hang.Hang.{Hang}
 use Rattle.cave_model.specs.declared.hang.Hang.TheVariants.{Floor, North, East, South, West}
-use Rattle.cover_rows.specs.Coverage.{ArePlaces}
-
--- ---- one place
 
 -- something is there that passes the test
 abbrev Passes : (Hang → Bool) → Option Hang → Type 0
@@ -85,72 +80,3 @@ place_inside cave cell sound place = subst (λ (n : ℕ). cell < n) sound.whole 
   | inl lt ↦ lt
   | inr past ↦ (let put : (class_at cave cell).put ≡ true = first_true _ _ place.1 in absurd (true≢false (sym put ∙ no_put_past cave cell past)))
 ])
-
--- ---- all of them
-
--- they are the places below this number
-pub record PlacesBelow (cave : Cave) (count : ℕ) (cells : List ℕ) : Type 0 where
-  pub ascending : IsStrictlyIncreasing cells
-  pub below : (k : ℕ) → k < length cells → slice_index cells k < count
-  pub are_places : (cell : ℕ) → Contains cells cell → (cell < count) × IsPlace cave cell
-  pub all_places : (cell : ℕ) → cell < count → IsPlace cave cell → Contains cells cell
-
-not_in_none : (cell : ℕ) → Contains [] cell → ⊥
-not_in_none cell h = absurd (omega (arith, h.1))
-
-pub places_none : (cave : Cave) (cells : List ℕ) → cells ≡ [] → PlacesBelow cave 0 cells
-places_none cave cells e = record {
-  ascending = λ k h. (let l : length cells ≡ 0 = ap length e in absurd (omega arith));
-  below = λ k h. (let l : length cells ≡ 0 = ap length e in absurd (omega arith));
-  are_places = λ cell h. absurd (not_in_none cell (subst (λ (xs : List ℕ). Contains xs cell) e h));
-  all_places = λ cell h d. absurd (omega arith);
-}
-
--- a cell that is no place is left out
-pub places_skip : (cave : Cave) (count : ℕ) (cells : List ℕ) → PlacesBelow cave count cells → (IsPlace cave count → ⊥) → PlacesBelow cave (count + 1) cells
-places_skip cave count cells s none = record {
-  ascending = s.ascending;
-  below = λ k h. (let b = s.below k h in omega arith);
-  are_places = λ cell h. (let b = s.are_places cell h in let lt : cell < count + 1 = omega (arith, b.0) in (lt, b.1));
-  all_places = λ cell h d. (elim (cases_lt cell count) [
-    | inl lt ↦ s.all_places cell lt d
-    | inr le ↦ (let same : cell ≡ count = omega arith in absurd (none (subst (IsPlace cave) same d)))
-  ]);
-}
-
--- a place is added
-pub places_push : (cave : Cave) (count : ℕ) (cells : List ℕ) → PlacesBelow cave count cells → IsPlace cave count → PlacesBelow cave (count + 1) (cells ++ count ∷ [])
-places_push cave count cells s place = record {
-  ascending = λ k h. (elim (cases_lt (k + 1) (length cells)) [
-    | inl lt ↦ (let now = old k (omega arith) in let next = old (k + 1) lt in let up = s.ascending k lt in omega arith)
-    | inr le ↦ (let at_end : k + 1 ≡ length cells = omega (arith, long) in
-        let now = old k (omega arith) in
-        let next : slice_index (cells ++ count ∷ []) (k + 1) ≡ count = get_or_push cells count 0 (k + 1) (sym at_end) in
-        let b = s.below k (omega arith) in omega arith)
-  ]);
-  below = λ k h. (elim (cases_lt k (length cells)) [
-    | inl lt ↦ (let now = old k lt in let b = s.below k lt in omega arith)
-    | inr le ↦ (let at_end : k ≡ length cells = omega (arith, long) in
-        let last : slice_index (cells ++ count ∷ []) k ≡ count = get_or_push cells count 0 k (sym at_end) in omega arith)
-  ]);
-  are_places = λ cell h. (elim (Contains-push_cases cells count cell h) [
-    | inl in_front ↦ (let b = s.are_places cell in_front in let lt : cell < count + 1 = omega (arith, b.0) in (lt, b.1))
-    | inr same ↦ (let lt : cell < count + 1 = omega arith in (lt, subst (IsPlace cave) same place))
-  ]);
-  all_places = λ cell h d. (elim (cases_lt cell count) [
-    | inl lt ↦ Contains-append_left cells (count ∷ []) cell (s.all_places cell lt d)
-    | inr le ↦ (let same : count ≡ cell = omega arith in subst (λ (c : ℕ). Contains (cells ++ count ∷ []) c) same (Contains-push cells count))
-  ]);
-}
-  where
-    long : length (cells ++ count ∷ []) ≡ length cells + 1
-    long = omega (arith, length-append cells (count ∷ []))
-
-    old : (k : ℕ) → k < length cells → slice_index (cells ++ count ∷ []) k ≡ slice_index cells k
-    old k h = get_or_append_left cells (count ∷ []) 0 k h
-
-pub places_all : (cave : Cave) (count : ℕ) (cells : List ℕ) → IsSound cave → count ≡ cell_count cave.size → PlacesBelow cave count cells → ArePlaces cave cells
-places_all cave count cells sound e s = record {
-  ascending = s.ascending;
-  exact = λ cell. (λ h. (s.are_places cell h).1, λ d. s.all_places cell (let b = place_inside cave cell sound d in omega (arith, e)) d);
-}

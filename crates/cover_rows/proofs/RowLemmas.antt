@@ -10,17 +10,11 @@ use Rattle.std.proofs.lemmas.List.Sorted.{Contains-permutation, IsPermutation-sy
 use Rattle.scan_core.specs.Box.{cell_count}
 use Rattle.cave_model.specs.Cave.{Cave}
 use Rattle.cave_model.specs.Spawn.{IsDark}
-use Rattle.cave_model.specs.Light.{Path}
-use Rattle.cave_model.specs.Light.Path.{start, onward}
-use Rattle.cave_model.proofs.FaceLemmas.{neighbours_mutual}
+use Rattle.cave_model.proofs.LightLemmas.{path_end_inside}
 use Rattle.light_flood.specs.Levels.{ListsLit}
 use Rattle.cover_rows.specs.Marks.{AreDarkMarks, AreMarked}
 use Rattle.cover_rows.specs.Rows.{IsRowOf, AreRowsOf}
 use Rattle.cover_rows.proofs.OrderLemmas.{sorted_rises}
-
-path_end_inside : {cave : Cave} {a c n : ℕ} → Path cave a c n → c < cell_count cave.size
-path_end_inside (start h) = h
-path_end_inside {cave = cave} (onward {before = b} p to n) = (neighbours_mutual cave.size b to n).inside
 
 -- what is lit is in the box
 pub lit_inside : (cave : Cave) (place emission least count : ℕ) (lit : List ℕ) → count ≡ cell_count cave.size → ListsLit cave place emission least lit → All (λ cell. cell < count) lit

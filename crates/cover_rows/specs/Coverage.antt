@@ -1,7 +1,7 @@
 -- The instance of a cave, and why there is none. This is the project's own.
-use Rattle.std.specs.Prelude.{◌≡◌, ◌↔◌, ◌≤◌, ℕ, List, Contains, map, unwrap_or}
-use Rattle.std.specs.List.Sorted.{IsStrictlyIncreasing}
+use Rattle.std.specs.Prelude.{◌≡◌, ◌↔◌, ◌≤◌, ℕ, List, map, unwrap_or}
 use Rattle.cave_model.specs.Cave.{Cave}
+use Rattle.cave_model.specs.Listing.{Lists}
 use Rattle.cave_model.specs.Spawn.{IsDark, AreDarkCells}
 use Rattle.cave_model.specs.Torches.{IsPlace, Lights, hang_of}
 use Rattle.cave_model.specs.Plan.{Torch}
@@ -11,9 +11,8 @@ use Rattle.cover_rows.specs.declared.fault.CoverFault.{CoverFault}
 use Rattle.cover_rows.specs.declared.fault.CoverFault.TheVariants.{Unlightable}
 
 -- these are the places of the cave, ascending
-pub record ArePlaces (cave : Cave) (places : List ℕ) : Type 0 where
-  pub ascending : IsStrictlyIncreasing places
-  pub exact : (cell : ℕ) → Contains places cell ↔ IsPlace cave cell
+abbrev pub ArePlaces : Cave → List ℕ → Type 0
+ArePlaces cave places = Lists (IsPlace cave) places
 
 -- the dark cells and the places of the cave, and which of these lights which of those
 pub record IsProblemOf (cave : Cave) (instance : Instance) : Type 0 where

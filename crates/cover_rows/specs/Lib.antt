@@ -3,3 +3,4 @@ pub mod Coverage
 pub mod Answer
 pub mod Marks
 pub mod Rows
+pub mod Texts

@@ -15,6 +15,11 @@ pub enum CoverFault {
 }
 
 impl fmt::Display for CoverFault {
+    ghost use Rattle.std.specs.Prelude.{Some};
+    ghost use Rattle.cover_rows.specs.Texts.{fault_text};
+
+    ghost output = { λ e. Some (fault_text e) };
+
     fn fmt<W: fmt::Write>(&self, f: &mut fmt::Formatter<W>) -> fmt::Result {
         match self {
             CoverFault::Unlightable { cell } => write!(f, "unlightable {cell}"),

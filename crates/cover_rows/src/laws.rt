@@ -9,6 +9,7 @@ ghost use Rattle.cover_rows.specs.Instance.{Instance, LightsIn};
 pub fn cover_is_safe()
     ensures { (cave : Cave) (instance : Instance) (chosen : List ℕ) → IsSound cave → IsProblemOf cave instance
         → AllPairs (λ a b. a ≢ b) chosen → All (Contains instance.places) chosen
-        → ((cell : ℕ) → Contains instance.cells cell → (place : ℕ) × Contains chosen place × LightsIn instance place cell)
+        → ((cell : ℕ) → Contains instance.cells cell
+        → (place : ℕ) × Contains chosen place × LightsIn instance place cell)
         → IsSafe cave (hung cave chosen) }
 {}

@@ -27,9 +27,17 @@ impl Model for Problem {
 
     ghost Value = { Instance };
 
-    ghost view = { λ p. record { cells = p.cells.items; places = p.places.items; rows = map (λ v. v.items) p.rows.items } };
+    ghost view = { λ p. record {
+      cells = p.cells.items;
+      places = p.places.items;
+      rows = map (λ v. v.items) p.rows.items;
+    } };
 
-    ghost invariant = { λ p. IsInstance (record { cells = p.cells.items; places = p.places.items; rows = map (λ v. v.items) p.rows.items }) };
+    ghost invariant = { λ p. IsInstance (record {
+      cells = p.cells.items;
+      places = p.places.items;
+      rows = map (λ v. v.items) p.rows.items;
+    }) };
 }
 
 impl Problem {

@@ -11,10 +11,8 @@ use Rattle.std.proofs.lemmas.Bool.{cases_eq}
 use Rattle.scan_core.specs.Box.{cell_count}
 use Rattle.cave_model.specs.Cave.{Cave}
 use Rattle.cave_model.specs.Light.{Path, BringsFrom}
-use Rattle.cave_model.specs.Light.Path.{start, onward}
-use Rattle.cave_model.proofs.FaceLemmas.{neighbours_mutual}
 use Rattle.light_flood.specs.Dense.{AreAtLeast}
-use Rattle.cave_model.proofs.LightLemmas.{AreSettled, path_settled}
+use Rattle.cave_model.proofs.LightLemmas.{AreSettled, path_settled, path_end_inside}
 use Rattle.light_flood.specs.Levels.{AreReachOf, ListsLit}
 use Rattle.light_flood.specs.Reached.{reached}
 use Rattle.light_flood.specs.Spreading.{IsRaised, IsSettled}
@@ -47,10 +45,6 @@ settled_reach cave source emission dark first levels none raised s cell h = reco
       | inl e ↦ (let here : first from ≡ emission = ap first e ∙ raised.raised in (b.0, subst (λ (c : ℕ). Path cave c cell b.0) e b.1, omega (arith, b.2)))
       | inr ne ↦ (let zero : first from ≡ 0 = raised.others from ne ∙ none from in absurd (omega (arith, b.2)))
     ]
-
-path_end_inside : {cave : Cave} {a c n : ℕ} → Path cave a c n → c < cell_count cave.size
-path_end_inside (start h) = h
-path_end_inside {cave = cave} (onward {before = b} p to n) = (neighbours_mutual cave.size b to n).inside
 
 -- the cells with at least some level in a reach are those to which it is brought
 pub reach_lists : (cave : Cave) (source emission least : ℕ) (levels cells : List ℕ) → 1 ≤ least → length levels ≡ cell_count cave.size → AreReachOf cave source emission (slice_index levels) → AreAtLeast least levels cells → ListsLit cave source emission least cells

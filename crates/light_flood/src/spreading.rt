@@ -20,7 +20,8 @@ fn offer<S: Store>(
     requires cells { S.cells store.old ≡ cell_count world.now.size }
     requires shared { AreNeighbours world.now.size from to }
     requires inside { to < cell_count world.now.size }
-    requires flood { let level = S.levels store.old from in IsFlood world.now (level + 1) level (S.levels store.old) waiting.old }
+    requires flood { let level = S.levels store.old from in
+        IsFlood world.now (level + 1) level (S.levels store.old) waiting.old }
     ensures cells { S.cells store.new ≡ cell_count world.now.size }
     ensures flood { OnOk result (let level = S.levels store.old from in
         IsFlood world.now (level + 1) level (S.levels store.new) waiting.new) }
@@ -47,7 +48,8 @@ fn pass_on<S: Store>(
 ) -> Result<(), AllocError>
     requires cells { S.cells store.old ≡ cell_count world.now.size }
     requires in_box { from < cell_count world.now.size }
-    requires flood { let level = S.levels store.old from in IsFlood world.now (level + 1) level (S.levels store.old) waiting.old }
+    requires flood { let level = S.levels store.old from in
+        IsFlood world.now (level + 1) level (S.levels store.old) waiting.old }
     ensures cells { S.cells store.new ≡ cell_count world.now.size }
     ensures flood { OnOk result (let level = S.levels store.old from in
         IsFlood world.now (level + 1) level (S.levels store.new) waiting.new) }

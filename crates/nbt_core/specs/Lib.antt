@@ -10,3 +10,4 @@ pub mod Answer
 pub mod Reading
 pub mod LeafReading
 pub mod TreeReading
+pub mod Texts

@@ -27,6 +27,11 @@ pub enum NbtFault {
 }
 
 impl fmt::Display for NbtFault {
+    ghost use Rattle.std.specs.Prelude.{Some};
+    ghost use Rattle.nbt_core.specs.Texts.{fault_text};
+
+    ghost output = { λ fault. Some (fault_text fault) };
+
     fn fmt<W: fmt::Write>(&self, f: &mut fmt::Formatter<W>) -> fmt::Result {
         match self {
             NbtFault::Compressed => write!(f, "nbt: compressed"),

@@ -1,4 +1,4 @@
-ghost use Rattle.std.specs.Prelude.{◌≢◌, IfOk, IfErr};
+ghost use Rattle.std.specs.Prelude.{◌≡◌, ◌≢◌, [], ◌∷◌, take, IfOk, IfErr};
 ghost use Rattle.nbt_core.specs.declared.fault.NbtFault.{NbtFault};
 ghost use Rattle.nbt_core.specs.Answer.{IsAnswer, IsRefusal};
 ghost use Rattle.nbt_core.specs.Breaking.{FaultOf};
@@ -16,7 +16,8 @@ use std::alloc::Global;
 /// The root of a whole input, as reading from left to right gives it.
 #[tactic(auto, unfolding(crate::specs::TreeReading::root_at))]
 fn root(alloc: Global, bytes: &[u8]) -> Result<Tag, NbtFault>
-    ensures { GivesWhole nbt result (root_at bytes.now) }
+    ensures read { GivesWhole nbt result (root_at bytes.now) }
+    ensures memory { IfErr result (λ e. e ≡ NbtFault.OutOfMemory → take 1 bytes.now ≡ 10 ∷ []) }
 {
     match bytes {
         [] => Err(NbtFault::Truncated { at: 0 }),
@@ -38,6 +39,8 @@ pub fn read_root(alloc: Global, bytes: &[u8]) -> Result<Tag, NbtFault>
     ensures fault { IfErr result (λ e. e ≢ NbtFault.OutOfMemory → FaultOf bytes.now e) }
     // Such a fault is answered.
     ensures refused { (e : NbtFault) → FaultOf bytes.now e → IsRefusal result e }
+    // Memory is wanted for bytes alone that begin with the id of a compound.
+    ensures memory { IfErr result (λ e. e ≡ NbtFault.OutOfMemory → take 1 bytes.now ≡ 10 ∷ []) }
 {
     root(alloc, bytes)
 }

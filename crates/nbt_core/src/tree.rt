@@ -1,4 +1,4 @@
-ghost use Rattle.std.specs.Prelude.{◌≡◌, ◌≤◌, ◌+◌, ◌-◌, length, IfOk, IfErr};
+ghost use Rattle.std.specs.Prelude.{◌≡◌, ◌≤◌, ◌+◌, ◌-◌, [], ◌∷◌, ◌++◌, length, IfOk, IfErr, OnOk};
 ghost use Rattle.nbt_core.specs.Value.{items_of, members_of};
 ghost use Rattle.nbt_core.specs.View.{nbt, nbts, entries_of};
 ghost use Rattle.nbt_core.specs.Reading.{Gives, GivesWhole};
@@ -9,11 +9,26 @@ use crate::kind::Kind;
 use crate::reader::Reader;
 use crate::sequence::Sequence;
 use crate::tag::{Entries, Tag, Tags};
-use std::alloc::Global;
+use std::alloc::{AllocError, Global};
 
 /// How deep lists and compounds nest at most, the root being the first. This limit is the project's
 /// own.
 const DEEPEST: u16 = 512;
+
+/// Adds an entry. Where it is the first, room is made for two: as many has a block of a structure, and a file has more
+/// blocks than anything else.
+fn push_entry(
+    entries: &mut Vec<(Sequence<u8>, Tag)>,
+    entry: (Sequence<u8>, Tag),
+) -> Result<(), AllocError>
+    ensures added { OnOk result (entries.new.items ≡ entries.old.items ++ entry ∷ []) }
+{
+    if entries.is_empty() {
+        entries.reserve_exact(2)?;
+    }
+    entries.push(entry)?;
+    Ok(())
+}
 
 impl Reader<'_> {
     /// The name and the payload of the root.
@@ -115,7 +130,7 @@ impl Reader<'_> {
         while let Some(kind) = self.kind()? {
             let name = Sequence::from_vec(Vec::from_slice(alloc, self.text()?)?);
             let tag = self.payload(alloc, kind, room)?;
-            entries.push((name, tag))?;
+            push_entry(&mut entries, (name, tag))?;
         }
         Ok(entries)
     }

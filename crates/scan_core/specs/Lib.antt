@@ -7,3 +7,4 @@ pub mod Answer
 pub mod Mapping
 pub mod Told
 pub mod Cells
+pub mod Texts

@@ -42,6 +42,11 @@ pub enum ScanFault {
 }
 
 impl fmt::Display for Field {
+    ghost use Rattle.std.specs.Prelude.{Some};
+    ghost use Rattle.scan_core.specs.Texts.{field_text};
+
+    ghost output = { λ field. Some (field_text field) };
+
     fn fmt<W: fmt::Write>(&self, f: &mut fmt::Formatter<W>) -> fmt::Result {
         match self {
             Field::SizeField => write!(f, "size"),
@@ -55,6 +60,11 @@ impl fmt::Display for Field {
 }
 
 impl fmt::Display for ScanFault {
+    ghost use Rattle.std.specs.Prelude.{Some};
+    ghost use Rattle.scan_core.specs.Texts.{fault_text};
+
+    ghost output = { λ fault. Some (fault_text fault) };
+
     fn fmt<W: fmt::Write>(&self, f: &mut fmt::Formatter<W>) -> fmt::Result {
         match self {
             ScanFault::Nbt(fault) => write!(f, "{fault}"),

@@ -12,9 +12,9 @@ use Rattle.cave_model.specs.World.{IsUnknownBlock}
 use Rattle.cave_model.specs.declared.fault.BuildFault.{BuildFault}
 use Rattle.cave_model.specs.declared.fault.BuildFault.TheVariants as building
 use Rattle.torch_plan.specs.Faults.{of_scan, of_rows, of_build}
-use Rattle.torch_plan.specs.Runs.{IsFaultOfBytes, IsFaultOfInput, IsRefusedRun, IsDarkTextOf, IsTableFor, IsTableFault, IsNoTable, IsUnknownIn, BeginsDark}
+use Rattle.torch_plan.specs.Runs.{IsFaultOfBytes, IsFaultOfInput, IsRefusedRun, IsDarkTextOf, IsTableFor, IsTableFault, BeginsDark}
 use Rattle.torch_plan.specs.Writing.{AppendsFront}
-use Rattle.torch_plan.specs.declared.limits.TheConstants.{STRUCTURE_LIMIT}
+use Rattle.torch_plan.specs.Limits.{structure_limit}
 use Rattle.torch_plan.specs.declared.fault.RunFault.{RunFault}
 use Rattle.torch_plan.specs.declared.fault.RunFault.TheVariants as faults
 
@@ -97,18 +97,18 @@ module _ (bytes : List ℕ) (table : Option (List ℕ)) where
     built_clean known due (inr (s, scans, inr u)) = known u.2.0 (known_in s u.0 u.2.0 scans u.1 u.2.1)
 
 -- what is said of the bytes that were read, said of those that the reader had
-pub input_fault : (known : Option (List ℕ)) (bytes : List ℕ) (table : Option (List ℕ)) (e : RunFault) → IfSome known (λ b. bytes ≡ b) → length bytes ≤ STRUCTURE_LIMIT → IsFaultOfBytes bytes table e → IfSome known (λ b. IsFaultOfInput b table e)
+pub input_fault : (known : Option (List ℕ)) (bytes : List ℕ) (table : Option (List ℕ)) (e : RunFault) → IfSome known (λ b. bytes ≡ b) → length bytes ≤ structure_limit → IsFaultOfBytes bytes table e → IfSome known (λ b. IsFaultOfInput b table e)
 input_fault None bytes table e same within fault = tt
 input_fault (Some b) bytes table e same within fault =
-    inr (subst (λ (x : List ℕ). length x ≤ STRUCTURE_LIMIT) same within, subst (λ (x : List ℕ). IsFaultOfBytes x table e) same fault)
+    inr (subst (λ (x : List ℕ). length x ≤ structure_limit) same within, subst (λ (x : List ℕ). IsFaultOfBytes x table e) same fault)
 
 -- a fault that is due to an input within the limit is one of its bytes
-pub within_limit : (bytes : List ℕ) (table : Option (List ℕ)) (due : RunFault) → length bytes ≤ STRUCTURE_LIMIT → IsFaultOfInput bytes table due → IsFaultOfBytes bytes table due
+pub within_limit : (bytes : List ℕ) (table : Option (List ℕ)) (due : RunFault) → length bytes ≤ structure_limit → IsFaultOfInput bytes table due → IsFaultOfBytes bytes table due
 within_limit bytes table due within (inl long) = absurd (omega (arith, long.0))
 within_limit bytes table due within (inr fault) = fault.1
 
 -- what the bytes' faults meet, those of the input meet
-pub input_refused : (known : Option (List ℕ)) (bytes : List ℕ) (table : Option (List ℕ)) (Met : RunFault → Type 0) → IfSome known (λ b. bytes ≡ b) → length bytes ≤ STRUCTURE_LIMIT → ((due : RunFault) → IsFaultOfBytes bytes table due → Met due) → IfSome known (λ b. (due : RunFault) → IsFaultOfInput b table due → Met due)
+pub input_refused : (known : Option (List ℕ)) (bytes : List ℕ) (table : Option (List ℕ)) (Met : RunFault → Type 0) → IfSome known (λ b. bytes ≡ b) → length bytes ≤ structure_limit → ((due : RunFault) → IsFaultOfBytes bytes table due → Met due) → IfSome known (λ b. (due : RunFault) → IsFaultOfInput b table due → Met due)
 input_refused None bytes table Met same within met = tt
 input_refused (Some b) bytes table Met same within met =
     λ due fault. met due (within_limit bytes table due within (subst (λ (x : List ℕ). IsFaultOfInput x table due) (sym same) fault))
@@ -117,6 +117,21 @@ input_refused (Some b) bytes table Met same within met =
 pub widened : {X : Type 0} (r : Result X RunFault) (e due : RunFault) → r ≡ Err e → (e ≡ due) ⊎ (e ≡ faults.OutOfMemory) → IsRefusedRun r due
 widened r e due is (inl same) = rw is (inl same)
 widened r e due is (inr none) = rw is (inr (inr none))
+
+-- a failed read is no fault of the bytes
+pub no_failed_read : (bytes : List ℕ) (table : Option (List ℕ)) → IsFaultOfBytes bytes table faults.ReadFailed → ⊥
+no_failed_read bytes table (inl f) = not_scan f.0 f.2
+  where
+    not_scan : (f : ScanFault) → faults.ReadFailed ≡ faults.Scan f → ⊥
+    not_scan f same = cc
+no_failed_read bytes table (inr (scan, scans, inl t)) = not_table t.0 t.2
+  where
+    not_table : (f : RowsFault) → faults.ReadFailed ≡ faults.Table f → ⊥
+    not_table f same = cc
+no_failed_read bytes table (inr (scan, scans, inr u)) = not_build u.2.0 u.2.2
+  where
+    not_build : (f : BuildFault) → faults.ReadFailed ≡ faults.Build f → ⊥
+    not_build f same = cc
 
 -- what a failed write leaves of the text of the bytes that were read
 pub begun_text : {X : Type 0} (r : Result X RunFault) (known : Option (List ℕ)) (bytes : List ℕ) (table : Option (List ℕ)) (headroom : ℕ) (text : List ℕ) (old new : Option (List ℕ)) → IfSome known (λ b. bytes ≡ b) → IsDarkTextOf bytes table headroom text → OnErr r (AppendsFront old new text)

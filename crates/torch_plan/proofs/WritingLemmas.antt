@@ -1,5 +1,5 @@
 -- What a writer took, one write after another.
-use Rattle.std.proofs.Common.{◌≡◌, ℕ, List, [], ◌++◌, take, drop, Option, Some, None, refl, sym, ap, subst, ◌∙◌, append_assoc}
+use Rattle.std.proofs.Common.{◌≡◌, ℕ, ◌<◌, length, List, [], ◌++◌, take, drop, Option, Some, None, refl, sym, ap, subst, ◌∙◌, append_assoc}
 use Rattle.std.proofs.lemmas.List.{take-append-drop, append-nil}
 use Rattle.std.specs.Io.KnownBytes.{Appends, Keeps}
 use Rattle.torch_plan.specs.Writing.{AppendsFront}
@@ -27,8 +27,8 @@ put_more a b c bytes rest n p q = record {
   put = then_appends a b c p.front (take n rest) p.put q;
 }
 
-pub put_kept : (a b c : Option (List ℕ)) (bytes rest : List ℕ) → Put a b bytes rest → Keeps b c → AppendsFront a c bytes
-put_kept a b c bytes rest p q = (p.front, rest, p.parts, kept a b c p.put q)
+pub put_kept : (a b c : Option (List ℕ)) (bytes rest : List ℕ) → Put a b bytes rest → 0 < length rest → Keeps b c → AppendsFront a c bytes
+put_kept a b c bytes rest p left q = (p.front, rest, left, p.parts, kept a b c p.put q)
   where
     kept : (a b c : Option (List ℕ)) → Appends a b p.front → Keeps b c → Appends a c p.front
     kept None b c p q = tt
@@ -36,8 +36,8 @@ put_kept a b c bytes rest p q = (p.front, rest, p.parts, kept a b c p.put q)
     kept (Some x) (Some y) None p q = absurd q
     kept (Some x) (Some y) (Some z) p q = q ∙ p
 
-pub put_none : (a b c : Option (List ℕ)) (bytes rest : List ℕ) → Put a b bytes rest → Appends b c [] → AppendsFront a c bytes
-put_none a b c bytes rest p q = put_kept a b c bytes rest p (kept b c q)
+pub put_none : (a b c : Option (List ℕ)) (bytes rest : List ℕ) → Put a b bytes rest → 0 < length rest → Appends b c [] → AppendsFront a c bytes
+put_none a b c bytes rest p left q = put_kept a b c bytes rest p left (kept b c q)
   where
     kept : (b c : Option (List ℕ)) → Appends b c [] → Keeps b c
     kept None c q = tt

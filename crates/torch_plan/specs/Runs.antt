@@ -14,7 +14,7 @@ use Rattle.cave_model.specs.declared.fault.BuildFault.{BuildFault}
 use Rattle.std.specs.Io.KnownBytes.{Appends}
 use Rattle.torch_plan.specs.DarkText.{IsDarkText}
 use Rattle.torch_plan.specs.Writing.{AppendsFront}
-use Rattle.torch_plan.specs.declared.limits.TheConstants.{STRUCTURE_LIMIT}
+use Rattle.torch_plan.specs.Limits.{structure_limit}
 use Rattle.torch_plan.specs.declared.fault.Input.TheVariants.{StructureInput}
 use Rattle.torch_plan.specs.declared.fault.RunFault.{RunFault}
 use Rattle.torch_plan.specs.declared.fault.RunFault.TheVariants as faults
@@ -60,8 +60,8 @@ IsFaultOfBytes bytes table fault = IsNoStructure bytes fault
 
 -- why an input is refused: it is too long, or tells no cave
 abbrev pub IsFaultOfInput : List ℕ → Option (List ℕ) → RunFault → Type 0
-IsFaultOfInput bytes table fault = ((STRUCTURE_LIMIT < length bytes) × (fault ≡ faults.TooLong StructureInput))
-    ⊎ ((length bytes ≤ STRUCTURE_LIMIT) × IsFaultOfBytes bytes table fault)
+IsFaultOfInput bytes table fault = ((structure_limit < length bytes) × (fault ≡ faults.TooLong StructureInput))
+    ⊎ ((length bytes ≤ structure_limit) × IsFaultOfBytes bytes table fault)
 
 -- the fault lies in the input, and neither in a stream nor in memory
 abbrev pub IsOfInput : RunFault → Type 0

@@ -1,7 +1,10 @@
 ghost use Rattle.std.specs.Prelude.{◌≡◌, ◌≢◌, IfOk, IfErr, IfSome, OnOk, option_copied, string_bytes};
 ghost use Rattle.std.specs.Io.KnownBytes.{Keeps};
 ghost use Rattle.torch_plan.specs.DarkText.{IsDarkText};
-ghost use Rattle.torch_plan.specs.Runs.{BeginsDark, IsDarkTextOf, IsFaultOfBytes, IsFaultOfInput, IsOfInput, IsRefusal, IsRefusedRun, WritesDark};
+ghost use Rattle.torch_plan.specs.Limits.{structure_limit};
+ghost use Rattle.torch_plan.specs.Reading.{GivesAtMost};
+ghost use Rattle.torch_plan.specs.Runs.{BeginsDark, IsDarkTextOf, IsFaultOfBytes, IsFaultOfInput, IsOfInput};
+ghost use Rattle.torch_plan.specs.Runs.{IsRefusal, IsRefusedRun, WritesDark};
 ghost use Rattle.torch_plan.specs.declared.fault.RunFault.{RunFault};
 
 use crate::fault::{Input, RunFault};
@@ -33,8 +36,10 @@ fn text_of(
     table: Option<&[u8]>,
     rule: Rule,
 ) -> Result<String, RunFault>
-    ensures done { IfOk result (λ s. IsDarkTextOf bytes.now (option_copied table.entry) rule.headroom (string_bytes s)) }
-    ensures fault { IfErr result (λ e. e ≢ RunFault.OutOfMemory → IsFaultOfBytes bytes.now (option_copied table.entry) e) }
+    ensures done { IfOk result (λ s.
+        IsDarkTextOf bytes.now (option_copied table.entry) rule.headroom (string_bytes s)) }
+    ensures fault { IfErr result (λ e. e ≢ RunFault.OutOfMemory
+        → IsFaultOfBytes bytes.now (option_copied table.entry) e) }
     ensures refused { (e : RunFault) → IsFaultOfBytes bytes.now (option_copied table.entry) e → IsRefusal result e }
 {
     let scan = read_scan(alloc, bytes)?;
@@ -72,6 +77,9 @@ pub fn run_dark<R: Read, W: Write>(
     // Such a fault is answered, unless a read failed.
     ensures refused { IfSome (R.remaining reader.old) (λ bytes.
         (e : RunFault) → IsFaultOfInput bytes (option_copied table.entry) e → IsRefusedRun result e) }
+    // A failed read comes before more than the limit was read.
+    ensures before { IfErr result (λ e. e ≡ RunFault.ReadFailed
+        → GivesAtMost structure_limit (R.remaining reader.old) (R.remaining reader.new)) }
 {
     let bytes = read_all(alloc, reader, STRUCTURE_LIMIT, Input::StructureInput)?;
     let text = text_of(alloc, &bytes, table, rule)?;

@@ -39,6 +39,11 @@ pub enum RunFault {
 }
 
 impl fmt::Display for Input {
+    ghost use Rattle.std.specs.Prelude.{Some};
+    ghost use Rattle.torch_plan.specs.Texts.{input_text};
+
+    ghost output = { λ input. Some (input_text input) };
+
     fn fmt<W: fmt::Write>(&self, f: &mut fmt::Formatter<W>) -> fmt::Result {
         f.write_str(match *self {
             Input::StructureInput => "structure",

@@ -1,7 +1,8 @@
 ghost use Rattle.std.specs.Prelude.{◌≡◌, ◌≤◌, ◌<◌, ◌⊎◌, length, IfOk, IfErr, IfSome};
 ghost use Rattle.torch_plan.specs.declared.fault.Input.TheVariants.{TableInput};
 ghost use Rattle.torch_plan.specs.declared.fault.RunFault.{RunFault};
-ghost use Rattle.torch_plan.specs.declared.limits.TheConstants.{TABLE_LIMIT};
+ghost use Rattle.torch_plan.specs.Limits.{table_limit};
+ghost use Rattle.torch_plan.specs.Reading.{GivesAtMost};
 
 use crate::fault::{Input, RunFault};
 use crate::limits::{READ_CALLS, TABLE_LIMIT};
@@ -21,6 +22,9 @@ pub fn read_all<R: Read>(
         → IfSome (R.remaining reader.old) (λ bytes. limit < length bytes)) }
     ensures kinds { IfErr result (λ e. (e ≡ RunFault.ReadFailed) ⊎ (e ≡ RunFault.TooLong input)
         ⊎ (e ≡ RunFault.OutOfMemory)) }
+    // A failed read comes before more than the limit was read.
+    ensures before { IfErr result (λ e. e ≡ RunFault.ReadFailed
+        → GivesAtMost limit (R.remaining reader.old) (R.remaining reader.new)) }
 {
     let mut bytes = Vec::new(alloc);
     let mut buffer = [0; 8192];
@@ -45,12 +49,15 @@ pub fn read_all<R: Read>(
 pub fn read_table<R: Read>(alloc: Global, reader: &mut R) -> Result<Vec<u8>, RunFault>
     // What is answered is just what the reader had.
     ensures all { IfOk result (λ v. IfSome (R.remaining reader.old) (λ bytes. v.items ≡ bytes)) }
-    ensures within { IfOk result (λ v. length v.items ≤ TABLE_LIMIT) }
+    ensures within { IfOk result (λ v. length v.items ≤ table_limit) }
     // It is too long only above the limit.
     ensures too_long { IfErr result (λ e. e ≡ RunFault.TooLong TableInput
-        → IfSome (R.remaining reader.old) (λ bytes. TABLE_LIMIT < length bytes)) }
+        → IfSome (R.remaining reader.old) (λ bytes. table_limit < length bytes)) }
     ensures kinds { IfErr result (λ e. (e ≡ RunFault.ReadFailed) ⊎ (e ≡ RunFault.TooLong TableInput)
         ⊎ (e ≡ RunFault.OutOfMemory)) }
+    // A failed read comes before more than the limit was read.
+    ensures before { IfErr result (λ e. e ≡ RunFault.ReadFailed
+        → GivesAtMost table_limit (R.remaining reader.old) (R.remaining reader.new)) }
 {
     read_all(alloc, reader, TABLE_LIMIT, Input::TableInput)
 }

@@ -1,6 +1,39 @@
 //! The caves of the worked examples.
 
 use crate::structure::{Block, Entry, Fill, Structure};
+use block_rows::Rows;
+use cave_model::{Rule, World, build};
+use scan_core::read_scan;
+use std::alloc::Global;
+use std::test::Fail;
+
+/// A block without properties.
+pub const fn block(name: &str) -> Block<'_> {
+    Block { name, props: &[] }
+}
+
+/// A state of the palette, from one corner to the other.
+pub const fn fill(from: [i32; 3], to: [i32; 3], state: i32) -> Fill {
+    Fill {
+        from,
+        to,
+        state: Some(state),
+    }
+}
+
+/// The palette's third state in one cell.
+pub const fn third_at(at: [i32; 3]) -> Fill {
+    fill(at, at, 2)
+}
+
+/// No entry, from one corner to the other.
+pub const fn gap(from: [i32; 3], to: [i32; 3]) -> Fill {
+    Fill {
+        from,
+        to,
+        state: None,
+    }
+}
 
 pub const STONE: Block<'static> = Block {
     name: "minecraft:stone",
@@ -9,6 +42,26 @@ pub const STONE: Block<'static> = Block {
 
 pub const AIR: Block<'static> = Block {
     name: "minecraft:air",
+    props: &[],
+};
+
+pub const WATER: Block<'static> = Block {
+    name: "minecraft:water",
+    props: &[],
+};
+
+pub const TORCH: Block<'static> = Block {
+    name: "minecraft:torch",
+    props: &[],
+};
+
+pub const LANTERN: Block<'static> = Block {
+    name: "minecraft:lantern",
+    props: &[],
+};
+
+pub const STAIRS: Block<'static> = Block {
+    name: "minecraft:oak_stairs",
     props: &[],
 };
 
@@ -46,4 +99,55 @@ pub const fn long_box<'a>(
         fills,
         more,
     }
+}
+
+pub const EMPTY: Structure<'static> = Structure {
+    size: [0, 0, 0],
+    palette: &[],
+    fills: &[],
+    more: &[],
+};
+
+/// Two free cells over one of stone.
+pub const PILLAR: Structure<'static> = Structure {
+    size: [1, 3, 1],
+    palette: &[STONE, AIR],
+    fills: &[
+        Fill {
+            from: [0, 0, 0],
+            to: [0, 0, 0],
+            state: Some(0),
+        },
+        Fill {
+            from: [0, 1, 0],
+            to: [0, 2, 0],
+            state: Some(1),
+        },
+    ],
+    more: &[],
+};
+
+pub const CORRIDOR_28: Structure<'static> = Structure {
+    size: [30, 4, 3],
+    palette: &[STONE, AIR],
+    fills: &[
+        Fill {
+            from: [0, 0, 0],
+            to: [29, 3, 2],
+            state: Some(0),
+        },
+        Fill {
+            from: [1, 1, 1],
+            to: [28, 2, 1],
+            state: Some(1),
+        },
+    ],
+    more: &[],
+};
+
+/// The cave of a structure by a user's table; by the shipped rows alone where it is empty.
+pub fn world_by(alloc: Global, structure: &Structure<'_>, table: &[u8]) -> Result<World, Fail> {
+    let scan = read_scan(alloc, &structure.bytes(alloc)?)?;
+    let rows = Rows::with_table(alloc, table)?;
+    Ok(build(alloc, &scan, &rows, Rule::new(2))?)
 }

@@ -1,18 +1,13 @@
 //! Which place lights which dark cell in the worked caves.
 
-use crate::caves::{AIR, DUG, FELT, FELT_TABLE, ROCK, STONE, long_box};
+use crate::caves::{
+    AIR, DUG, EMPTY, FELT, FELT_TABLE, PILLAR, ROCK, STONE, TORCH, fill, long_box, third_at,
+    world_by,
+};
 use crate::structure::{Block, Fill, Structure};
-use block_rows::Rows;
-use cave_model::{Rule, World, build};
 use cover_rows::{CoverFault, Problem};
-use scan_core::read_scan;
 use std::alloc::Global;
 use std::test::Fail;
-
-const TORCH: Block<'static> = Block {
-    name: "minecraft:torch",
-    props: &[],
-};
 
 /// The ring: 28 cells round an 8 x 8 square, two high.
 const RING: [Fill; 3] = [
@@ -33,15 +28,6 @@ const RING: [Fill; 3] = [
     },
 ];
 
-/// One block of the palette's third state.
-const fn third_at(at: [i32; 3]) -> Fill {
-    Fill {
-        from: at,
-        to: at,
-        state: Some(2),
-    }
-}
-
 /// A box of 10 x 4 x 10 with these fills.
 const fn ring_box<'a>(palette: &'a [Block<'a>], fills: &'a [Fill]) -> Structure<'a> {
     Structure {
@@ -52,14 +38,8 @@ const fn ring_box<'a>(palette: &'a [Block<'a>], fills: &'a [Fill]) -> Structure<
     }
 }
 
-fn world(alloc: Global, structure: &Structure<'_>) -> Result<World, Fail> {
-    let scan = read_scan(alloc, &structure.bytes(alloc)?)?;
-    let rows = Rows::with_table(alloc, FELT_TABLE)?;
-    Ok(build(alloc, &scan, &rows, Rule::new(2))?)
-}
-
 fn problem(alloc: Global, structure: &Structure<'_>) -> Result<Problem, Fail> {
-    Ok(Problem::new(alloc, &world(alloc, structure)?)?)
+    Ok(Problem::new(alloc, &world_by(alloc, structure, FELT_TABLE)?)?)
 }
 
 /// How many dark cells the place lights.
@@ -119,21 +99,9 @@ fn fifty_two_places_light_each_cell_of_the_ring(rt: HostRuntime) -> Result<(), F
 #[test]
 fn the_centre_of_the_plus_lights_53_of_57(rt: HostRuntime) -> Result<(), Fail> {
     let fills = [
-        Fill {
-            from: [0, 0, 0],
-            to: [30, 3, 30],
-            state: Some(0),
-        },
-        Fill {
-            from: [1, 1, 15],
-            to: [29, 2, 15],
-            state: Some(1),
-        },
-        Fill {
-            from: [15, 1, 1],
-            to: [15, 2, 29],
-            state: Some(1),
-        },
+        fill([0, 0, 0], [30, 3, 30], 0),
+        fill([1, 1, 15], [29, 2, 15], 1),
+        fill([15, 1, 1], [15, 2, 29], 1),
     ];
     let palette = [STONE, AIR];
     let plus = Structure {
@@ -154,17 +122,9 @@ fn the_centre_of_the_plus_lights_53_of_57(rt: HostRuntime) -> Result<(), Fail> {
 #[test]
 fn light_stays_in_its_corridor(rt: HostRuntime) -> Result<(), Fail> {
     let fills = [
-        Fill {
-            from: [0, 0, 0],
-            to: [28, 3, 4],
-            state: Some(0),
-        },
+        fill([0, 0, 0], [28, 3, 4], 0),
         DUG,
-        Fill {
-            from: [1, 1, 3],
-            to: [27, 2, 3],
-            state: Some(1),
-        },
+        fill([1, 1, 3], [27, 2, 3], 1),
     ];
     let palette = [STONE, AIR];
     let cave = Structure {
@@ -193,13 +153,7 @@ fn a_torch_that_is_there_leaves_nothing_dark(rt: HostRuntime) -> Result<(), Fail
 
 #[test]
 fn the_empty_box_has_no_cells_and_no_places(rt: HostRuntime) -> Result<(), Fail> {
-    let empty = Structure {
-        size: [0, 0, 0],
-        palette: &[],
-        fills: &[],
-        more: &[],
-    };
-    let problem = problem(rt.alloc(), &empty)?;
+    let problem = problem(rt.alloc(), &EMPTY)?;
     assert_eq!(rt; problem.dark().len(), 0);
     assert_eq!(rt; problem.places().len(), 0);
     assert_eq!(rt; problem.lights(0, 0), false);
@@ -208,26 +162,7 @@ fn the_empty_box_has_no_cells_and_no_places(rt: HostRuntime) -> Result<(), Fail>
 
 #[test]
 fn the_pillar_has_one_cell_and_one_place(rt: HostRuntime) -> Result<(), Fail> {
-    let fills = [
-        Fill {
-            from: [0, 0, 0],
-            to: [0, 0, 0],
-            state: Some(0),
-        },
-        Fill {
-            from: [0, 1, 0],
-            to: [0, 2, 0],
-            state: Some(1),
-        },
-    ];
-    let palette = [STONE, AIR];
-    let pillar = Structure {
-        size: [1, 3, 1],
-        palette: &palette,
-        fills: &fills,
-        more: &[],
-    };
-    let problem = problem(rt.alloc(), &pillar)?;
+    let problem = problem(rt.alloc(), &PILLAR)?;
     assert_eq!(rt; problem.dark(), [1].as_slice());
     assert_eq!(rt; problem.places(), [1].as_slice());
     assert_eq!(rt; problem.lights(1, 1), true);
@@ -247,7 +182,11 @@ fn faults_have_their_words(rt: HostRuntime) -> Result<(), Fail> {
 /// Where memory is refused, no cell is named.
 #[test]
 fn refused_memory_names_no_cell(rt: HostRuntime) -> Result<(), Fail> {
-    let world = world(rt.alloc(), &long_box(&[STONE, AIR], &[ROCK, DUG], &[]))?;
+    let world = world_by(
+        rt.alloc(),
+        &long_box(&[STONE, AIR], &[ROCK, DUG], &[]),
+        FELT_TABLE,
+    )?;
     match Problem::new(rt.alloc(), &world) {
         Ok(problem) => assert_eq!(rt; problem.dark().len(), 27),
         Err(fault) => assert_eq!(rt; fault, CoverFault::OutOfMemory),
@@ -278,7 +217,11 @@ fn each_place_of_the_felt_ring_leaves_one_cell(rt: HostRuntime) -> Result<(), Fa
 
 #[test]
 fn no_place_lights_the_corridor_of_felt(rt: HostRuntime) -> Result<(), Fail> {
-    let world = world(rt.alloc(), &long_box(&[FELT, AIR], &[ROCK, DUG], &[]))?;
+    let world = world_by(
+        rt.alloc(),
+        &long_box(&[FELT, AIR], &[ROCK, DUG], &[]),
+        FELT_TABLE,
+    )?;
     match Problem::new(rt.alloc(), &world) {
         Err(CoverFault::Unlightable { cell }) => assert_eq!(rt; cell, 117),
         other => assert!(rt; false, "{other:?}"),
@@ -289,7 +232,11 @@ fn no_place_lights_the_corridor_of_felt(rt: HostRuntime) -> Result<(), Fail> {
 #[test]
 fn the_first_cell_without_a_place_is_named(rt: HostRuntime) -> Result<(), Fail> {
     let fills = [ROCK, DUG, third_at([1, 0, 1])];
-    let world = world(rt.alloc(), &long_box(&[FELT, AIR, STONE], &fills, &[]))?;
+    let world = world_by(
+        rt.alloc(),
+        &long_box(&[FELT, AIR, STONE], &fills, &[]),
+        FELT_TABLE,
+    )?;
     match Problem::new(rt.alloc(), &world) {
         Err(CoverFault::Unlightable { cell }) => assert_eq!(rt; cell, 131),
         other => assert!(rt; false, "{other:?}"),

@@ -1,29 +1,10 @@
 //! Inputs that are cut, changed or no structure at all.
 
-use crate::caves::{AIR, DUG, ROCK, STONE, long_box};
+use crate::caves::{AIR, DUG, PILLAR, ROCK, STONE, long_box};
 use crate::running::{dark, refuses};
-use crate::structure::{Fill, Structure};
 use nbt_core::read_root;
 use std::test::Fail;
 use torch_plan::Rule;
-
-const PILLAR: Structure<'static> = Structure {
-    size: [1, 3, 1],
-    palette: &[STONE, AIR],
-    fills: &[
-        Fill {
-            from: [0, 0, 0],
-            to: [0, 0, 0],
-            state: Some(0),
-        },
-        Fill {
-            from: [0, 1, 0],
-            to: [0, 2, 0],
-            state: Some(1),
-        },
-    ],
-    more: &[],
-};
 
 #[test]
 fn an_empty_root_lacks_a_size(rt: HostRuntime) -> Result<(), Fail> {

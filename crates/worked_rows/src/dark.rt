@@ -1,75 +1,81 @@
 //! The worked examples by `dark`.
 
-use crate::caves::{AIR, DUG, ROCK, STONE, long_box};
+use crate::caves::{
+    AIR, CORRIDOR_28, DUG, EMPTY, LANTERN, PILLAR, ROCK, STAIRS, STONE, TORCH, block, fill, gap,
+    long_box, third_at,
+};
 use crate::running::{prints, refuses, row_of_cells};
-use crate::structure::{Block, Entry, Fill, Structure};
+use crate::structure::{Block, Entry, Fill};
+use std::alloc::Global;
+use std::process::Abort;
 use std::test::Fail;
 use torch_plan::Rule;
 
+/// `dark` prints this text of the corridor of 27 with this change and these entries behind those of its box.
+fn corridor_prints(
+    rt: &impl Abort,
+    alloc: Global,
+    third: Block<'_>,
+    change: Fill,
+    more: &[Entry],
+    text: &str,
+) -> Result<(), Fail> {
+    let palette = [STONE, AIR, third];
+    let fills = [ROCK, DUG, change];
+    prints(
+        rt,
+        alloc,
+        &long_box(&palette, &fills, more),
+        Rule::new(2),
+        text,
+    )
+}
+
+/// `dark` refuses the corridor of 27 with this block in a corner in these words.
+fn corner_is_refused(
+    rt: &impl Abort,
+    alloc: Global,
+    corner: Block<'_>,
+    line: &str,
+) -> Result<(), Fail> {
+    let palette = [STONE, AIR, corner];
+    let fills = [ROCK, DUG, third_at([0, 0, 0])];
+    refuses(
+        rt,
+        alloc,
+        &long_box(&palette, &fills, &[]).bytes(alloc)?,
+        line,
+    )
+}
+
 #[test]
 fn an_empty_box_has_no_dark_cell(rt: HostRuntime) -> Result<(), Fail> {
-    let empty = Structure {
-        size: [0, 0, 0],
-        palette: &[],
-        fills: &[],
-        more: &[],
-    };
-    let bytes = empty.bytes(rt.alloc())?;
+    let bytes = EMPTY.bytes(rt.alloc())?;
     assert_eq!(rt; bytes.len(), 57);
-    prints(&rt, rt.alloc(), &empty, Rule::new(2), "dark 0\n")
+    prints(&rt, rt.alloc(), &EMPTY, Rule::new(2), "dark 0\n")
 }
 
 #[test]
 fn a_corridor_of_27_is_dark(rt: HostRuntime) -> Result<(), Fail> {
     let text = row_of_cells(rt.alloc(), &[(1, 27)])?;
-    prints(
-        &rt,
-        rt.alloc(),
-        &long_box(&[STONE, AIR], &[ROCK, DUG], &[]),
-        Rule::new(2),
-        text.as_str(),
-    )
-}
-
-#[test]
-fn a_corridor_of_28_is_dark(rt: HostRuntime) -> Result<(), Fail> {
-    let cave = Structure {
-        size: [30, 4, 3],
-        palette: &[STONE, AIR],
-        fills: &[
-            Fill {
-                from: [0, 0, 0],
-                to: [29, 3, 2],
-                state: Some(0),
-            },
-            Fill {
-                from: [1, 1, 1],
-                to: [28, 2, 1],
-                state: Some(1),
-            },
-        ],
-        more: &[],
-    };
-    let text = row_of_cells(rt.alloc(), &[(1, 28)])?;
+    let cave = long_box(&[STONE, AIR], &[ROCK, DUG], &[]);
     prints(&rt, rt.alloc(), &cave, Rule::new(2), text.as_str())
 }
 
 #[test]
+fn a_corridor_of_28_is_dark(rt: HostRuntime) -> Result<(), Fail> {
+    let text = row_of_cells(rt.alloc(), &[(1, 28)])?;
+    prints(&rt, rt.alloc(), &CORRIDOR_28, Rule::new(2), text.as_str())
+}
+
+#[test]
 fn a_torch_in_the_middle_lights_a_corridor_of_27(rt: HostRuntime) -> Result<(), Fail> {
-    let torch = Block {
-        name: "minecraft:torch",
-        props: &[],
-    };
-    let there = Fill {
-        from: [14, 1, 1],
-        to: [14, 1, 1],
-        state: Some(2),
-    };
-    prints(
+    corridor_prints(
         &rt,
         rt.alloc(),
-        &long_box(&[STONE, AIR, torch], &[ROCK, DUG, there], &[]),
-        Rule::new(2),
+        TORCH,
+        third_at([14, 1, 1]),
+        &[],
         "dark 0\n",
     )
 }
@@ -77,30 +83,11 @@ fn a_torch_in_the_middle_lights_a_corridor_of_27(rt: HostRuntime) -> Result<(), 
 #[test]
 fn void_in_the_corridor_is_no_cell_for_a_mob(rt: HostRuntime) -> Result<(), Fail> {
     let text = row_of_cells(rt.alloc(), &[(1, 13), (15, 27)])?;
-    let below = Fill {
-        from: [14, 1, 1],
-        to: [14, 1, 1],
-        state: None,
-    };
-    prints(
-        &rt,
-        rt.alloc(),
-        &long_box(&[STONE, AIR], &[ROCK, DUG, below], &[]),
-        Rule::new(2),
-        text.as_str(),
-    )?;
-    let both = Fill {
-        from: [14, 1, 1],
-        to: [14, 2, 1],
-        state: None,
-    };
-    prints(
-        &rt,
-        rt.alloc(),
-        &long_box(&[STONE, AIR], &[ROCK, DUG, both], &[]),
-        Rule::new(2),
-        text.as_str(),
-    )
+    for to in [[14, 1, 1], [14, 2, 1]] {
+        let void = gap([14, 1, 1], to);
+        corridor_prints(&rt, rt.alloc(), TORCH, void, &[], text.as_str())?;
+    }
+    Ok(())
 }
 
 #[test]
@@ -110,13 +97,9 @@ fn the_last_entry_of_a_position_counts(rt: HostRuntime) -> Result<(), Fail> {
         at: [14, 1, 1],
         state: 0,
     };
-    prints(
-        &rt,
-        rt.alloc(),
-        &long_box(&[STONE, AIR], &[ROCK, DUG], &[stone]),
-        Rule::new(2),
-        text.as_str(),
-    )
+    let more = [stone];
+    let cave = long_box(&[STONE, AIR], &[ROCK, DUG], &more);
+    prints(&rt, rt.alloc(), &cave, Rule::new(2), text.as_str())
 }
 
 #[test]
@@ -125,110 +108,59 @@ fn an_entry_outside_the_box_is_refused(rt: HostRuntime) -> Result<(), Fail> {
         at: [29, 0, 0],
         state: 0,
     };
+    let bytes = long_box(&[STONE, AIR], &[ROCK, DUG], &[outside]).bytes(rt.alloc())?;
     refuses(
         &rt,
         rt.alloc(),
-        &long_box(&[STONE, AIR], &[ROCK, DUG], &[outside]).bytes(rt.alloc())?,
+        &bytes,
         "structure: block 348 outside the box",
     )
 }
 
 #[test]
 fn an_unknown_block_is_refused_by_name(rt: HostRuntime) -> Result<(), Fail> {
-    let stairs = Block {
-        name: "minecraft:oak_stairs",
-        props: &[],
-    };
-    let there = Fill {
-        from: [0, 0, 0],
-        to: [0, 0, 0],
-        state: Some(2),
-    };
-    refuses(
+    corner_is_refused(
         &rt,
         rt.alloc(),
-        &long_box(&[STONE, AIR, stairs], &[ROCK, DUG, there], &[]).bytes(rt.alloc())?,
+        STAIRS,
         "unknown block minecraft:oak_stairs",
     )
 }
 
 #[test]
 fn an_unknown_block_that_no_cell_names_is_not_judged(rt: HostRuntime) -> Result<(), Fail> {
-    let stairs = Block {
-        name: "minecraft:oak_stairs",
-        props: &[],
-    };
-    let overwritten = Entry {
-        at: [0, 0, 0],
-        state: 2,
-    };
-    let stone = Entry {
-        at: [0, 0, 0],
-        state: 0,
-    };
     let text = row_of_cells(rt.alloc(), &[(1, 27)])?;
-    prints(
-        &rt,
-        rt.alloc(),
-        &long_box(&[STONE, AIR, stairs], &[ROCK, DUG], &[overwritten, stone]),
-        Rule::new(2),
-        text.as_str(),
-    )
+    let overwritten = [2, 0].map(|state| Entry {
+        at: [0, 0, 0],
+        state,
+    });
+    let cave = long_box(&[STONE, AIR, STAIRS], &[ROCK, DUG], &overwritten);
+    prints(&rt, rt.alloc(), &cave, Rule::new(2), text.as_str())
 }
 
 #[test]
 fn a_name_is_printed_with_its_odd_bytes_escaped(rt: HostRuntime) -> Result<(), Fail> {
-    let odd = Block {
-        name: "a ~\\\u{7f}\u{7}é",
-        props: &[],
-    };
-    let there = Fill {
-        from: [0, 0, 0],
-        to: [0, 0, 0],
-        state: Some(2),
-    };
-    refuses(
+    let odd = block("a ~\\\u{7f}\u{7}é");
+    corner_is_refused(
         &rt,
         rt.alloc(),
-        &long_box(&[STONE, AIR, odd], &[ROCK, DUG, there], &[]).bytes(rt.alloc())?,
+        odd,
         "unknown block a ~\\x5c\\x7f\\x07\\xc3\\xa9",
     )
 }
 
 #[test]
 fn the_pillar_has_one_dark_cell(rt: HostRuntime) -> Result<(), Fail> {
-    let pillar = Structure {
-        size: [1, 3, 1],
-        palette: &[STONE, AIR],
-        fills: &[
-            Fill {
-                from: [0, 0, 0],
-                to: [0, 0, 0],
-                state: Some(0),
-            },
-            Fill {
-                from: [0, 1, 0],
-                to: [0, 2, 0],
-                state: Some(1),
-            },
-        ],
-        more: &[],
-    };
-    let bytes = pillar.bytes(rt.alloc())?;
+    let bytes = PILLAR.bytes(rt.alloc())?;
     assert_eq!(rt; bytes.len(), 213);
-    prints(&rt, rt.alloc(), &pillar, Rule::new(2), "dark 1\n0 1 0\n")?;
-    prints(&rt, rt.alloc(), &pillar, Rule::new(1), "dark 1\n0 1 0\n")
+    prints(&rt, rt.alloc(), &PILLAR, Rule::new(2), "dark 1\n0 1 0\n")?;
+    prints(&rt, rt.alloc(), &PILLAR, Rule::new(1), "dark 1\n0 1 0\n")
 }
 
 #[test]
 fn one_free_cell_is_enough_under_headroom_1_alone(rt: HostRuntime) -> Result<(), Fail> {
-    let low = Fill {
-        from: [1, 1, 1],
-        to: [27, 1, 1],
-        state: Some(1),
-    };
     let palette = [STONE, AIR];
-    let fills = [ROCK, low];
+    let fills = [ROCK, fill([1, 1, 1], [27, 1, 1], 1)];
     let cave = long_box(&palette, &fills, &[]);
     let text = row_of_cells(rt.alloc(), &[(1, 27)])?;
     prints(&rt, rt.alloc(), &cave, Rule::new(2), "dark 0\n")?;
@@ -237,55 +169,26 @@ fn one_free_cell_is_enough_under_headroom_1_alone(rt: HostRuntime) -> Result<(),
 
 #[test]
 fn a_lamp_lights_only_where_it_is_lit(rt: HostRuntime) -> Result<(), Fail> {
-    let out = Block {
-        name: "minecraft:redstone_lamp",
-        props: &[],
-    };
+    let out = block("minecraft:redstone_lamp");
     let lit = Block {
         name: "minecraft:redstone_lamp",
         props: &[("lit", "true")],
     };
-    let there = Fill {
-        from: [14, 0, 1],
-        to: [14, 0, 1],
-        state: Some(2),
-    };
+    let below = third_at([14, 0, 1]);
     let text = row_of_cells(rt.alloc(), &[(1, 27)])?;
-    prints(
-        &rt,
-        rt.alloc(),
-        &long_box(&[STONE, AIR, out], &[ROCK, DUG, there], &[]),
-        Rule::new(2),
-        text.as_str(),
-    )?;
-    let there = Fill {
-        from: [14, 0, 1],
-        to: [14, 0, 1],
-        state: Some(2),
-    };
-    prints(
-        &rt,
-        rt.alloc(),
-        &long_box(&[STONE, AIR, lit], &[ROCK, DUG, there], &[]),
-        Rule::new(2),
-        "dark 0\n",
-    )
+    corridor_prints(&rt, rt.alloc(), out, below, &[], text.as_str())?;
+    corridor_prints(&rt, rt.alloc(), lit, below, &[], "dark 0\n")
 }
 
 #[test]
 fn a_lantern_reaches_fourteen_steps(rt: HostRuntime) -> Result<(), Fail> {
-    let lantern = Block {
-        name: "minecraft:lantern",
-        props: &[],
-    };
-    let there = Fill {
-        from: [1, 1, 1],
-        to: [1, 1, 1],
-        state: Some(2),
-    };
-    let palette = [STONE, AIR, lantern];
-    let fills = [ROCK, DUG, there];
-    let cave = long_box(&palette, &fills, &[]);
     let text = row_of_cells(rt.alloc(), &[(16, 27)])?;
-    prints(&rt, rt.alloc(), &cave, Rule::new(2), text.as_str())
+    corridor_prints(
+        &rt,
+        rt.alloc(),
+        LANTERN,
+        third_at([1, 1, 1]),
+        &[],
+        text.as_str(),
+    )
 }

@@ -1,28 +1,18 @@
 //! Light, reach and hangs in the worked caves.
 
-use crate::caves::{AIR, DUG, ROCK, STONE, long_box};
-use crate::structure::{Block, Fill, Structure};
-use block_rows::Rows;
-use cave_model::{Hang, Rule, World, build};
+use crate::caves::{
+    AIR, CORRIDOR_28, DUG, LANTERN, ROCK, STONE, WATER, block, fill, gap, long_box, third_at,
+    world_by,
+};
+use crate::structure::Structure;
+use cave_model::{Hang, World};
 use light_flood::{Levels, light, reach};
-use scan_core::read_scan;
 use std::alloc::Global;
 use std::process::Abort;
 use std::test::Fail;
 
-const WATER: Block<'static> = Block {
-    name: "minecraft:water",
-    props: &[],
-};
-
-const LANTERN: Block<'static> = Block {
-    name: "minecraft:lantern",
-    props: &[],
-};
-
 fn world(alloc: Global, structure: &Structure<'_>) -> Result<World, Fail> {
-    let scan = read_scan(alloc, &structure.bytes(alloc)?)?;
-    Ok(build(alloc, &scan, &Rows::shipped(alloc)?, Rule::new(2))?)
+    world_by(alloc, structure, b"")
 }
 
 /// The cell has this level.
@@ -66,26 +56,7 @@ fn a_torch_one_higher_lights_25_of_27(rt: HostRuntime) -> Result<(), Fail> {
 
 #[test]
 fn light_ends_thirteen_steps_from_a_torch(rt: HostRuntime) -> Result<(), Fail> {
-    let fills = [
-        Fill {
-            from: [0, 0, 0],
-            to: [29, 3, 2],
-            state: Some(0),
-        },
-        Fill {
-            from: [1, 1, 1],
-            to: [28, 2, 1],
-            state: Some(1),
-        },
-    ];
-    let palette = [STONE, AIR];
-    let cave = Structure {
-        size: [30, 4, 3],
-        palette: &palette,
-        fills: &fills,
-        more: &[],
-    };
-    let world = world(rt.alloc(), &cave)?;
+    let world = world(rt.alloc(), &CORRIDOR_28)?;
     assert_eq!(rt; world.cell_count(), 360);
     let reach = reach(rt.alloc(), &world, 127, 14)?;
     assert_eq!(rt; reach.at(140), 1);
@@ -106,12 +77,8 @@ fn without_sources_no_cell_has_light(rt: HostRuntime) -> Result<(), Fail> {
 #[test]
 fn lantern_lava_and_glowstone_light_their_neighbours(rt: HostRuntime) -> Result<(), Fail> {
     for name in ["minecraft:lantern", "minecraft:lava", "minecraft:glowstone"] {
-        let palette = [STONE, AIR, Block { name, props: &[] }];
-        let there = Fill {
-            from: [14, 0, 1],
-            to: [14, 0, 1],
-            state: Some(2),
-        };
+        let palette = [STONE, AIR, block(name)];
+        let there = third_at([14, 0, 1]);
         let fills = [ROCK, DUG, there];
         let levels = light(
             rt.alloc(),
@@ -130,26 +97,10 @@ fn lantern_lava_and_glowstone_light_their_neighbours(rt: HostRuntime) -> Result<
 fn light_goes_round_a_corner(rt: HostRuntime) -> Result<(), Fail> {
     let palette = [STONE, AIR, LANTERN];
     let fills = [
-        Fill {
-            from: [0, 0, 0],
-            to: [4, 0, 4],
-            state: Some(0),
-        },
-        Fill {
-            from: [0, 0, 0],
-            to: [4, 0, 0],
-            state: Some(1),
-        },
-        Fill {
-            from: [4, 0, 0],
-            to: [4, 0, 4],
-            state: Some(1),
-        },
-        Fill {
-            from: [0, 0, 0],
-            to: [0, 0, 0],
-            state: Some(2),
-        },
+        fill([0, 0, 0], [4, 0, 4], 0),
+        fill([0, 0, 0], [4, 0, 0], 1),
+        fill([4, 0, 0], [4, 0, 4], 1),
+        third_at([0, 0, 0]),
     ];
     let cave = Structure {
         size: [5, 1, 5],
@@ -168,16 +119,8 @@ fn light_goes_round_a_corner(rt: HostRuntime) -> Result<(), Fail> {
 #[test]
 fn light_goes_over_void_and_through_water(rt: HostRuntime) -> Result<(), Fail> {
     let palette = [STONE, AIR, LANTERN, WATER];
-    let lantern = Fill {
-        from: [1, 1, 1],
-        to: [1, 1, 1],
-        state: Some(2),
-    };
-    let gap = Fill {
-        from: [3, 1, 1],
-        to: [3, 1, 1],
-        state: None,
-    };
+    let lantern = third_at([1, 1, 1]);
+    let gap = gap([3, 1, 1], [3, 1, 1]);
     let fills = [ROCK, DUG, lantern, gap];
     let levels = light(
         rt.alloc(),
@@ -186,16 +129,8 @@ fn light_goes_over_void_and_through_water(rt: HostRuntime) -> Result<(), Fail> {
     has(&rt, &levels, 118, 14);
     has(&rt, &levels, 119, 0);
     has(&rt, &levels, 120, 10);
-    let lantern = Fill {
-        from: [1, 1, 1],
-        to: [1, 1, 1],
-        state: Some(2),
-    };
-    let pond = Fill {
-        from: [2, 1, 1],
-        to: [27, 2, 1],
-        state: Some(3),
-    };
+    let lantern = third_at([1, 1, 1]);
+    let pond = fill([2, 1, 1], [27, 2, 1], 3);
     let fills = [ROCK, DUG, lantern, pond];
     let levels = light(
         rt.alloc(),
@@ -219,11 +154,7 @@ fn a_torch_hangs_on_the_floor_where_it_can(rt: HostRuntime) -> Result<(), Fail> 
 #[test]
 fn over_water_a_torch_hangs_on_the_southern_wall(rt: HostRuntime) -> Result<(), Fail> {
     let palette = [STONE, AIR, WATER];
-    let floor = Fill {
-        from: [0, 0, 0],
-        to: [28, 0, 2],
-        state: Some(2),
-    };
+    let floor = fill([0, 0, 0], [28, 0, 2], 2);
     let fills = [ROCK, DUG, floor];
     let world = world(rt.alloc(), &long_box(&palette, &fills, &[]))?;
     assert_eq!(rt; world.cell_count(), 348);

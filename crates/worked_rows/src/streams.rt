@@ -1,8 +1,6 @@
 //! Readers and writers that fail.
 
-use crate::caves::{AIR, STONE};
-use crate::structure::{Fill, Structure};
-use std::alloc::{AllocError, Global};
+use crate::caves::PILLAR;
 use std::io::{Error, ErrorKind, Read, Result as Done, Write};
 use std::test::Fail;
 use torch_plan::{Rule, RunFault, run_dark};
@@ -55,33 +53,12 @@ impl Write for Taking {
     }
 }
 
-fn pillar(alloc: Global) -> Result<Vec<u8>, AllocError> {
-    let structure = Structure {
-        size: [1, 3, 1],
-        palette: &[STONE, AIR],
-        fills: &[
-            Fill {
-                from: [0, 0, 0],
-                to: [0, 0, 0],
-                state: Some(0),
-            },
-            Fill {
-                from: [0, 1, 0],
-                to: [0, 2, 0],
-                state: Some(1),
-            },
-        ],
-        more: &[],
-    };
-    structure.bytes(alloc)
-}
-
 const TEXT: &[u8] = b"dark 1\n0 1 0\n";
 
 #[test]
 fn a_reader_may_give_one_byte_a_call(rt: HostRuntime) -> Result<(), Fail> {
     let alloc = rt.alloc();
-    let bytes = pillar(alloc)?;
+    let bytes = PILLAR.bytes(alloc)?;
     let mut reader = Reading {
         rest: &bytes,
         chunk: 1,
@@ -97,7 +74,7 @@ fn a_reader_may_give_one_byte_a_call(rt: HostRuntime) -> Result<(), Fail> {
 #[test]
 fn a_read_that_fails_anywhere_is_told_and_nothing_is_written(rt: HostRuntime) -> Result<(), Fail> {
     let alloc = rt.alloc();
-    let bytes = pillar(alloc)?;
+    let bytes = PILLAR.bytes(alloc)?;
     for fails_at in 0..=bytes.len() {
         let mut reader = Reading {
             rest: &bytes,
@@ -116,7 +93,7 @@ fn a_read_that_fails_anywhere_is_told_and_nothing_is_written(rt: HostRuntime) ->
 #[test]
 fn a_writer_may_take_one_byte_a_call(rt: HostRuntime) -> Result<(), Fail> {
     let alloc = rt.alloc();
-    let bytes = pillar(alloc)?;
+    let bytes = PILLAR.bytes(alloc)?;
     let mut reader = bytes.as_slice();
     let mut writer = Taking {
         taken: Vec::new(alloc),
@@ -131,7 +108,7 @@ fn a_writer_may_take_one_byte_a_call(rt: HostRuntime) -> Result<(), Fail> {
 #[test]
 fn a_writer_that_takes_nothing_has_failed(rt: HostRuntime) -> Result<(), Fail> {
     let alloc = rt.alloc();
-    let bytes = pillar(alloc)?;
+    let bytes = PILLAR.bytes(alloc)?;
     let mut reader = bytes.as_slice();
     let mut writer = Taking {
         taken: Vec::new(alloc),
@@ -147,7 +124,7 @@ fn a_writer_that_takes_nothing_has_failed(rt: HostRuntime) -> Result<(), Fail> {
 #[test]
 fn a_write_that_fails_leaves_a_beginning(rt: HostRuntime) -> Result<(), Fail> {
     let alloc = rt.alloc();
-    let bytes = pillar(alloc)?;
+    let bytes = PILLAR.bytes(alloc)?;
     for fails_at in 0..TEXT.len() {
         let mut reader = bytes.as_slice();
         let mut writer = Taking {

@@ -1,16 +1,14 @@
 //! Runs with a user's table, and what such tables do to light and to torches.
 
-use crate::caves::{AIR, DUG, FELT, FELT_TABLE, ROCK, STONE, long_box};
+use crate::caves::{AIR, DUG, FELT, FELT_TABLE, ROCK, STONE, long_box, third_at, world_by};
 use crate::running::{dark_by, row_of_cells};
-use crate::structure::{Block, Fill, Structure};
-use block_rows::Rows;
-use cave_model::{Hang, Rule, World, build};
+use crate::structure::{Block, Structure};
+use cave_model::Hang;
 use light_flood::reach;
-use scan_core::read_scan;
 use std::alloc::Global;
 use std::process::Abort;
 use std::test::Fail;
-use torch_plan::{Input, RunFault, read_table};
+use torch_plan::{Input, Rule, RunFault, read_table};
 
 const FOG: &[u8] = b"[[row]]\nname = \"cave:fog\"\nopacity = 3\nfree = true\n";
 
@@ -18,15 +16,6 @@ const FOG_BLOCK: Block<'static> = Block {
     name: "cave:fog",
     props: &[],
 };
-
-/// Felt, or fog, in one cell.
-const fn patch(at: [i32; 3]) -> Fill {
-    Fill {
-        from: at,
-        to: at,
-        state: Some(2),
-    }
-}
 
 /// The run by this table prints just this text.
 fn prints_by(
@@ -56,15 +45,10 @@ fn refuses_by(
     Ok(())
 }
 
-fn world_by(alloc: Global, structure: &Structure<'_>, table: &[u8]) -> Result<World, Fail> {
-    let scan = read_scan(alloc, &structure.bytes(alloc)?)?;
-    Ok(build(alloc, &scan, &Rows::with_table(alloc, table)?, Rule::new(2))?)
-}
-
 #[test]
 fn felt_is_ground_like_stone(rt: HostRuntime) -> Result<(), Fail> {
     let palette = [STONE, AIR, FELT];
-    let fills = [ROCK, DUG, patch([14, 0, 1])];
+    let fills = [ROCK, DUG, third_at([14, 0, 1])];
     let cave = long_box(&palette, &fills, &[]);
     let text = row_of_cells(rt.alloc(), &[(1, 27)])?;
     prints_by(&rt, rt.alloc(), &cave, FELT_TABLE, text.as_str())
@@ -98,7 +82,7 @@ fn a_fault_of_the_structure_goes_before_one_of_the_table(rt: HostRuntime) -> Res
 #[test]
 fn a_fault_of_the_table_goes_before_an_unknown_block(rt: HostRuntime) -> Result<(), Fail> {
     let palette = [STONE, AIR, FELT];
-    let fills = [ROCK, DUG, patch([14, 0, 1])];
+    let fills = [ROCK, DUG, third_at([14, 0, 1])];
     let bytes = long_box(&palette, &fills, &[]).bytes(rt.alloc())?;
     refuses_by(&rt, rt.alloc(), &bytes, b"row = [", "table: not TOML")?;
     refuses_by(&rt, rt.alloc(), &bytes, b"row = 1", "table: row 0: shape")?;
@@ -115,7 +99,7 @@ fn a_fault_of_the_table_goes_before_an_unknown_block(rt: HostRuntime) -> Result<
 #[test]
 fn fog_takes_three_of_the_light(rt: HostRuntime) -> Result<(), Fail> {
     let palette = [STONE, AIR, FOG_BLOCK];
-    let fills = [ROCK, DUG, patch([15, 1, 1])];
+    let fills = [ROCK, DUG, third_at([15, 1, 1])];
     let world = world_by(rt.alloc(), &long_box(&palette, &fills, &[]), FOG)?;
     assert_eq!(rt; world.cell_count(), 348);
     let reach = reach(rt.alloc(), &world, 130, 14)?;
@@ -128,7 +112,7 @@ fn fog_takes_three_of_the_light(rt: HostRuntime) -> Result<(), Fail> {
 #[test]
 fn over_felt_a_torch_hangs_on_the_southern_wall(rt: HostRuntime) -> Result<(), Fail> {
     let palette = [STONE, AIR, FELT];
-    let fills = [ROCK, DUG, patch([14, 0, 1])];
+    let fills = [ROCK, DUG, third_at([14, 0, 1])];
     let world = world_by(rt.alloc(), &long_box(&palette, &fills, &[]), FELT_TABLE)?;
     assert_eq!(rt; world.cell_count(), 348);
     assert_eq!(rt; world.hang_of(130), Some(Hang::North));

@@ -54,10 +54,12 @@ fn ids_that_name_nothing(rt: HostRuntime) {
 #[test]
 fn lengths_that_fit_nothing(rt: HostRuntime) {
     let want = Some(NbtFault::BadLength { at: 7 });
-    assert_eq!(rt;
-        fault_of(rt.alloc(), &[10, 0, 0, 9, 0, 0, 0, 0, 0, 0, 1]),
-        want
-    );
+    for count in [1, 2, 255] {
+        assert_eq!(rt;
+            fault_of(rt.alloc(), &[10, 0, 0, 9, 0, 0, 0, 0, 0, 0, count]),
+            want
+        );
+    }
     let want = Some(NbtFault::BadLength { at: 6 });
     for id in [7, 11, 12] {
         assert_eq!(rt;

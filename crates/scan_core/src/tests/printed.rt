@@ -15,8 +15,8 @@ fn faults_are_printed(rt: HostRuntime) -> Result<(), Fail> {
             "structure: missing palette",
         ),
         (
-            ScanFault::Missing(Field::NameField(0)),
-            "structure: missing palette[0].Name",
+            ScanFault::Missing(Field::NameField(3)),
+            "structure: missing palette[3].Name",
         ),
         (
             ScanFault::Missing(Field::BlocksField),
@@ -45,8 +45,8 @@ fn faults_are_printed(rt: HostRuntime) -> Result<(), Fail> {
             "structure: block 348 outside the box",
         ),
         (
-            ScanFault::BadState { index: 0 },
-            "structure: block 0 has no such state",
+            ScanFault::BadState { index: 12 },
+            "structure: block 12 has no such state",
         ),
         (ScanFault::Palettes, "structure: palettes"),
         (ScanFault::OutOfMemory, "out of memory"),

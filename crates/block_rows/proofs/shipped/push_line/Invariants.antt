@@ -1,5 +1,5 @@
 use Rattle.std.proofs.Common.{◌≡◌, ◌++◌, map, take}
-use Rattle.block_rows.specs.Shipped.{rows_in}
+use Rattle.block_rows.specs.Lines.{rows_in}
 use Rattle.block_rows.proofs.shipped.push_line.Given as goal
 
 abbrev pub invariant-loop-name : goal.invariant-loop-name

@@ -1,6 +1,6 @@
 use Rattle.std.proofs.Common.{◌≡◌, map, take}
 use Rattle.std.specs.Prelude.{flat_map}
-use Rattle.block_rows.specs.Shipped.{line_of, rows_in}
+use Rattle.block_rows.specs.Lines.{line_of, rows_in}
 use Rattle.block_rows.proofs.shipped.rows_of_lines.Given as goal
 
 abbrev pub invariant-loop-line : goal.invariant-loop-line

@@ -110,7 +110,7 @@ entries-returns-in_err-tag-clause-read t c =
 pub entries-loop-entries-preserved : goal.entries-loop-entries-preserved
 entries-loop-entries-preserved t c = record {
   read = rw (
-    c.in_ok-push.ensures.items,
+    c.in_ok-push_entry.ensures.added,
     members-push c.loop-entries.entries.items (c.from_vec-name.result, c.in_ok-tag.tag),
     c.from_vec-name.ensures,
     c.in_ok-from_slice.ensures.items,

@@ -1,0 +1,10 @@
+-- How many bytes an input may have. The numbers are this project's own.
+use Rattle.std.specs.Prelude.{ℕ}
+
+-- a structure file has at most so many bytes
+abbrev pub structure_limit : ℕ
+structure_limit = 67108864
+
+-- a user's table has at most so many bytes
+abbrev pub table_limit : ℕ
+table_limit = 1048576

@@ -1,0 +1,54 @@
+"""Caves made from seeds, for the scripts beside this file."""
+import random, struct
+
+NAMES = ["minecraft:stone", "minecraft:air", "minecraft:torch", "minecraft:lantern", "minecraft:water"]
+STONE, AIR, TORCH, LANTERN, WATER = range(5)
+
+
+def text(s):
+    b = s.encode()
+    return struct.pack(">H", len(b)) + b
+
+
+def structure(size, state_of):
+    """A structure file with an entry for each cell."""
+    x_side, y_side, z_side = size
+    parts = [b"\x0a\x00\x00", b"\x09", text("size"), b"\x03\x00\x00\x00\x03", struct.pack(">3i", *size)]
+    parts += [b"\x09", text("palette"), b"\x0a", struct.pack(">i", len(NAMES))]
+    parts += [b"\x08" + text("Name") + text(name) + b"\x00" for name in NAMES]
+    parts += [b"\x09", text("blocks"), b"\x0a", struct.pack(">i", x_side * y_side * z_side)]
+    head, tail = b"\x09" + text("pos") + b"\x03\x00\x00\x00\x03", b"\x03" + text("state")
+    for y in range(y_side):
+        for z in range(z_side):
+            for x in range(x_side):
+                parts.append(head + struct.pack(">3i", x, y, z) + tail + struct.pack(">i", state_of(x, y, z)) + b"\x00")
+    return b"".join(parts) + b"\x00"
+
+
+def cavern(seed, size):
+    """Round rooms dug into stone, with water, torches and lanterns here and there: the state of each cell that isn't
+    stone, by its coordinates."""
+    rng = random.Random(seed)
+    x_side, y_side, z_side = size
+    cells = {}
+    for _ in range(x_side * z_side // 60):
+        cx, cy, cz = rng.randrange(x_side), rng.randrange(1, y_side - 1), rng.randrange(z_side)
+        r = rng.randrange(2, 7)
+        for x in range(max(1, cx - r), min(x_side - 1, cx + r + 1)):
+            for y in range(max(1, cy - r // 2), min(y_side - 1, cy + r // 2 + 1)):
+                for z in range(max(1, cz - r), min(z_side - 1, cz + r + 1)):
+                    if (x - cx) ** 2 + 4 * (y - cy) ** 2 + (z - cz) ** 2 <= r * r:
+                        cells[x, y, z] = AIR
+    for at in list(cells):
+        roll = rng.random()
+        if roll < 0.002:
+            cells[at] = TORCH
+        elif roll < 0.003:
+            cells[at] = LANTERN
+        elif roll < 0.02:
+            cells[at] = WATER
+    return cells
+
+
+def file_of(cells, size):
+    return structure(size, lambda x, y, z: cells.get((x, y, z), STONE))
