@@ -4,7 +4,7 @@ use Rattle.std.specs.Fmt.{digits, padded_integral, format_spec}
 use Rattle.cave_model.specs.declared.fault.BuildFault.{BuildFault}
 use Rattle.cave_model.specs.declared.fault.BuildFault.TheVariants.{UnknownBlock, OutOfMemory}
 
--- at least two hexadecimal digits, lower case
+-- two hexadecimal digits, lower case, as `{:02x}` writes them: filled up with 0 (the 4 says so) to a width of 2
 abbrev pub two_digits : ℕ → List ℕ
 two_digits byte = padded_integral (format_spec 32 0 4 2 (2 ^ 64 - 1)) false [] (digits 16 false byte)
 

@@ -1,15 +1,14 @@
 -- What a place lights, and what no place lights. This is the project's own.
-use Rattle.std.specs.Prelude.{◌≡◌, ◌<◌, ◌≤◌, ◌↔◌, ℕ, Bool, false, IsTrue, List, [], length, slice_index, slice_index_or, All, Contains, Option, MatchOption}
-use Rattle.std.specs.List.Sorted.{IsStrictlyIncreasing}
+use Rattle.std.specs.Prelude.{◌≡◌, ◌<◌, ◌≤◌, ℕ, Bool, false, IsTrue, List, [], length, slice_index, slice_index_or, All, Contains, Option, MatchOption}
 use Rattle.cave_model.specs.Cave.{Cave}
+use Rattle.cave_model.specs.Listing.{Lists}
 use Rattle.cave_model.specs.Spawn.{IsDark}
 use Rattle.cave_model.specs.Torches.{Lights}
 use Rattle.cover_rows.specs.Marks.{is_marked}
 
 -- the dark cells that a torch at the place lights, ascending
-pub record IsRowOf (cave : Cave) (place : ℕ) (row : List ℕ) : Type 0 where
-  pub ascending : IsStrictlyIncreasing row
-  pub exact : (cell : ℕ) → Contains row cell ↔ (IsDark cave cell × Lights cave place cell)
+abbrev pub IsRowOf : Cave → ℕ → List ℕ → Type 0
+IsRowOf cave place row = Lists (λ cell. IsDark cave cell × Lights cave place cell) row
 
 -- a row for each place, by its index
 pub record AreRowsOf (cave : Cave) (places : List ℕ) (rows : List (List ℕ)) : Type 0 where

@@ -2,6 +2,7 @@
 -- Source: Minecraft Wiki, "NBT format". That the last of two entries counts is this project's own.
 use Rattle.std.specs.Prelude.{ℕ, suc, ℤ, pos, negsuc, List, [], ◌∷◌, Option, Some, None, if◌then◌else◌}
 use Rattle.std.specs.Str.{bytes_eq}
+use Rattle.std.specs.Option.{option_or}
 
 -- a value that holds no other values; Float and Double are kept as their bytes
 pub data Leaf : Type 0 where
@@ -43,16 +44,16 @@ abbrev pub natural : ℤ → ℕ
 natural (pos n) = n
 natural (negsuc n) = 0
 
--- the last member of this name, or what was found before
-abbrev pub last_from : Option Nbt → List ℕ → Members → Option Nbt
-last_from found name no_members = found
-last_from found name (member key t ms) = last_from (if bytes_eq key name then Some t else found) name ms
+-- the last member of this name: one among the others, or else this one
+abbrev pub last_named : List ℕ → Members → Option Nbt
+last_named name no_members = None
+last_named name (member key t ms) = option_or (last_named name ms) (if bytes_eq key name then Some t else None)
 
 -- the last entry of this name in a compound
 abbrev pub field : List ℕ → Nbt → Option Nbt
 field name (leaf v) = None
 field name (list ts) = None
-field name (compound ms) = last_from None name ms
+field name (compound ms) = last_named name ms
 
 -- the items of a list, from the first to the last
 abbrev pub items_of : List Nbt → Items

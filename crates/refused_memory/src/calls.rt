@@ -11,6 +11,7 @@ use torch_plan::{RunFault, read_table, run_dark};
 const TABLE: &[u8] =
     b"[[row]]\nname = \"cave:felt\"\nwhen = { wet = \"no\" }\nopacity = 15\nstand = true\n";
 
+/// The root has its blocks.
 pub fn read_root_is_wrong(alloc: Global, pillar: &[u8]) -> bool {
     match read_root(alloc, pillar) {
         Ok(root) => root.field(b"blocks").is_none(),
@@ -18,6 +19,7 @@ pub fn read_root_is_wrong(alloc: Global, pillar: &[u8]) -> bool {
     }
 }
 
+/// The first cell is stone, and the others air.
 pub fn read_scan_is_wrong(alloc: Global, pillar: &[u8]) -> bool {
     match read_scan(alloc, pillar) {
         Ok(scan) => scan.cells() != [Some(0), Some(1), Some(1)].as_slice(),
@@ -25,6 +27,7 @@ pub fn read_scan_is_wrong(alloc: Global, pillar: &[u8]) -> bool {
     }
 }
 
+/// Nothing but want of memory refuses the shipped rows.
 pub fn shipped_is_wrong(alloc: Global) -> bool {
     match Rows::shipped(alloc) {
         Ok(_) => false,
@@ -32,6 +35,7 @@ pub fn shipped_is_wrong(alloc: Global) -> bool {
     }
 }
 
+/// Nothing but want of memory refuses this table.
 pub fn with_table_is_wrong(alloc: Global) -> bool {
     match Rows::with_table(alloc, TABLE) {
         Ok(_) => false,
@@ -39,6 +43,7 @@ pub fn with_table_is_wrong(alloc: Global) -> bool {
     }
 }
 
+/// The cave has three cells.
 pub fn build_is_wrong(alloc: Global, pillar: &[u8]) -> bool {
     let Ok(scan) = read_scan(alloc, pillar) else {
         return false;
@@ -63,6 +68,7 @@ fn world_of(alloc: Global, pillar: &[u8]) -> Option<World> {
     build(alloc, &scan, &rows, Rule::new(2)).ok()
 }
 
+/// The middle cell is dark.
 pub fn light_is_wrong(alloc: Global, pillar: &[u8]) -> bool {
     let Some(world) = world_of(alloc, pillar) else {
         return false;
@@ -76,6 +82,7 @@ pub fn light_is_wrong(alloc: Global, pillar: &[u8]) -> bool {
     }
 }
 
+/// A torch in the middle cell brings 13 to the cell above.
 pub fn reach_is_wrong(alloc: Global, pillar: &[u8]) -> bool {
     let Some(world) = world_of(alloc, pillar) else {
         return false;
@@ -89,6 +96,7 @@ pub fn reach_is_wrong(alloc: Global, pillar: &[u8]) -> bool {
     }
 }
 
+/// A torch in the middle cell lights it.
 pub fn problem_is_wrong(alloc: Global, pillar: &[u8]) -> bool {
     let Some(world) = world_of(alloc, pillar) else {
         return false;
@@ -99,6 +107,7 @@ pub fn problem_is_wrong(alloc: Global, pillar: &[u8]) -> bool {
     }
 }
 
+/// The bytes are those of the reader.
 pub fn read_table_is_wrong(alloc: Global) -> bool {
     let mut reader = TABLE;
     match read_table(alloc, &mut reader) {
@@ -107,7 +116,7 @@ pub fn read_table_is_wrong(alloc: Global) -> bool {
     }
 }
 
-/// Where memory is refused nothing may be written.
+/// The text is that of one dark cell; where memory is refused nothing is written.
 pub fn run_dark_is_wrong(alloc: Global, pillar: &[u8]) -> bool {
     let mut reader = pillar;
     let mut writer = Taking::new();

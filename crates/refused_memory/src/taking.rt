@@ -8,6 +8,7 @@ pub struct Taking {
 }
 
 impl Taking {
+    /// It has taken nothing yet.
     pub fn new() -> Taking {
         Taking {
             taken: [0; 16],

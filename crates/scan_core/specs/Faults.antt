@@ -21,7 +21,7 @@ side_fault (Some size) = if is_small size then None else Some faults.TooLarge
 abbrev pub size_fault : Nbt → Option ScanFault
 size_fault root = on_field (field (codes "size") root) (Some (faults.Missing SizeField)) (on_triple (Some (faults.WrongType SizeField)) side_fault)
 
--- a list of palettes
+-- an entry `palettes`, of whatever type
 abbrev pub palettes_fault : Nbt → Option ScanFault
 palettes_fault root = on_field (field (codes "palettes") root) None (λ t. Some faults.Palettes)
 
