@@ -4,3 +4,4 @@ pub mod TorchLemmas
 pub mod StateLemmas
 pub mod CaveLemmas
 pub mod ListingLemmas
+pub mod ReadLemmas

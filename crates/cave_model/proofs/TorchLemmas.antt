@@ -125,7 +125,7 @@ module _ (cave : Cave) (cells : List ℕ) (sound : IsSound cave) (puts : ArePut 
   stand_of_cell (Some cell) = (like cave cells sound puts cell).stand
 
   pub spawn_with : (cell : ℕ) → is_spawnable (cave_with cave cells) cell ≡ is_spawnable cave cell
-  spawn_with cell = formula _ _ _ _ _ _ (nat_eq cave.headroom 1) ((like cave cells sound puts cell).free) (free_of_cell (beyond cave.size above cell)) (stand_of_cell (beyond cave.size below cell))
+  spawn_with cell = formula _ _ _ _ _ _ (nat_eq cave.rule.headroom 1) ((like cave cells sound puts cell).free) (free_of_cell (beyond cave.size above cell)) (stand_of_cell (beyond cave.size below cell))
     where
       formula : (a a' b b' c c' one : Bool) → a ≡ a' → b ≡ b' → c ≡ c' → (a && (one || b) && c) ≡ (a' && (one || b') && c')
       formula a a' b b' c c' one p q r = cc
@@ -161,8 +161,8 @@ safe_covers cave torches sound safe =
       covered = λ cell dark.
           (let lit = safe.lit cell (spawn_with cave cells sound puts cell ∙ dark.spawnable) in
           elim (at_with cave cells puts lit.0) [
-            | inl new ↦ (lit.0, new.0, (lit.1.0, path_from cave cells sound puts lit.1.1, subst (λ (class : Class). cave.need + lit.1.0 ≤ class.emission) new.1 lit.1.2))
-            | inr old ↦ absurd (dark.unlit (lit.0, (lit.1.0, path_from cave cells sound puts lit.1.1, subst (λ (class : Class). cave.need + lit.1.0 ≤ class.emission) old lit.1.2)))
+            | inl new ↦ (lit.0, new.0, (lit.1.0, path_from cave cells sound puts lit.1.1, subst (λ (class : Class). cave.rule.need + lit.1.0 ≤ class.emission) new.1 lit.1.2))
+            | inr old ↦ absurd (dark.unlit (lit.0, (lit.1.0, path_from cave cells sound puts lit.1.1, subst (λ (class : Class). cave.rule.need + lit.1.0 ≤ class.emission) old lit.1.2)))
           ]);
     }
 
@@ -175,10 +175,10 @@ cover_is_safe cave torches sound cover =
       distinct = cover.distinct;
       lit = λ cell spawnable.
           (let was : IsTrue (is_spawnable cave cell) = sym (spawn_with cave cells sound puts cell) ∙ spawnable in
-          elim (brings_or_not cave cell cave.need sound (spawnable_inside cave cell sound was) sound.needed) [
+          elim (brings_or_not cave cell cave.rule.need sound (spawnable_inside cave cell sound was) sound.needed) [
             | inl b ↦ (b.0, (b.1.0, path_to cave cells sound puts b.1.1, omega (arith, b.1.2, (like cave cells sound puts b.0).brighter)))
             | inr dark ↦
                 (let by = cover.covered cell (record { spawnable = was; unlit = dark }) in
-                (by.0, (by.2.0, path_to cave cells sound puts by.2.1, subst (λ (class : Class). cave.need + by.2.0 ≤ class.emission) (sym (torch_at cave cells puts by.0 by.1)) by.2.2)))
+                (by.0, (by.2.0, path_to cave cells sound puts by.2.1, subst (λ (class : Class). cave.rule.need + by.2.0 ≤ class.emission) (sym (torch_at cave cells puts by.0 by.1)) by.2.2)))
           ]);
     }

@@ -1,20 +1,18 @@
 -- A cave: a box of classes, with the rule of spawning.
 -- Outside the box nothing is free, nothing supports and no light passes: that is this project's own.
-use Rattle.std.specs.Prelude.{◌≡◌, ℕ, ◌<◌, ◌≤◌, IsTrue, Option, Some, None, List, length, slice_index_or}
+use Rattle.std.specs.Prelude.{◌≡◌, ℕ, ◌<◌, IsTrue, Option, Some, None, List, length, slice_index_or}
 use Rattle.scan_core.specs.Box.{Point, cell_count, is_small}
 use Rattle.cave_model.specs.Cells.{Face, beyond}
 use Rattle.block_rows.specs.declared.class.Class.{Class}
 use Rattle.block_rows.specs.Class.{IsSoundClass, void}
+use Rattle.cave_model.specs.Rule.{Rule, IsRule}
 
 -- a box, the class of each of its cells, and the rule of spawning
 pub record Cave : Type 0 where
   pub size : Point
   -- by the number of the cell
   pub classes : List Class
-  -- how many cells above its ground a mob takes up: 1 or 2
-  pub headroom : ℕ
-  -- the least light that keeps mobs away
-  pub need : ℕ
+  pub rule : Rule
 
 -- the class of the cell with this number; past the end it is as void
 abbrev pub class_at : Cave → ℕ → Class
@@ -33,10 +31,10 @@ class_beyond cave face cell = class_of_cell cave (beyond cave.size face cell)
 pub record IsSound (cave : Cave) : Type 0 where
   pub whole : length cave.classes ≡ cell_count cave.size
   pub classed : (cell : ℕ) → IsSoundClass (class_at cave cell)
-  pub needed : 0 < cave.need
+  pub needed : 0 < cave.rule.need
 
 -- what every world keeps
 pub record IsWorld (cave : Cave) : Type 0 where
   pub sound : IsSound cave
   pub small : IsTrue (is_small cave.size)
-  pub one_or_two : (1 ≤ cave.headroom) × (cave.headroom ≤ 2)
+  pub ruled : IsRule cave.rule

@@ -1,12 +1,13 @@
 -- Plans that keep mobs away, and the fewest torches of one. These are this project's own.
-use Rattle.std.specs.Prelude.{◌≡◌, ◌≢◌, ◌≤◌, ℕ, IsTrue, List, [], ◌∷◌, length, map, set, All, AllPairs, Contains}
+use Rattle.std.specs.Prelude.{◌≡◌, ◌≢◌, ◌≤◌, ℕ, IsTrue, List, [], ◌∷◌, length, map, set, All, AllPairs, Contains, unwrap_or}
 use Rattle.block_rows.specs.declared.class.Class.{Class}
 use Rattle.block_rows.specs.Class.{new_torch}
 use Rattle.cave_model.specs.Cave.{Cave}
 use Rattle.cave_model.specs.Light.{Brings}
 use Rattle.cave_model.specs.Spawn.{is_spawnable, IsDark}
-use Rattle.cave_model.specs.Torches.{is_legal, Lights}
+use Rattle.cave_model.specs.Torches.{is_legal, hang_of, Lights}
 use Rattle.cave_model.specs.declared.hang.Hang.{Hang}
+use Rattle.cave_model.specs.declared.hang.Hang.TheVariants.{Floor}
 
 -- a torch in a cell, and how it hangs there
 pub record Torch : Type 0 where
@@ -16,6 +17,10 @@ pub record Torch : Type 0 where
 -- the cells of the torches
 abbrev pub cells_of : List Torch → List ℕ
 cells_of torches = map (λ torch. torch.cell) torches
+
+-- the places as torches, each with its first legal hang
+abbrev pub hung : Cave → List ℕ → List Torch
+hung cave places = map (λ place. record { cell = place; hang = unwrap_or (hang_of cave place) Floor }) places
 
 -- the classes where each of the cells holds a new torch
 abbrev pub classes_with : List Class → List ℕ → List Class
@@ -38,7 +43,7 @@ AreLegal cave torches = All (λ torch. IsTrue (is_legal cave torch.cell torch.ha
 pub record IsSafe (cave : Cave) (torches : List Torch) : Type 0 where
   pub legal : AreLegal cave torches
   pub distinct : AreDistinct (cells_of torches)
-  pub lit : (cell : ℕ) → IsTrue (is_spawnable (cave_with cave (cells_of torches)) cell) → Brings (cave_with cave (cells_of torches)) cell cave.need
+  pub lit : (cell : ℕ) → IsTrue (is_spawnable (cave_with cave (cells_of torches)) cell) → Brings (cave_with cave (cells_of torches)) cell cave.rule.need
 
 -- legal torches at distinct cells that light each dark cell
 pub record LightsDarkness (cave : Cave) (torches : List Torch) : Type 0 where

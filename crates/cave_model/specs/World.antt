@@ -7,6 +7,7 @@ use Rattle.block_rows.specs.declared.class.Class.{Class}
 use Rattle.block_rows.specs.Class.{void}
 use Rattle.block_rows.specs.Rows.{Table, row_of}
 use Rattle.block_rows.specs.declared.row.Row.{Row}
+use Rattle.cave_model.specs.Rule.{Rule}
 use Rattle.cave_model.specs.Cave.{Cave, class_at}
 use Rattle.cave_model.specs.declared.fault.BuildFault.{BuildFault}
 use Rattle.cave_model.specs.declared.fault.BuildFault.TheVariants.{UnknownBlock}
@@ -21,10 +22,9 @@ IsClassOf rows palette None class = class ≡ void
 IsClassOf rows palette (Some index) class = (row : Row) × (row_at rows palette index ≡ Some row) × (class ≡ row.class)
 
 -- the cave has the structure's box, and for each cell the class of its state
-pub record IsCaveOf (scan : Structure) (rows : Table) (headroom : ℕ) (cave : Cave) : Type 0 where
+pub record IsCaveOf (scan : Structure) (rows : Table) (rule : Rule) (cave : Cave) : Type 0 where
   pub sized : cave.size ≡ scan.size
-  pub ruled : cave.headroom ≡ headroom
-  pub needed : cave.need ≡ 1
+  pub ruled : cave.rule ≡ rule
   pub whole : length cave.classes ≡ cell_count scan.size
   pub classed : (cell : ℕ) → cell < cell_count scan.size → IsClassOf rows scan.palette (slice_index_or scan.cells cell None) (class_at cave cell)
 

@@ -2,6 +2,7 @@ ghost use Rattle.std.specs.Prelude.{◌≡◌, ◌≢◌, ◌<◌, IfOk, IfErr, 
 ghost use Rattle.cave_model.specs.Answer.{IsAnswer, IsRefusal};
 ghost use Rattle.cave_model.specs.Building.{AreClassesOf, AreUsed, class_by};
 ghost use Rattle.cave_model.specs.Cave.{Cave};
+ghost use Rattle.cave_model.specs.RuleOf.{rule_of};
 ghost use Rattle.cave_model.specs.World.{IsCaveOf, IsUnknownBlock};
 ghost use Rattle.cave_model.specs.declared.fault.BuildFault.{BuildFault};
 
@@ -92,9 +93,9 @@ fn cell_classes(
 /// state, and a cell without an entry is void (this project's own). A block state that no cell names isn't judged.
 pub fn build(alloc: Global, scan: &Scan, rows: &Rows, rule: Rule) -> Result<World, BuildFault>
     // What is built is the cave of the structure.
-    ensures found { IfOk result (IsCaveOf scan.now rows.now rule.headroom) }
+    ensures found { IfOk result (IsCaveOf scan.now rows.now (rule_of rule)) }
     // Such a cave is built.
-    ensures only { (cave : Cave) → IsCaveOf scan.now rows.now rule.headroom cave → IsAnswer result cave }
+    ensures only { (cave : Cave) → IsCaveOf scan.now rows.now (rule_of rule) cave → IsAnswer result cave }
     // A fault names the least index that a cell names and no row fits.
     ensures fault { IfErr result (λ e. e ≢ BuildFault.OutOfMemory → IsUnknownBlock scan.now rows.now e) }
     // Such a fault is answered.

@@ -3,11 +3,13 @@
 #![tactic(auto)]
 
 mod building;
+mod cave_fault;
 mod face;
 mod fault;
 mod hang;
 pub mod laws;
 mod neighbours;
+mod reading;
 mod rule;
 mod spawn;
 #[cfg(test)]
@@ -16,8 +18,10 @@ mod world;
 
 pub use block_rows::Class;
 pub use building::build;
+pub use cave_fault::CaveFault;
 pub use fault::BuildFault;
 pub use hang::Hang;
+pub use reading::read_cave;
 pub use rule::Rule;
 pub use std::alloc::AllocError as OutOfMemory;
 pub use world::World;

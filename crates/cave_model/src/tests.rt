@@ -176,7 +176,7 @@ fn cave(
 fn corridor(alloc: Global, names: &[&str], parts: &[Part]) -> Result<World, Fail> {
     let mut all = Vec::from_slice(alloc, &[air([1, 1, 1], [27, 2, 1])])?;
     all.extend_from_slice(parts)?;
-    cave(alloc, Rule::new(2), [29, 4, 3], names, &all)
+    cave(alloc, Rule::new(2, 1), [29, 4, 3], names, &all)
 }
 
 /// The cell at these coordinates.

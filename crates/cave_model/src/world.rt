@@ -3,6 +3,7 @@ ghost use Rattle.block_rows.specs.Class.{IsSoundClass};
 ghost use Rattle.scan_core.specs.Box as grid;
 ghost use Rattle.scan_core.specs.Box.{is_small, point};
 ghost use Rattle.cave_model.specs.Cave.{IsSound, class_at};
+ghost use Rattle.cave_model.specs.RuleOf.{rule_of};
 
 use crate::rule::Rule;
 use block_rows::Class;
@@ -30,6 +31,7 @@ pub struct World {
 
 impl Model for World {
     ghost use Rattle.cave_model.specs.Cave.{Cave, IsWorld};
+    ghost use Rattle.cave_model.specs.RuleOf.{rule_of};
     ghost use Rattle.scan_core.specs.Box.{point};
 
     ghost Value = { Cave };
@@ -37,15 +39,13 @@ impl Model for World {
     ghost view = { λ w. record {
       size = point w.size;
       classes = w.classes.items;
-      headroom = w.rule.headroom;
-      need = 1;
+      rule = rule_of w.rule;
     } };
 
     ghost invariant = { λ w. IsWorld (record {
       size = point w.size;
       classes = w.classes.items;
-      headroom = w.rule.headroom;
-      need = 1;
+      rule = rule_of w.rule;
     }) };
 }
 
@@ -68,19 +68,18 @@ impl World {
         x * y * z
     }
 
-    /// The least light that keeps mobs away: 1, from 1.18 on (Minecraft Wiki, "Spawn").
+    /// The least light that keeps mobs away: 1, or 8 before 1.18 (Minecraft Wiki, "Spawn").
     pub fn need(&self) -> u8
-        ensures need { result ≡ self.now.need }
+        ensures need { result ≡ self.now.rule.need }
         ensures positive { 1 ≤ result }
+        ensures level { result ≤ 15 }
     {
-        // Looking at a part of the world lets the proof see its value, whose need is 1.
-        let _ = &self.rule;
-        1
+        self.rule.need
     }
 
     /// The rule of spawning.
     pub fn rule(&self) -> Rule
-        ensures { result.headroom ≡ self.now.headroom }
+        ensures { rule_of result ≡ self.now.rule }
     {
         self.rule
     }

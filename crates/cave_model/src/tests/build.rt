@@ -68,7 +68,7 @@ fn the_least_unknown_state_that_a_cell_names_is_told(rt: HostRuntime) -> Result<
         ([air([0, 0, 0], [0, 0, 0]), none([1, 0, 0])], None),
     ] {
         let bytes = structure(alloc, [2, 1, 1], &[STAIRS, SLAB], &parts)?;
-        match (cave_of(alloc, &bytes, Rule::new(2))?, want) {
+        match (cave_of(alloc, &bytes, Rule::new(2, 1))?, want) {
             (Ok(_), None) => {}
             (Err(BuildFault::UnknownBlock { index, name }), Some((at, block))) => {
                 assert_eq!(rt; index, at);
@@ -85,7 +85,7 @@ fn a_state_whose_only_entry_is_overwritten_is_not_judged(rt: HostRuntime) -> Res
     let alloc = rt.alloc();
     // One cell, stone after stairs: the second entry is added to the list of the file with the first.
     let mut bytes = structure(alloc, [1, 1, 1], &[STAIRS], &[third([0, 0, 0])])?;
-    assert!(rt; cave_of(alloc, &bytes, Rule::new(2))?.is_err());
+    assert!(rt; cave_of(alloc, &bytes, Rule::new(2, 1))?.is_err());
     let end = bytes.pop();
     assert_eq!(rt; end, Some(0));
     let mut entry = Vec::new(alloc);
@@ -95,7 +95,7 @@ fn a_state_whose_only_entry_is_overwritten_is_not_judged(rt: HostRuntime) -> Res
     bytes[count] = 2;
     bytes.extend_from_slice(&entry)?;
     bytes.push(0)?;
-    assert!(rt; cave_of(alloc, &bytes, Rule::new(2))?.is_ok());
+    assert!(rt; cave_of(alloc, &bytes, Rule::new(2, 1))?.is_ok());
     Ok(())
 }
 
@@ -142,7 +142,7 @@ fn memory_may_run_out(rt: HostRuntime) -> Result<(), Fail> {
     let Ok(rows) = block_rows::Rows::shipped(alloc) else {
         return Ok(());
     };
-    match crate::build(alloc, &scan, &rows, Rule::new(2)) {
+    match crate::build(alloc, &scan, &rows, Rule::new(2, 1)) {
         Ok(world) => assert!(rt; world.is_spawnable(cell_at(&rt, &world, [0, 1, 0]))),
         Err(fault) => assert!(rt; matches!(&fault, BuildFault::OutOfMemory)),
     }

@@ -43,7 +43,7 @@ fn each_facing_has_its_wall(rt: HostRuntime) -> Result<(), Fail> {
         parts[6].state = Some(0);
         let world = cave(
             rt.alloc(),
-            Rule::new(2),
+            Rule::new(2, 1),
             [3, 2, 3],
             &["minecraft:water"],
             &parts,
@@ -58,7 +58,7 @@ fn each_facing_has_its_wall(rt: HostRuntime) -> Result<(), Fail> {
 fn no_torch_goes_where_nothing_holds_it_or_where_a_block_is(rt: HostRuntime) -> Result<(), Fail> {
     let pillar = cave(
         rt.alloc(),
-        Rule::new(2),
+        Rule::new(2, 1),
         [1, 3, 1],
         &[],
         &[air([0, 1, 0], [0, 2, 0])],

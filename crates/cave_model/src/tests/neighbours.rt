@@ -4,7 +4,7 @@ use std::test::Fail;
 
 #[test]
 fn neighbours_in_corners_on_an_edge_and_in_the_middle(rt: HostRuntime) -> Result<(), Fail> {
-    let world = cave(rt.alloc(), Rule::new(2), [3, 3, 3], &[], &[])?;
+    let world = cave(rt.alloc(), Rule::new(2, 1), [3, 3, 3], &[], &[])?;
     for (at, want) in [
         ([0, 0, 0], [None, Some(1), None, Some(3), None, Some(9)]),
         ([2, 2, 2], [Some(25), None, Some(23), None, Some(17), None]),
@@ -26,7 +26,7 @@ fn neighbours_in_corners_on_an_edge_and_in_the_middle(rt: HostRuntime) -> Result
 
 #[test]
 fn neighbours_where_no_two_sides_are_equal(rt: HostRuntime) -> Result<(), Fail> {
-    let world = cave(rt.alloc(), Rule::new(2), [2, 3, 4], &[], &[])?;
+    let world = cave(rt.alloc(), Rule::new(2, 1), [2, 3, 4], &[], &[])?;
     for (at, want) in [
         (
             [1, 1, 2],
@@ -45,7 +45,7 @@ fn neighbours_where_no_two_sides_are_equal(rt: HostRuntime) -> Result<(), Fail> 
 
 #[test]
 fn a_box_of_one_cell_has_no_neighbours(rt: HostRuntime) -> Result<(), Fail> {
-    let world = cave(rt.alloc(), Rule::new(1), [1, 1, 1], &[], &[])?;
+    let world = cave(rt.alloc(), Rule::new(1, 1), [1, 1, 1], &[], &[])?;
     assert_eq!(rt;
         world.neighbours(cell_at(&rt, &world, [0, 0, 0])),
         [None; 6]

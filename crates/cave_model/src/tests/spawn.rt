@@ -24,7 +24,7 @@ fn spawnable(rt: &impl Abort, alloc: Global, world: &World) -> Result<Vec<Cell>,
 
 #[test]
 fn a_pillar_has_one_spawnable_cell_under_both_headrooms(rt: HostRuntime) -> Result<(), Fail> {
-    for rule in [Rule::new(1), Rule::new(2)] {
+    for rule in [Rule::new(1, 1), Rule::new(2, 1)] {
         let pillar = cave(
             rt.alloc(),
             rule,
@@ -43,7 +43,7 @@ fn a_low_pillar_lets_only_low_mobs_spawn(rt: HostRuntime) -> Result<(), Fail> {
     let alloc = rt.alloc();
     let low = cave(
         alloc,
-        Rule::new(1),
+        Rule::new(1, 1),
         [1, 2, 1],
         &[],
         &[air([0, 1, 0], [0, 1, 0])],
@@ -51,7 +51,7 @@ fn a_low_pillar_lets_only_low_mobs_spawn(rt: HostRuntime) -> Result<(), Fail> {
     assert_eq!(rt; spawnable(&rt, alloc, &low)?.as_slice(), [1].as_slice());
     let high = cave(
         alloc,
-        Rule::new(2),
+        Rule::new(2, 1),
         [1, 2, 1],
         &[],
         &[air([0, 1, 0], [0, 1, 0])],
