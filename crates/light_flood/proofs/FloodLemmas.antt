@@ -7,7 +7,7 @@ use Rattle.cave_model.proofs.LightLemmas.{AreSettled, settled_level}
 use Rattle.light_flood.specs.Dense.{HasNoLight}
 use Rattle.light_flood.specs.Levels.{AreLevelsOf}
 use Rattle.light_flood.specs.Spreading.{NoneWaits, AreEmissions, IsFlood, IsRaised, IsSettled}
-use Rattle.light_flood.proofs.SpreadLemmas.{source_inside}
+use Rattle.light_flood.proofs.SpreadLemmas.{source_inside, spread_brought, passed_from_1}
 
 -- ---- the start
 
@@ -24,23 +24,23 @@ flood_none cave levels waiting dark none = record {
     not_in_none cell h = absurd (omega (arith, h.1))
 
 -- the cells before this one have their emissions
-pub record Kindled (cave : Cave) (count : ℕ) (levels : List ℕ) (waiting : List (List ℕ)) : Type 0 where
+pub record Seeded (cave : Cave) (count : ℕ) (levels : List ℕ) (waiting : List (List ℕ)) : Type 0 where
   pub whole : length levels ≡ cell_count cave.size
   pub flood : IsFlood cave 16 16 (slice_index levels) waiting
   pub each : (cell : ℕ) → cell < count → slice_index levels cell ≡ (class_at cave cell).emission
   pub dark : (cell : ℕ) → count ≤ cell → slice_index levels cell ≡ 0
 
-pub kindled_none : (cave : Cave) (levels : List ℕ) (waiting : List (List ℕ)) → HasNoLight (cell_count cave.size) levels → NoneWaits waiting → Kindled cave 0 levels waiting
-kindled_none cave levels waiting unlit none = record {
+pub seeded_none : (cave : Cave) (levels : List ℕ) (waiting : List (List ℕ)) → HasNoLight (cell_count cave.size) levels → NoneWaits waiting → Seeded cave 0 levels waiting
+seeded_none cave levels waiting unlit none = record {
   whole = unlit.counted;
   flood = flood_none cave (slice_index levels) waiting unlit.dark none;
   each = λ cell h. absurd (omega arith);
   dark = λ cell h. unlit.dark cell;
 }
 
-pub kindled_more : (cave : Cave) (count : ℕ) (levels next : List ℕ) (waiting later : List (List ℕ)) → Kindled cave count levels waiting → length next ≡ cell_count cave.size
-    → IsRaised (slice_index levels) count (class_at cave count).emission (slice_index next) → IsFlood cave 16 16 (slice_index next) later → Kindled cave (count + 1) next later
-kindled_more cave count levels next waiting later s whole raised flood = record {
+pub seeded_more : (cave : Cave) (count : ℕ) (levels next : List ℕ) (waiting later : List (List ℕ)) → Seeded cave count levels waiting → length next ≡ cell_count cave.size
+    → IsRaised (slice_index levels) count (class_at cave count).emission (slice_index next) → IsFlood cave 16 16 (slice_index next) later → Seeded cave (count + 1) next later
+seeded_more cave count levels next waiting later s whole raised flood = record {
   whole = whole;
   flood = flood;
   each = λ cell h. (elim (cases_eq cell count) [
@@ -53,13 +53,13 @@ kindled_more cave count levels next waiting later s whole raised flood = record 
     below : (cell : ℕ) → cell ≢ count → cell < count + 1 → cell < count
     below cell ne h = elim (cases_lt cell count) [ inl lt ↦ lt | inr le ↦ absurd (ne (omega arith)) ]
 
-pub kindled_all : (cave : Cave) (count : ℕ) (levels : List ℕ) (waiting : List (List ℕ)) → count ≡ cell_count cave.size → Kindled cave count levels waiting → AreEmissions cave levels
-kindled_all cave count levels waiting e s = record { whole = s.whole; each = λ cell h. s.each cell (omega (arith, e)) }
+pub seeded_all : (cave : Cave) (count : ℕ) (levels : List ℕ) (waiting : List (List ℕ)) → count ≡ cell_count cave.size → Seeded cave count levels waiting → AreEmissions cave levels
+seeded_all cave count levels waiting e s = record { whole = s.whole; each = λ cell h. s.each cell (omega (arith, e)) }
 
 -- ---- the end
 
 -- a flood that settled from the emissions has the levels of light
-pub settled_levels : (cave : Cave) (start levels : List ℕ) → AreEmissions cave start → IsSettled cave (slice_index start) (slice_index levels) → length levels ≡ cell_count cave.size → AreLevelsOf cave levels
+pub settled_levels : (cave : Cave) (start levels : List ℕ) → AreEmissions cave start → IsSettled cave 1 (slice_index start) (slice_index levels) → length levels ≡ cell_count cave.size → AreLevelsOf cave levels
 settled_levels cave start levels glow s whole = record {
   whole = whole;
   each = λ cell h. settled_level cave (slice_index levels) cell settled h;
@@ -67,7 +67,7 @@ settled_levels cave start levels glow s whole = record {
   where
     settled : AreSettled cave (λ source. (class_at cave source).emission) (slice_index levels)
     settled = record {
-      brought_there = λ cell h lit. (let b = s.brought_there cell h lit in let from = glow.each b.0 (source_inside b.1.1) in (b.0, (b.1.0, b.1.1, omega (arith, b.1.2))));
+      brought_there = λ cell h lit. (let b = spread_brought cave (slice_index start) (slice_index levels) cell s.brought_there h in let from = glow.each b.0 (source_inside b.1.1) in (b.0, (b.1.0, b.1.1, omega (arith, b.1.2))));
       covered = λ cell h. (let up = s.covered cell in let e = glow.each cell h in omega arith);
-      settled = s.settled;
+      settled = passed_from_1 cave (slice_index start) (slice_index levels) s;
     }

@@ -6,7 +6,7 @@ use Rattle.scan_core.specs.Box.{cell_count}
 use Rattle.cave_model.specs.Cells.{AreNeighbours}
 use Rattle.cave_model.specs.Cave.{Cave}
 use Rattle.light_flood.specs.Spreading.{waiting_at, IsWaiting, IsFlood, Rises, Spreads, IsPassed, HasPassed, IsSettled}
-use Rattle.light_flood.proofs.SpreadLemmas.{spread_none, spread_on, entering_pos}
+use Rattle.light_flood.proofs.SpreadLemmas.{spread_none, spread_on}
 use Rattle.light_flood.proofs.PassLemmas.{rise_none, rise_on}
 
 -- ---- one level
@@ -119,15 +119,12 @@ passing_level cave level start levels next waiting later s flood rises spreads =
   spreads = spread_on cave start levels next s.spreads spreads;
 }
 
--- level 1 has nothing to pass on
-pub passing_all : (cave : Cave) (level : ℕ) (start levels : ℕ → ℕ) (waiting : List (List ℕ)) → level ≤ 2 → Passing cave level start levels waiting → IsSettled cave start levels
-passing_all cave level start levels waiting low s = record {
+-- what lies above this level has passed its light on
+pub passing_all : (cave : Cave) (least level : ℕ) (start levels : ℕ → ℕ) (waiting : List (List ℕ)) → level ≤ least + 1 → Passing cave level start levels waiting → IsSettled cave least start levels
+passing_all cave least level start levels waiting low s = record {
   brought_there = s.spreads;
   covered = s.up;
-  settled = λ before cell shared. (elim (cases_lt (levels before) level) [
-    | inl lt ↦ (let cost = entering_pos cave cell in omega arith)
-    | inr le ↦ s.flood.passed_on before cell shared le
-  ]);
+  settled = λ before cell shared above. s.flood.passed_on before cell shared (omega arith);
 }
 
 -- an element of the list of cells is one of them

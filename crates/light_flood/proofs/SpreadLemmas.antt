@@ -1,13 +1,14 @@
 -- One step of a flood.
-use Rattle.std.proofs.Common.{◌≡◌, ℕ, ◌+◌, ◌-◌, ◌<◌, ◌≤◌, List, [], ◌∷◌, ◌++◌, Contains, sym, ap, subst, ◌∙◌, arith, inl, inr}
-use Rattle.std.proofs.lemmas.Bool.{cases_eq}
+use Rattle.std.proofs.Common.{◌≡◌, ℕ, ◌+◌, ◌-◌, ◌<◌, ◌≤◌, List, [], ◌∷◌, ◌++◌, Contains, refl, sym, ap, subst, ◌∙◌, arith, inl, inr}
+use Rattle.std.proofs.lemmas.Bool.{cases_eq, cases_lt}
 use Rattle.std.proofs.lemmas.List.Elements.{Contains-append_left, Contains-push, Contains-push_cases}
 use Rattle.scan_core.specs.Box.{cell_count}
 use Rattle.cave_model.specs.Cells.{AreNeighbours}
 use Rattle.cave_model.specs.Cave.{Cave}
-use Rattle.cave_model.specs.Light.{Path, entering_cost}
+use Rattle.cave_model.specs.Light.{Path, BringsFrom, entering_cost}
 use Rattle.cave_model.specs.Light.Path.{start, onward}
-use Rattle.light_flood.specs.Spreading.{waiting_at, IsWaiting, IsRaised, Spreads, IsPassed, IsFlood}
+use Rattle.cave_model.proofs.LightLemmas.{path_end_inside}
+use Rattle.light_flood.specs.Spreading.{waiting_at, IsWaiting, IsRaised, Spreads, IsPassed, IsFlood, IsSettled}
 
 -- ---- paths
 
@@ -22,14 +23,34 @@ source_inside (onward p to n) = source_inside p
 
 -- nothing was raised
 pub spread_none : (cave : Cave) (levels : ℕ → ℕ) → Spreads cave levels levels
-spread_none cave levels cell h p = (cell, (0, start h, omega arith))
+spread_none cave levels cell = inl refl
 
 -- light that was brought is brought on
 pub spread_on : (cave : Cave) (f g h : ℕ → ℕ) → Spreads cave f g → Spreads cave g h → Spreads cave f h
-spread_on cave f g h first second cell inside lit =
-    let near = second cell inside lit in
-    let far = first near.0 (source_inside near.1.1) (omega (arith, near.1.2)) in
-    (far.0, (far.1.0 + near.1.0, path_onward far.1.1 near.1.1, omega (arith, near.1.2, far.1.2)))
+spread_on cave f g h first second cell = elim (second cell) [
+  | inl same ↦ elim (first cell) [
+    | inl was ↦ inl (same ∙ was)
+    | inr far ↦ inr (far.0, (far.1.0, far.1.1, omega (arith, same, far.1.2)))
+  ]
+  | inr near ↦ elim (first near.0) [
+    | inl was ↦ inr (near.0, (near.1.0, near.1.1, omega (arith, was, near.1.2)))
+    | inr far ↦ inr (far.0, (far.1.0 + near.1.0, path_onward far.1.1 near.1.1, omega (arith, near.1.2, far.1.2)))
+  ]
+]
+
+-- light in the box is brought from some cell
+pub spread_brought : (cave : Cave) (f g : ℕ → ℕ) (cell : ℕ) → Spreads cave f g → cell < cell_count cave.size → (source : ℕ) × BringsFrom cave source (f source) cell (g cell)
+spread_brought cave f g cell spreads h = elim (spreads cell) [
+  | inl same ↦ (cell, (0, start h, omega (arith, same)))
+  | inr b ↦ b
+]
+
+-- beyond the box nothing changes
+pub spread_outside : (cave : Cave) (f g : ℕ → ℕ) (cell : ℕ) → Spreads cave f g → cell_count cave.size ≤ cell → g cell ≡ f cell
+spread_outside cave f g cell spreads past = elim (spreads cell) [
+  | inl same ↦ same
+  | inr b ↦ (let inside = path_end_inside b.1.1 in absurd (omega arith))
+]
 
 -- ---- one neighbour is raised
 
@@ -37,11 +58,11 @@ pub entering_pos : (cave : Cave) (cell : ℕ) → 0 < entering_cost cave cell
 entering_pos cave cell = omega arith
 
 pub raised_spreads : (cave : Cave) (f g : ℕ → ℕ) (from to : ℕ) → AreNeighbours cave.size from to → entering_cost cave to ≤ f from → IsRaised f to (f from - entering_cost cave to) g → Spreads cave f g
-raised_spreads cave f g from to shared enough raised cell inside lit = elim (cases_eq cell to) [
+raised_spreads cave f g from to shared enough raised cell = elim (cases_eq cell to) [
   | inl e ↦ (let here : g cell ≡ f from - entering_cost cave to = ap g e ∙ raised.raised in
       let path : Path cave from cell (0 + entering_cost cave to) = subst (λ (c : ℕ). Path cave from c (0 + entering_cost cave to)) (sym e) (onward (start shared.inside) to shared) in
-      (from, (0 + entering_cost cave to, path, omega (arith, here))))
-  | inr ne ↦ (cell, (0, start inside, omega (arith, raised.others cell ne)))
+      inr (from, (0 + entering_cost cave to, path, omega (arith, here))))
+  | inr ne ↦ inl (raised.others cell ne)
 ]
 
 pub raised_flood : (cave : Cave) (f g : ℕ → ℕ) (waiting next : List (List ℕ)) (passed waits to brought : ℕ) → to < cell_count cave.size → IsFlood cave passed waits f waiting
@@ -88,3 +109,21 @@ raised_flood cave f g waiting next passed waits to brought to_in flood under low
           (Contains-append_left (waiting_at waiting brought) (to ∷ []) cell (subst (λ (l : ℕ). Contains (waiting_at waiting l) cell) e has)))
       | inr ne ↦ subst (λ (cells : List ℕ). Contains cells cell) (sym (pushed.others level ne)) has
     ]
+
+-- ---- the end
+
+-- level 1 has nothing to pass on
+pub passed_from_1 : (cave : Cave) (first levels : ℕ → ℕ) → IsSettled cave 1 first levels → (before cell : ℕ) → AreNeighbours cave.size before cell → IsPassed cave levels before cell
+passed_from_1 cave first levels s before cell shared = elim (cases_lt 1 (levels before)) [
+  | inl lt ↦ s.settled before cell shared lt
+  | inr le ↦ (let cost = entering_pos cave cell in omega arith)
+]
+
+-- a path brings what the flood has, as long as it is at least the level at which the flood stopped
+pub path_lit : (cave : Cave) (least : ℕ) (first levels : ℕ → ℕ) (source cell cost level : ℕ) → IsSettled cave least first levels → Path cave source cell cost
+    → level + cost ≤ first source → least ≤ level → level ≤ levels cell
+path_lit cave least first levels source cell cost level s (start h) enough above = (let up = s.covered source in omega arith)
+path_lit cave least first levels source cell cost level s (onward {before = b} {cost = c} p to n) enough above =
+    let pos = entering_pos cave to in
+    let there = path_lit cave least first levels source b c (level + entering_cost cave to) s p (omega arith) (omega arith) in
+    let passed : IsPassed cave levels b to = s.settled b to n (omega arith) in omega arith

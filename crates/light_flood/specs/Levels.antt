@@ -10,9 +10,9 @@ pub record AreLevelsOf (cave : Cave) (levels : List ℕ) : Type 0 where
   pub whole : length levels ≡ cell_count cave.size
   pub each : (cell : ℕ) → cell < cell_count cave.size → IsLevelOf cave cell (slice_index levels cell)
 
--- the levels that an emission at the source alone gives
+-- the levels that an emission at the source alone gives, 0 beyond the box
 abbrev pub AreReachOf : Cave → ℕ → ℕ → (ℕ → ℕ) → Type 0
-AreReachOf cave source emission levels = (cell : ℕ) → cell < cell_count cave.size → IsReachOf cave source emission cell (levels cell)
+AreReachOf cave source emission levels = (cell : ℕ) → IsReachOf cave source emission cell (levels cell)
 
 -- each cell to which an emission at the source alone brings at least this level, once
 pub record ListsLit (cave : Cave) (source emission least : ℕ) (cells : List ℕ) : Type 0 where

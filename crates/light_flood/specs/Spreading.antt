@@ -1,6 +1,6 @@
 -- How a flood goes on: levels only rise, each is brought from one that was there, and what can still rise waits.
 -- This is the project's own.
-use Rattle.std.specs.Prelude.{◌≡◌, ◌≢◌, ℕ, ◌+◌, ◌<◌, ◌≤◌, List, [], length, Contains, slice_index, slice_index_or}
+use Rattle.std.specs.Prelude.{◌≡◌, ◌≢◌, ◌⊎◌, ℕ, ◌+◌, ◌<◌, ◌≤◌, List, [], length, Contains, slice_index, slice_index_or}
 use Rattle.scan_core.specs.Box.{cell_count}
 use Rattle.cave_model.specs.Cells.{AreNeighbours}
 use Rattle.cave_model.specs.Cave.{Cave, class_at}
@@ -16,9 +16,10 @@ pub record Rises (level : ℕ) (old new : ℕ → ℕ) : Type 0 where
   pub up : (cell : ℕ) → old cell ≤ new cell
   pub below : (cell : ℕ) → level ≤ new cell → new cell ≡ old cell
 
--- each level is brought by a path from a level that was there
+-- each level was there, or is brought by a path from one that was
 abbrev pub Spreads : Cave → (ℕ → ℕ) → (ℕ → ℕ) → Type 0
-Spreads cave old new = (cell : ℕ) → cell < cell_count cave.size → 0 < new cell → (source : ℕ) × BringsFrom cave source (old source) cell (new cell)
+Spreads cave old new = (cell : ℕ) → (new cell ≡ old cell)
+    ⊎ ((source : ℕ) × BringsFrom cave source (old source) cell (new cell))
 
 -- the cells that wait at a level
 abbrev pub waiting_at : List (List ℕ) → ℕ → List ℕ
@@ -36,19 +37,22 @@ IsPassed cave levels before cell = levels before ≤ levels cell + entering_cost
 -- cells at `passed` or above have passed their light on, and cells below `waits` wait at their level
 pub record IsFlood (cave : Cave) (passed waits : ℕ) (levels : ℕ → ℕ) (waiting : List (List ℕ)) : Type 0 where
   pub low : (cell : ℕ) → levels cell ≤ 15
-  pub passed_on : (before cell : ℕ) → AreNeighbours cave.size before cell → passed ≤ levels before → IsPassed cave levels before cell
-  pub awaited : (cell : ℕ) → cell < cell_count cave.size → 0 < levels cell → levels cell < waits → Contains (waiting_at waiting (levels cell)) cell
+  pub passed_on : (before cell : ℕ) → AreNeighbours cave.size before cell → passed ≤ levels before
+      → IsPassed cave levels before cell
+  pub awaited : (cell : ℕ) → cell < cell_count cave.size → 0 < levels cell → levels cell < waits
+      → Contains (waiting_at waiting (levels cell)) cell
   pub inside : (level cell : ℕ) → Contains (waiting_at waiting level) cell → cell < cell_count cave.size
 
 -- the cell has passed its light on to all its neighbours
 abbrev pub HasPassed : Cave → (ℕ → ℕ) → ℕ → Type 0
 HasPassed cave levels before = (cell : ℕ) → AreNeighbours cave.size before cell → IsPassed cave levels before cell
 
--- no cell can raise a neighbour, and each level is brought from one of the start
-pub record IsSettled (cave : Cave) (start levels : ℕ → ℕ) : Type 0 where
+-- no cell above this level can raise a neighbour, and each level is brought from one of the start
+pub record IsSettled (cave : Cave) (least : ℕ) (start levels : ℕ → ℕ) : Type 0 where
   pub brought_there : Spreads cave start levels
   pub covered : (cell : ℕ) → start cell ≤ levels cell
-  pub settled : (before cell : ℕ) → AreNeighbours cave.size before cell → IsPassed cave levels before cell
+  pub settled : (before cell : ℕ) → AreNeighbours cave.size before cell → least < levels before
+      → IsPassed cave levels before cell
 
 -- no cell waits at any level
 abbrev pub NoneWaits : List (List ℕ) → Type 0

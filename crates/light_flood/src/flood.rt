@@ -6,22 +6,22 @@ ghost use Rattle.light_flood.specs.Levels.{AreLevelsOf};
 ghost use Rattle.light_flood.specs.Spreading.{AreEmissions, IsFlood, NoneWaits};
 
 use crate::dense::Dense;
-use crate::kindling::kindle;
 use crate::levels::Levels;
+use crate::seeding::seed;
 use crate::spreading::spread;
 use crate::waiting::Waiting;
 use cave_model::{OutOfMemory, World};
 use std::alloc::Global;
 
 /// Gives each cell its emission.
-fn kindle_all(world: &World, store: &mut Dense, waiting: &mut Waiting) -> Result<(), OutOfMemory>
+fn seed_all(world: &World, store: &mut Dense, waiting: &mut Waiting) -> Result<(), OutOfMemory>
     requires unlit { HasNoLight (cell_count world.now.size) store.old.levels }
     requires none_waits { NoneWaits waiting.old }
     ensures emissions { OnOk result (AreEmissions world.now store.new.levels) }
     ensures flood { OnOk result (IsFlood world.now 16 16 (slice_index store.new.levels) waiting.new) }
 {
     for cell in 0..world.cell_count() {
-        kindle(world, store, waiting, cell, world.class_of(cell).emission)?;
+        seed(world, store, waiting, cell, world.class_of(cell).emission)?;
     }
     Ok(())
 }
@@ -32,7 +32,7 @@ pub fn light(alloc: Global, world: &World) -> Result<Levels, OutOfMemory>
 {
     let mut store = Dense::new(alloc, world.cell_count())?;
     let mut waiting = Waiting::new(alloc)?;
-    kindle_all(world, &mut store, &mut waiting)?;
-    spread(world, &mut store, &mut waiting)?;
+    seed_all(world, &mut store, &mut waiting)?;
+    spread(world, &mut store, &mut waiting, 1)?;
     Ok(Levels::from_vec(store.into_levels()))
 }

@@ -7,11 +7,11 @@
 mod darkness;
 mod dense;
 mod flood;
-mod kindling;
 mod levels;
 mod reached;
 mod reaching;
 mod scratch;
+mod seeding;
 mod sparse;
 mod spreading;
 mod store;

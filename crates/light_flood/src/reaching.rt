@@ -3,8 +3,8 @@ ghost use Rattle.scan_core.specs.Box.{cell_count};
 ghost use Rattle.light_flood.specs.Levels.{AreReachOf};
 ghost use Rattle.light_flood.specs.Reached.{reached};
 
-use crate::kindling::kindle;
 use crate::reached::Reach;
+use crate::seeding::seed;
 use crate::sparse::Sparse;
 use crate::spreading::spread;
 use crate::waiting::Waiting;
@@ -21,7 +21,7 @@ pub fn reach(alloc: Global, world: &World, cell: Cell, emission: u8) -> Result<R
 {
     let mut store = Sparse::new(alloc, world.cell_count());
     let mut waiting = Waiting::new(alloc)?;
-    kindle(world, &mut store, &mut waiting, cell, emission)?;
-    spread(world, &mut store, &mut waiting)?;
+    seed(world, &mut store, &mut waiting, cell, emission)?;
+    spread(world, &mut store, &mut waiting, 1)?;
     Ok(Reach::from_map(store.into_levels()))
 }

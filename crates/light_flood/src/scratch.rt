@@ -3,7 +3,7 @@ ghost use Rattle.scan_core.specs.Box.{cell_count};
 ghost use Rattle.light_flood.specs.Levels.{ListsLit};
 
 use crate::dense::Dense;
-use crate::kindling::kindle;
+use crate::seeding::seed;
 use crate::spreading::spread;
 use crate::waiting::Waiting;
 use cave_model::{OutOfMemory, World};
@@ -11,7 +11,11 @@ use scan_core::Cell;
 use std::alloc::Global;
 use std::marker::Model;
 
-/// Memory for many floods in boxes of one size, one after another. Each touches only the cells that its light reaches.
+/// The highest level of light (Minecraft Wiki, "Light").
+const HIGHEST: u8 = 15;
+
+/// Memory for many floods in boxes of one size, one after another. Each touches only the cells that its light reaches,
+/// and stops where none can reach the level that is asked for.
 #[derive(Debug, Drop)]
 pub struct Scratch {
     alloc: Global,
@@ -55,8 +59,13 @@ impl Scratch {
     {
         self.store.clear();
         let mut waiting = Waiting::new(self.alloc)?;
-        kindle(world, &mut self.store, &mut waiting, cell, emission)?;
-        spread(world, &mut self.store, &mut waiting)?;
+        seed(world, &mut self.store, &mut waiting, cell, emission)?;
+        spread(
+            world,
+            &mut self.store,
+            &mut waiting,
+            u8::min(least, HIGHEST),
+        )?;
         self.store.at_least(self.alloc, least)
     }
 }

@@ -89,18 +89,20 @@ fn pass_level<S: Store>(
     Ok(())
 }
 
-/// Lets the light of a store spread, where every cell with light waits at its level.
+/// Lets the light of a store spread, where every cell with light waits at its level, as far as it is above this level.
 pub fn spread<S: Store>(
     world: &World,
     store: &mut S,
     waiting: &mut Waiting,
+    least: u8,
 ) -> Result<(), AllocError>
+    requires least { least < 16 }
     requires cells { S.cells store.old ≡ cell_count world.now.size }
     requires flood { IsFlood world.now 16 16 (S.levels store.old) waiting.old }
     ensures cells { S.cells store.new ≡ cell_count world.now.size }
-    ensures settled { OnOk result (IsSettled world.now (S.levels store.old) (S.levels store.new)) }
+    ensures settled { OnOk result (IsSettled world.now least (S.levels store.old) (S.levels store.new)) }
 {
-    for level in (2..16).rev() {
+    for level in (least + 1..16).rev() {
         pass_level(world, store, waiting, level)?;
     }
     Ok(())

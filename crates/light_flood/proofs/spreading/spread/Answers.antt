@@ -21,4 +21,4 @@ loop-level-preserved g c =
 
 pub returns-clause-settled : goal.returns-clause-settled
 returns-clause-settled g c =
-    passing_all c.args.world.now c.loop-level.level (g.S.Store.levels c.args.store.now) (g.S.Store.levels c.loop-level.store) c.loop-level.waiting (omega arith) c.loop-level.invariant.passing
+    passing_all c.args.world.now c.args.least c.loop-level.level (g.S.Store.levels c.args.store.now) (g.S.Store.levels c.loop-level.store) c.loop-level.waiting (omega arith) c.loop-level.invariant.passing

@@ -9,7 +9,7 @@ use scan_core::Cell;
 use std::alloc::AllocError;
 
 /// Gives a cell without light its emission, before the flood.
-pub fn kindle<S: Store>(
+pub fn seed<S: Store>(
     world: &World,
     store: &mut S,
     waiting: &mut Waiting,

@@ -1,6 +1,6 @@
 use Rattle.std.proofs.Common.{arith}
 use Rattle.light_flood.proofs.SpreadLemmas.{raised_flood}
-use Rattle.light_flood.proofs.kindling.kindle.Goals as goal
+use Rattle.light_flood.proofs.seeding.seed.Goals as goal
 
 pub returns-in_ok-push-clause-flood : goal.returns-in_ok-push-clause-flood
 returns-in_ok-push-clause-flood g c =
