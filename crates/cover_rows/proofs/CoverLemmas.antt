@@ -3,15 +3,15 @@ use Rattle.std.proofs.Common.{◌≡◌, ◌≢◌, ℕ, List, [], ◌∷◌, ge
 use Rattle.std.specs.Prelude.{AllPairs, unwrap_or}
 use Rattle.std.proofs.lemmas.List.Elements.{All-map}
 use Rattle.cave_model.specs.Cave.{Cave, IsSound}
-use Rattle.cave_model.specs.Plan.{Torch, cells_of, IsSafe, LightsDarkness}
+use Rattle.cave_model.specs.Plan.{Torch, cells_of, hung, IsSafe, LightsDarkness}
 use Rattle.cave_model.specs.Torches.{hang_of, is_legal}
 use Rattle.cave_model.specs.declared.hang.Hang.TheVariants.{Floor}
 use Rattle.cave_model.proofs.TorchLemmas as torches
-use Rattle.cover_rows.specs.Coverage.{IsProblemOf, hung}
-use Rattle.cover_rows.specs.Instance.{Instance, LightsIn}
+use Rattle.cover_rows.specs.Coverage.{IsProblemOf}
+use Rattle.set_cover.specs.Instance.{Instance, LightsIn}
 use Rattle.cover_rows.proofs.PlaceLemmas.{legal_hang}
 
-cells_hung : (cave : Cave) (places : List ℕ) → cells_of (hung cave places) ≡ places
+pub cells_hung : (cave : Cave) (places : List ℕ) → cells_of (hung cave places) ≡ places
 cells_hung cave [] = refl
 cells_hung cave (place ∷ places) = ap (λ (l : List ℕ). place ∷ l) (cells_hung cave places)
 

@@ -1,6 +1,6 @@
-pub mod OrderLemmas
+pub mod NumberLemmas
 pub mod MarkLemmas
+pub mod FillLemmas
 pub mod PlaceLemmas
-pub mod RowLemmas
 pub mod InstanceLemmas
 pub mod CoverLemmas

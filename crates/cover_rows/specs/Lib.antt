@@ -1,6 +1,7 @@
-pub mod Instance
+-- public clauses cite
 pub mod Coverage
 pub mod Answer
-pub mod Marks
-pub mod Rows
 pub mod Texts
+-- private
+pub mod Filling
+pub mod Unlit

@@ -6,11 +6,12 @@
 
 mod building;
 mod fault;
+mod filling;
+mod indexing;
 pub mod laws;
 mod marking;
 mod places;
 mod problem;
-mod rows;
 mod search;
 
 pub use fault::CoverFault;

@@ -1,53 +1,20 @@
-ghost use Rattle.std.specs.Prelude.{◌≡◌, ◌≢◌, ◌<◌, length, map, All, AllPairs, IfOk};
-ghost use Rattle.cover_rows.specs.Marks.{AreLit, AreMarked, AreMarksOf, Marks};
+ghost use Rattle.std.specs.Prelude.{◌<◌, ◌≤◌, ◌+◌, ◌*◌, ◌^◌, length, All};
+ghost use Rattle.cover_rows.specs.Filling.{Marks};
 
-use cave_model::OutOfMemory;
+use bit_rows::add;
 use scan_core::Cell;
-use std::alloc::Global;
 
-/// Sets the flag of each of the cells.
-fn mark(marks: &mut [bool], cells: &[Cell])
-    requires inside { All (λ cell. cell < length marks.old) cells.now }
-    ensures { Marks marks.old cells.now marks.new }
+/// Sets, from the bit `base` on, the bit of each lit cell that has an index below `count`.
+pub fn mark(words: &mut [u64], base: usize, indices: &[u32], count: usize, lit: &[Cell])
+    requires inside { All (λ cell. cell < length indices.now) lit.now }
+    requires room { base + count ≤ 64 * length words.old }
+    requires small { length words.old < 2 ^ 58 }
+    ensures { Marks words.old indices.now count base lit.now words.new }
 {
-    for cell in cells {
-        marks[*cell as usize] = true;
-    }
-}
-
-/// So many flags, set for these cells.
-pub fn marks_of(alloc: Global, count: u32, cells: &[Cell]) -> Result<Vec<bool>, OutOfMemory>
-    requires inside { All (λ cell. cell < count) cells.now }
-    ensures { IfOk result (λ v. AreMarksOf count cells.now v.items) }
-{
-    let mut marks = vec![in alloc; false; count as usize]?;
-    mark(marks.as_mut_slice(), cells);
-    Ok(marks)
-}
-
-/// So many flags, set for each cell of a row.
-pub fn lit_marks(alloc: Global, count: u32, rows: &[Vec<Cell>]) -> Result<Vec<bool>, OutOfMemory>
-    requires inside { All (λ row. All (λ cell. cell < count) row.items) rows.now }
-    ensures { IfOk result (λ v. AreLit count (map (λ row. row.items) rows.now) v.items) }
-{
-    let mut marks = vec![in alloc; false; count as usize]?;
-    for row in rows {
-        mark(marks.as_mut_slice(), row);
-    }
-    Ok(marks)
-}
-
-/// Those of the cells whose flag is set.
-pub fn marked(alloc: Global, marks: &[bool], cells: &[Cell]) -> Result<Vec<Cell>, OutOfMemory>
-    requires inside { All (λ cell. cell < length marks.now) cells.now }
-    requires once { AllPairs (λ a b. a ≢ b) cells.now }
-    ensures { IfOk result (λ v. AreMarked marks.now cells.now v.items) }
-{
-    let mut chosen = Vec::new(alloc);
-    for cell in cells {
-        if marks[*cell as usize] {
-            chosen.push(*cell)?;
+    for cell in lit {
+        let index = indices[*cell as usize] as usize;
+        if index < count {
+            add(words, base + index);
         }
     }
-    Ok(chosen)
 }

@@ -1,7 +1,6 @@
-ghost use Rattle.std.specs.Prelude.{◌<◌, ◌↔◌, All, IfOk, IsTrue};
+ghost use Rattle.std.specs.Prelude.{◌<◌, ◌^◌, ◌↔◌, All, IfOk, IsTrue};
 ghost use Rattle.scan_core.specs.Box as grid;
-ghost use Rattle.cave_model.specs.Torches.{IsPlace};
-ghost use Rattle.cover_rows.specs.Coverage.{ArePlaces};
+ghost use Rattle.cave_model.specs.Torches.{ArePlaces, IsPlace};
 
 use cave_model::{OutOfMemory, World};
 use scan_core::Cell;
@@ -19,6 +18,7 @@ fn is_place(world: &World, cell: Cell) -> bool
 pub fn legal_places(alloc: Global, world: &World) -> Result<Vec<Cell>, OutOfMemory>
     ensures places { IfOk result (λ v. ArePlaces world.now v.items) }
     ensures in_box { IfOk result (λ v. All (λ cell. cell < grid.cell_count world.now.size) v.items) }
+    ensures small { grid.cell_count world.now.size < 2 ^ 32 }
 {
     let mut places = Vec::new(alloc);
     for cell in 0..world.cell_count() {

@@ -1,43 +1,34 @@
-ghost use Rattle.std.specs.Prelude.{◌≡◌, ◌≢◌, ◌↔◌, IfOk, IfErr, IsTrue};
+ghost use Rattle.std.specs.Prelude.{◌≡◌, ◌≢◌, ◌<◌, ◌↔◌, ℕ, Contains, IfOk, IfErr, IsTrue, length};
+ghost use Rattle.set_cover.specs.Instance.{IsInstance, IsRowAt, LightsIn};
 ghost use Rattle.cover_rows.specs.Answer.{IsRefusal};
 ghost use Rattle.cover_rows.specs.Coverage.{IsProblemOf, IsUnlightableFault};
-ghost use Rattle.cover_rows.specs.Instance.{IsInstance, LightsIn};
 ghost use Rattle.cover_rows.specs.declared.fault.CoverFault.{CoverFault};
 
 use crate::building::instance;
 use crate::fault::CoverFault;
-use crate::search::find;
 use cave_model::World;
 use scan_core::Cell;
+use set_cover::Instance;
 use std::alloc::Global;
 use std::marker::Model;
 
 /// The dark cells of a cave, its legal places, and which place lights which dark cell. Both stand ascending, and each
-/// dark cell has a place that lights it. Its memory goes by the pairs of a place and a cell that it lights.
+/// dark cell has a place that lights it. Its memory is a bit for each pair of a place and a dark cell.
 #[derive(Debug, Drop)]
 pub struct Problem {
-    pub(crate) cells: Vec<Cell>,
-    pub(crate) places: Vec<Cell>,
-    pub(crate) rows: Vec<Vec<Cell>>,
+    instance: Instance,
 }
 
 impl Model for Problem {
-    ghost use Rattle.std.specs.Prelude.{map};
-    ghost use Rattle.cover_rows.specs.Instance.{Instance, IsInstance};
+    ghost use Rattle.set_cover.specs.Instance.{Instance, instance_coded, IsInstance};
 
     ghost Value = { Instance };
 
-    ghost view = { λ p. record {
-      cells = p.cells.items;
-      places = p.places.items;
-      rows = map (λ v. v.items) p.rows.items;
-    } };
+    ghost coded = { instance_coded };
 
-    ghost invariant = { λ p. IsInstance (record {
-      cells = p.cells.items;
-      places = p.places.items;
-      rows = map (λ v. v.items) p.rows.items;
-    }) };
+    ghost view = { λ p. p.instance };
+
+    ghost invariant = { λ p. IsInstance p.instance };
 }
 
 impl Problem {
@@ -50,7 +41,16 @@ impl Problem {
         // Such a fault is answered.
         ensures refused { (e : CoverFault) → IsUnlightableFault world.now e → IsRefusal result e }
     {
-        instance(alloc, world)
+        let instance = instance(alloc, world)?;
+        Ok(Problem { instance })
+    }
+
+    /// The set cover instance that the problem is.
+    pub fn instance(&self) -> &Instance
+        ensures same { result.now ≡ self.now }
+        ensures kept { IsInstance self.now }
+    {
+        &self.instance
     }
 
     /// The dark cells, ascending.
@@ -58,7 +58,7 @@ impl Problem {
         ensures cells { result.now ≡ self.now.cells }
         ensures kept { IsInstance self.now }
     {
-        &self.cells
+        self.instance.cells()
     }
 
     /// The legal places, ascending.
@@ -66,16 +66,21 @@ impl Problem {
         ensures places { result.now ≡ self.now.places }
         ensures kept { IsInstance self.now }
     {
-        &self.places
+        self.instance.places()
+    }
+
+    /// The row of a place: bit `i % 64` of word `i / 64` is set exactly where it lights the dark cell with the index i.
+    pub fn row(&self, place: Cell) -> &[u64]
+        requires place { Contains self.now.places place }
+        ensures { IsRowAt self.now place result.now }
+    {
+        self.instance.row(place)
     }
 
     /// Whether the place lights the dark cell; false for numbers that are no place or no dark cell of the problem.
     pub fn lights(&self, place: Cell, cell: Cell) -> bool
         ensures { IsTrue result ↔ LightsIn self.now place cell }
     {
-        match find(&self.places, place) {
-            Some(index) => find(&self.rows[index], cell).is_some(),
-            None => false,
-        }
+        self.instance.lights(place, cell)
     }
 }

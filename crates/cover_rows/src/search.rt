@@ -1,25 +1,16 @@
-ghost use Rattle.std.specs.Prelude.{◌<◌, length, All};
-ghost use Rattle.std.specs.List.Sorted.{IsStrictlyIncreasing};
-ghost use Rattle.cover_rows.specs.Rows.{FindsCell, FindsUnlit};
+ghost use Rattle.std.specs.Prelude.{◌≤◌, ◌*◌, length};
+ghost use Rattle.cover_rows.specs.Unlit.{FindsUnlit};
 
+use bit_rows::has;
 use scan_core::Cell;
 
-/// Where the cell stands among ascending cells.
-pub fn find(cells: &[Cell], cell: Cell) -> Option<usize>
-    requires ascending { IsStrictlyIncreasing cells.now }
-    ensures { FindsCell cells.now cell result }
+/// The first of the cells whose bit, by its index, isn't set.
+pub fn first_unlit(covered: &[u64], cells: &[Cell]) -> Option<Cell>
+    requires { length cells.now ≤ 64 * length covered.now }
+    ensures { FindsUnlit covered.now cells.now result }
 {
-    cells.binary_search(&cell).ok()
-}
-
-/// The first of ascending cells whose flag isn't set.
-pub fn first_unlit(lit: &[bool], cells: &[Cell]) -> Option<Cell>
-    requires inside { All (λ cell. cell < length lit.now) cells.now }
-    requires ascending { IsStrictlyIncreasing cells.now }
-    ensures { FindsUnlit lit.now cells.now result }
-{
-    for cell in cells {
-        if !lit[*cell as usize] {
+    for (index, cell) in cells.iter().enumerate() {
+        if !has(covered, index) {
             return Some(*cell);
         }
     }

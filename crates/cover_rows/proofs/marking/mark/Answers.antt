@@ -1,12 +1,9 @@
-use Rattle.cover_rows.proofs.MarkLemmas.{marks_none, marks_next, marks_all}
-use Rattle.std.proofs.Common.{refl}
+use Rattle.cover_rows.proofs.MarkLemmas.{marks_next, marks_pass}
+use Rattle.cover_rows.proofs.marking.mark.Goals.{then-index-count, else-index-count}
 use Rattle.cover_rows.proofs.marking.mark.Goals as goal
 
-pub loop-cell-init : goal.loop-cell-init
-loop-cell-init c = marks_none c.args.marks.now _ refl
-
 pub loop-cell-preserved : goal.loop-cell-preserved
-loop-cell-preserved c = marks_next c.args.marks.now c.loop-cell.marks c.args.cells.now c.loop-cell.cell-index c.loop-cell-test.true (c.requires.inside c.loop-cell.cell-index 0 c.loop-cell-test.true) c.loop-cell.invariant
-
-pub returns : goal.returns
-returns c = marks_all c.args.marks.now c.loop-cell.marks c.args.cells.now c.loop-cell.cell-index c.loop-cell-test.false c.loop-cell.invariant
+loop-cell-preserved c = elim c.if-index-count.branch [
+  | then-index-count w ↦ rw w.words-is (marks_next c.args.words.now c.args.indices.now c.args.count c.args.base c.args.lit.now c.loop-cell.words w.add.new.words c.loop-cell.cell-index c.loop-cell-test.true w.if-index-count.true w.add.ensures c.loop-cell.invariant)
+  | else-index-count w ↦ rw w.words-is (marks_pass c.args.words.now c.args.indices.now c.args.count c.args.base c.args.lit.now c.loop-cell.words c.loop-cell.cell-index c.loop-cell-test.true w.if-index-count.false c.loop-cell.invariant)
+]

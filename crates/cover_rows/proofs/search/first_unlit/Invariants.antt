@@ -1,5 +1,6 @@
-use Rattle.cover_rows.proofs.MarkLemmas.{AreSet}
+use Rattle.std.proofs.Common.{ℕ, ◌<◌}
+use Rattle.bit_rows.specs.Bits.{Has}
 use Rattle.cover_rows.proofs.search.first_unlit.Given as goal
 
-abbrev pub invariant-loop-cell : goal.invariant-loop-cell
-invariant-loop-cell l = AreSet l.lit l.cells l.cell-index
+abbrev pub invariant-loop-index : goal.invariant-loop-index
+invariant-loop-index l = (k : ℕ) → k < l.index → Has l.covered k

@@ -1,0 +1,5 @@
+pub mod ListLemmas
+pub mod BitLemmas
+pub mod WordLemmas
+pub mod CountLemmas
+pub mod WalkLemmas

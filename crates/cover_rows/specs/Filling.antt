@@ -1,0 +1,59 @@
+-- How the rows are filled: cells get their indices, and each place the bits of the cells that it lights.
+-- This is this project's own.
+use Rattle.std.specs.Prelude.{◌≡◌, ◌<◌, ◌≤◌, ◌↔◌, ◌⊎◌, ℕ, ◌+◌, ◌*◌, ◌^◌, List, length, slice_index, All, Contains}
+use Rattle.std.specs.List.Sorted.{IsStrictlyIncreasing}
+use Rattle.scan_core.specs.Box.{cell_count}
+use Rattle.bit_rows.specs.Bits.{Has}
+use Rattle.cave_model.specs.Cave.{Cave}
+use Rattle.cave_model.specs.Torches.{Lights}
+
+-- for each of so many cells its index in the list, where it stands there
+pub record AreIndices (count : ℕ) (cells indices : List ℕ) : Type 0 where
+  pub whole : length indices ≡ count
+  pub exact : (cell index : ℕ) → cell < count → index < length cells
+      → (slice_index indices cell ≡ index) ↔ (slice_index cells index ≡ cell)
+
+-- the bit of some cell of the list, from a base on, by its index; a number of `count` or more is none
+pub record IsBitOf (indices : List ℕ) (count base : ℕ) (lit : List ℕ) (bit : ℕ) : Type 0 where
+  pub cell : ℕ
+  pub listed : Contains lit cell
+  pub indexed : slice_index indices cell < count
+  pub there : bit ≡ base + slice_index indices cell
+
+-- these bits are set too
+pub record Marks (old indices : List ℕ) (count base : ℕ) (lit new : List ℕ) : Type 0 where
+  pub whole : length new ≡ length old
+  pub exact : (bit : ℕ) → Has new bit ↔ (Has old bit ⊎ IsBitOf indices count base lit bit)
+
+-- the place with the first index lights the cell with the second
+pub record LightsBy (cave : Cave) (cells places : List ℕ) (place cell : ℕ) : Type 0 where
+  pub inside : cell < length cells
+  pub lights : Lights cave (slice_index places place) (slice_index cells cell)
+
+-- the rows of the first so many places are filled, and the others are empty
+pub record AreFilled (cave : Cave) (cells places : List ℕ) (width count : ℕ) (words : List ℕ) : Type 0 where
+  pub whole : length words ≡ length places * width
+  pub exact : (place cell : ℕ) → place < length places → cell < 64 * width
+      → Has words (64 * (place * width) + cell) ↔ ((place < count) × LightsBy cave cells places place cell)
+
+-- the cells that one of the first so many places lights
+pub record AreCovered (cave : Cave) (cells places : List ℕ) (width count : ℕ) (covered : List ℕ) : Type 0 where
+  pub whole : length covered ≡ width
+  pub exact : (cell : ℕ) → Has covered cell ↔ ((place : ℕ) × (place < count) × LightsBy cave cells places place cell)
+
+-- what filling leaves
+pub record IsFilling (cave : Cave) (cells places words covered : List ℕ) : Type 0 where
+  pub filled : AreFilled cave cells places (length covered) (length places) words
+  pub lit : AreCovered cave cells places (length covered) (length places) covered
+
+-- cells of the box, ascending
+pub record IsListed (cave : Cave) (cells : List ℕ) : Type 0 where
+  pub ascending : IsStrictlyIncreasing cells
+  pub inside : All (λ cell. cell < cell_count cave.size) cells
+
+-- words without a bit for so many rows of that width, with room for so many cells in each
+pub record AreEmpty (rows width cells : ℕ) (words : List ℕ) : Type 0 where
+  pub whole : length words ≡ rows * width
+  pub none : (bit : ℕ) → ¬ Has words bit
+  pub room : cells ≤ 64 * width
+  pub small : length words < 2 ^ 58

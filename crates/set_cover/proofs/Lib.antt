@@ -1,0 +1,4 @@
+pub mod OrderLemmas
+pub mod NumberLemmas
+pub mod LightLemmas
+pub mod RowLemmas
