@@ -1,0 +1,20 @@
+use Rattle.std.proofs.Common.{arith}
+use Rattle.bit_rows.proofs.BitLemmas.{has_inside}
+use Rattle.cave_regions.proofs.CopyLemmas.{copied_none, copied_next, copied_all}
+use Rattle.cave_regions.proofs.copying.copy_row.Goals as goal
+
+pub loop-bit-init : goal.loop-bit-init
+loop-bit-init c = copied_none c.args.words.now c.args.row.now c.args.ranks.now c.args.base
+
+pub loop-bit-preserved : goal.loop-bit-preserved
+loop-bit-preserved c =
+    copied_next c.args.words.now c.args.row.now c.args.ranks.now c.loop-bit.words c.add.new.words c.args.base c.loop-bit.from c.in-Some.bit c.in-Some.ensures c.add.ensures c.loop-bit.invariant
+
+pub returns : goal.returns
+returns c = copied_all c.args.words.now c.args.row.now c.args.ranks.now c.loop-bit.words c.args.base c.loop-bit.from c.in_default.ensures c.loop-bit.invariant
+
+pub loop-bit-smaller : goal.loop-bit-smaller
+loop-bit-smaller c =
+    let inside = has_inside c.args.row.now c.in-Some.bit c.in-Some.ensures.there in
+    let later = c.in-Some.ensures.later in
+    omega (arith, inside, later)

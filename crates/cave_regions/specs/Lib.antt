@@ -1,0 +1,9 @@
+-- public clauses cite
+pub mod Region
+pub mod Cover
+pub mod Splitting
+-- private
+pub mod Restricting
+pub mod Joining
+pub mod Grouping
+pub mod Trees

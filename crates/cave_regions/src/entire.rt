@@ -1,0 +1,57 @@
+//! A whole problem as one region.
+ghost use Rattle.std.specs.Prelude.{◌≡◌, ◌<◌, ◌≤◌, ◌^◌, length, IfOk};
+ghost use Rattle.cave_model.specs.Listing.{Lists};
+ghost use Rattle.set_cover.specs.Instance.{IsInstance};
+ghost use Rattle.cave_regions.specs.Restricting.{IsLighting};
+ghost use Rattle.cave_regions.specs.Splitting.{IsPartOf, IsWhole};
+
+use crate::joining::{alone, count_of};
+use crate::region::Region;
+use crate::restricting::restrict;
+use bit_rows::first;
+use cave_model::OutOfMemory;
+use cover_rows::Problem;
+use set_cover::Instance;
+use std::alloc::Global;
+
+/// The one region of all cells of a problem, and None where it has no cell.
+pub fn whole(alloc: Global, problem: &Problem) -> Result<Option<Region>, OutOfMemory>
+    ensures { IfOk result (λ found. IsWhole problem.now found) }
+{
+    let instance = problem.instance();
+    if instance.cells().is_empty() {
+        return Ok(None);
+    }
+    let region = all_of(alloc, instance)?;
+    Ok(Some(region))
+}
+
+/// All cells of an instance as a region.
+fn all_of(alloc: Global, instance: &Instance) -> Result<Region, OutOfMemory>
+    requires kept { IsInstance instance.now }
+    requires filled { 0 < length instance.now.cells }
+    ensures cells { IfOk result (λ region. region.cells ≡ instance.now.cells) }
+    ensures part { IfOk result (λ region. IsPartOf instance.now region) }
+{
+    let count = count_of(instance.cells());
+    let own = alone(alloc, count)?;
+    let placed = lighting(alloc, instance)?;
+    let mut ranks = vec![in alloc; 0u32; count]?;
+    let region = restrict(alloc, instance, ranks.as_mut_slice(), &own, &placed)?;
+    Ok(region)
+}
+
+/// The places that light some cell, by their indices.
+fn lighting(alloc: Global, instance: &Instance) -> Result<Vec<u32>, OutOfMemory>
+    requires kept { IsInstance instance.now }
+    requires few { length instance.now.cells ≤ 2 ^ 32 }
+    ensures { IfOk result (λ v. Lists (IsLighting instance.now) v.items) }
+{
+    let mut placed = Vec::new(alloc);
+    for place in 0..count_of(instance.places()) {
+        if let Some(_) = first(instance.row_at(place)) {
+            placed.push(place as u32)?;
+        }
+    }
+    Ok(placed)
+}

@@ -1,0 +1,43 @@
+//! The regions of a problem.
+ghost use Rattle.std.specs.Prelude.{IfOk};
+ghost use Rattle.set_cover.specs.Instance.{IsInstance};
+ghost use Rattle.cave_regions.specs.Splitting.{AreRegionsOf};
+
+use crate::grouping::{cells_by, places_by};
+use crate::joining::labels_of;
+use crate::region::Region;
+use crate::restricting::restrict;
+use cave_model::OutOfMemory;
+use cover_rows::Problem;
+use set_cover::Instance;
+use std::alloc::Global;
+
+/// The regions of a problem, by their least cells: no place lights cells of two of them, and any two cells of one are
+/// joined by a row of its cells in which one place lights each and the next. Their rows take no more memory than those
+/// of the problem.
+pub fn split(alloc: Global, problem: &Problem) -> Result<Vec<Region>, OutOfMemory>
+    ensures { IfOk result (λ v. AreRegionsOf problem.now v.items) }
+{
+    let regions = parts_of(alloc, problem.instance())?;
+    Ok(regions)
+}
+
+/// The regions of an instance.
+fn parts_of(alloc: Global, instance: &Instance) -> Result<Vec<Region>, OutOfMemory>
+    requires kept { IsInstance instance.now }
+    ensures { IfOk result (λ v. AreRegionsOf instance.now v.items) }
+{
+    let labels = labels_of(alloc, instance)?;
+    let cells = cells_by(alloc, &labels)?;
+    let places = places_by(alloc, instance, &labels)?;
+    let mut ranks = vec![in alloc; 0u32; labels.len()]?;
+    let ranks = ranks.as_mut_slice();
+    let mut regions = Vec::new(alloc);
+    for label in 0..labels.len() {
+        let own = cells.at(label);
+        if !own.is_empty() {
+            regions.push(restrict(alloc, instance, ranks, own, places.at(label))?)?;
+        }
+    }
+    Ok(regions)
+}
