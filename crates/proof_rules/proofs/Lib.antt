@@ -1,0 +1,4 @@
+pub mod ListLemmas
+pub mod CarryLemmas
+pub mod BoundLemmas
+pub mod LessLemmas

@@ -1,0 +1,82 @@
+-- What a certificate says, apart from its text. This is this project's own.
+use Rattle.std.specs.Prelude.{◌≡◌, ℕ, ◌<◌, ◌≤◌, ◌⊎◌, List, length, All, IsTrue, map}
+use Rattle.std.specs.List.Sorted.{IsStrictlyIncreasing}
+use Rattle.scan_core.specs.Box.{Point, cell_count, is_small}
+use Rattle.cave_model.specs.Regions.{all_cells}
+use Rattle.proof_rules.specs.Tree.{Tree, Forest, leaf, branch, bar, none, more, tree_count}
+
+-- a region, its torches, and a tree that proves them the fewest
+pub record Section : Type 0 where
+  pub cells : List ℕ
+  pub torches : List ℕ
+  pub tree : Tree
+
+-- which version of the text it has: the first speaks of no need and no place left out
+pub data Version : Type 0 where
+  first : Version
+  second : ℕ → Version
+
+-- the level that is needed
+abbrev pub need_of : Version → ℕ
+need_of first = 1
+need_of (second need) = need
+
+pub record Certificate : Type 0 where
+  pub version : Version
+  pub size : Point
+  pub headroom : ℕ
+  pub sections : List Section
+
+abbrev pub regions_of : Certificate → List (List ℕ)
+regions_of certificate = map (λ section. section.cells) certificate.sections
+
+abbrev pub torch_lists : List Section → List (List ℕ)
+torch_lists sections = map (λ section. section.torches) sections
+
+abbrev pub torches_of : List Section → List ℕ
+torches_of sections = all_cells (torch_lists sections)
+
+-- ---- ranges
+
+-- ascending cells of a box of so many
+pub record AreListed (count : ℕ) (cells : List ℕ) : Type 0 where
+  pub ascending : IsStrictlyIncreasing cells
+  pub below : All (λ cell. cell < count) cells
+
+abbrev mutual
+  pub IsTreeIn : ℕ → Tree → Type 0
+  IsTreeIn count (leaf cells) = AreListed count cells
+  IsTreeIn count (branch cell kids) = (cell < count) × (tree_count kids ≤ count) × AreTreesIn count kids
+  IsTreeIn count (bar place by kid) = (place < count) × (by < count) × IsTreeIn count kid
+
+  pub AreTreesIn : ℕ → Forest → Type 0
+  AreTreesIn count none = Unit {0}
+  AreTreesIn count (more tree trees) = IsTreeIn count tree × AreTreesIn count trees
+
+abbrev mutual
+  pub HasNoBar : Tree → Type 0
+  HasNoBar (leaf cells) = Unit {0}
+  HasNoBar (branch cell kids) = HaveNoBar kids
+  HasNoBar (bar place by kid) = ⊥
+
+  pub HaveNoBar : Forest → Type 0
+  HaveNoBar none = Unit {0}
+  HaveNoBar (more tree trees) = HasNoBar tree × HaveNoBar trees
+
+abbrev pub IsVersionOf : List Section → Version → Type 0
+IsVersionOf sections first = All (λ section. HasNoBar section.tree) sections
+IsVersionOf sections (second need) = (need ≡ 1) ⊎ (need ≡ 8)
+
+pub record IsSectionIn (count : ℕ) (section : Section) : Type 0 where
+  pub dark : AreListed count section.cells
+  pub filled : 0 < length section.cells
+  pub lit_by : AreListed count section.torches
+  pub some : 0 < length section.torches
+  pub proof : IsTreeIn count section.tree
+
+pub record IsInRange (certificate : Certificate) : Type 0 where
+  pub small : IsTrue (is_small certificate.size)
+  pub ruled : (certificate.headroom ≡ 1) ⊎ (certificate.headroom ≡ 2)
+  pub versioned : IsVersionOf certificate.sections certificate.version
+  pub few : length certificate.sections ≤ cell_count certificate.size
+  pub each : All (IsSectionIn (cell_count certificate.size)) certificate.sections

@@ -1,0 +1,4 @@
+pub mod Tree
+pub mod Good
+pub mod Certificate
+pub mod Text
