@@ -1,0 +1,7 @@
+pub mod OrderLemmas
+pub mod WritingLemmas
+pub mod SentLemmas
+pub mod NodeLemmas
+pub mod SectionLemmas
+pub mod PlanLemmas
+pub mod WholeLemmas

@@ -1,0 +1,152 @@
+//! A tree of cases.
+ghost use Rattle.std.specs.Prelude.{◌≡◌, IfOk};
+ghost use Rattle.proof_rules.specs.Tree.{leaf, branch, bar};
+ghost use Rattle.proof_tree.specs.Shape.{tree_of, forest_of};
+
+use std::alloc::{AllocError, Global};
+use std::marker::Model;
+
+/// Cells, which contracts see as a list.
+#[derive(Drop)]
+pub struct Cells {
+    items: Vec<u32>,
+}
+
+impl Model for Cells {
+    ghost use Rattle.std.specs.Prelude.{List, ℕ};
+
+    ghost Value = { List ℕ };
+
+    ghost view = { λ c. c.items.items };
+}
+
+/// The tree below a place that is left out.
+#[cycle(proof)]
+#[derive(Drop)]
+pub struct Below {
+    tree: Box<Proof>,
+}
+
+/// Trees, one for each place in turn.
+#[cycle(proof)]
+#[derive(Drop)]
+pub struct Kids {
+    items: Vec<Proof>,
+}
+
+/// Why each cover of a piece has at least so many places.
+#[cycle(proof)]
+#[derive(Drop)]
+pub enum Proof {
+    Leaf(Cells),
+    Branch { cell: u32, kids: Kids },
+    Bar { place: u32, by: u32, kid: Below },
+}
+
+impl Model for Below {
+    ghost use Rattle.proof_rules.specs.Tree.{Tree};
+    ghost use Rattle.proof_tree.specs.Codes.{tree_coded};
+
+    ghost Value = { Tree };
+
+    ghost coded = { tree_coded };
+
+    ghost use Rattle.proof_tree.specs.Shape.{tree_of, tree_size};
+
+    ghost view = { λ b. tree_of b.tree.value };
+
+    ghost size = { tree_size };
+
+    ghost use Rattle.proof_tree.specs.Falls.{below_falls};
+
+    ghost size_decreases = { λ a h. below_falls a.tree.value };
+}
+
+impl Model for Kids {
+    ghost use Rattle.proof_rules.specs.Tree.{Forest};
+    ghost use Rattle.proof_tree.specs.Codes.{forest_coded};
+
+    ghost Value = { Forest };
+
+    ghost coded = { forest_coded };
+
+    ghost use Rattle.proof_tree.specs.Shape.{forest_of, forest_size};
+
+    ghost view = { λ k. forest_of k.items.items };
+
+    ghost size = { forest_size };
+
+    ghost use Rattle.proof_tree.specs.Falls.{kids_fall};
+
+    ghost size_decreases = { λ a h. kids_fall a.items.items };
+}
+
+impl Cells {
+    /// These cells, with no new memory.
+    pub fn of(items: Vec<u32>) -> Cells
+        ensures { result ≡ items.items }
+    {
+        Cells { items }
+    }
+
+    pub fn as_slice(&self) -> &[u32]
+        ensures { result.now ≡ self.now }
+    {
+        self.items.as_slice()
+    }
+
+    /// The cells alone, with no new memory.
+    pub fn into_items(self) -> Vec<u32>
+        ensures { result.items ≡ self }
+    {
+        let Cells { items } = self;
+        items
+    }
+}
+
+impl Kids {
+    /// These trees, with no new memory.
+    pub fn of(items: Vec<Proof>) -> Kids
+        ensures { result ≡ forest_of items.items }
+    {
+        Kids { items }
+    }
+
+    pub fn trees(&self) -> &[Proof]
+        ensures { self.now ≡ forest_of result.now }
+    {
+        self.items.as_slice()
+    }
+
+    /// The trees alone, with no new memory.
+    pub fn into_trees(self) -> Vec<Proof>
+        ensures { forest_of result.items ≡ self }
+    {
+        let Kids { items } = self;
+        items
+    }
+}
+
+impl Below {
+    pub fn of(alloc: Global, tree: Proof) -> Result<Below, AllocError>
+        ensures { IfOk result (λ below. below ≡ tree_of tree) }
+    {
+        Ok(Below {
+            tree: Box::new(alloc, tree)?,
+        })
+    }
+
+    pub fn tree(&self) -> &Proof
+        ensures { tree_of result.now ≡ self.now }
+    {
+        &self.tree
+    }
+
+    /// The tree alone, with no new memory.
+    pub fn into_tree(self) -> Proof
+        ensures { tree_of result ≡ self }
+    {
+        let Below { tree } = self;
+        Box::into_inner(tree)
+    }
+}
