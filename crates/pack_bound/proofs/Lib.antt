@@ -1,0 +1,5 @@
+pub mod ListingLemmas
+pub mod NumberLemmas
+pub mod NodeLemmas
+pub mod JudgeLemmas
+pub mod NamingLemmas

@@ -1,0 +1,8 @@
+-- public clauses cite
+pub mod Indices
+pub mod Nodes
+pub mod Judged
+pub mod Naming
+pub mod Pieces
+-- private
+pub mod Pairs

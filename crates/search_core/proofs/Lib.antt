@@ -1,0 +1,5 @@
+pub mod BarLemmas
+pub mod KidLemmas
+pub mod AloneLemmas
+pub mod NumberingLemmas
+pub mod PieceLemmas

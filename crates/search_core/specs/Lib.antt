@@ -1,0 +1,9 @@
+-- public clauses cite
+pub mod Sizes
+pub mod Planned
+pub mod Stops
+pub mod Pieces
+-- private
+pub mod Alone
+pub mod Bars
+pub mod Kids

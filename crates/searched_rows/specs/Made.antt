@@ -1,0 +1,26 @@
+-- What the rows of a small region are looked at for. This is this project's own.
+use Rattle.std.specs.Prelude.{◌≡◌, ℕ, ◌+◌, ◌*◌, ◌<◌, List, length, slice_index, slice_range}
+use Rattle.bit_rows.specs.Bits.{Has, HasNoneFrom}
+
+-- 0, 1 and so on, so many
+pub record CountsUp (count : ℕ) (numbers : List ℕ) : Type 0 where
+  pub long : length numbers ≡ count
+  pub each : (k : ℕ) → k < count → slice_index numbers k ≡ k
+
+-- the row of the place with this index
+abbrev pub row_at : ℕ → List ℕ → ℕ → List ℕ
+row_at width words place = slice_range words (place * width) (place * width + width)
+
+-- some bit, and none from the count on
+pub record IsRowFor (count : ℕ) (row : List ℕ) : Type 0 where
+  pub none_past : HasNoneFrom row count
+  pub some : (bit : ℕ) × Has row bit
+
+-- one of the rows has the bit
+abbrev pub IsLitIn : ℕ → ℕ → List ℕ → ℕ → Type 0
+IsLitIn places width words bit = (place : ℕ) × (place < places) × Has (row_at width words place) bit
+
+pub record AreRows (count places width : ℕ) (words : List ℕ) : Type 0 where
+  pub filled : 0 < count
+  pub each : (place : ℕ) → place < places → IsRowFor count (row_at width words place)
+  pub lit : (bit : ℕ) → bit < count → IsLitIn places width words bit

@@ -1,0 +1,93 @@
+//! Rings of cells, where each place lights a cell and the next: the fewest are half of them, rounded up.
+use crate::making::made;
+use cave_regions::Region;
+use pack_bound::first_plan;
+use proof_tree::Proof;
+use search_core::{AloneFault, plan_alone};
+use std::alloc::{AllocError, Global};
+use std::sync::Arc;
+use std::test::Fail;
+
+/// A ring of so many cells and places.
+pub(crate) fn ring(alloc: Global, count: u32) -> Result<Arc<Region>, Fail> {
+    let mut rows = Vec::new(alloc);
+    for place in 0..count {
+        let next = if place + 1 < count { place + 1 } else { 0 };
+        rows.push([place, next])?;
+    }
+    region(alloc, count as usize, &rows)
+}
+
+/// The region in which each place lights these two cells.
+pub(crate) fn region(alloc: Global, count: usize, rows: &[[u32; 2]]) -> Result<Arc<Region>, Fail> {
+    match made(alloc, count, rows)? {
+        Some(region) => Ok(Arc::new(alloc, region)?),
+        None => Err(AllocError.into()),
+    }
+}
+
+/// The number of the plan's places, and how many kids the root of its tree has.
+fn planned(alloc: Global, region: &Arc<Region>, turns: Option<u64>) -> Result<(u64, usize), Fail> {
+    match plan_alone(alloc, region, turns) {
+        Ok((cover, proof)) => Ok((cover.size(), kids_of(&proof))),
+        Err(AloneFault::Stopped { cover, floor }) => Ok((cover.size(), floor as usize)),
+        Err(AloneFault::OutOfMemory) => Err(AllocError.into()),
+    }
+}
+
+fn kids_of(proof: &Proof) -> usize {
+    match proof {
+        Proof::Leaf(_) => 0,
+        Proof::Branch { cell: _, kids } => kids.trees().len(),
+        Proof::Bar {
+            place: _,
+            by: _,
+            kid,
+        } => kids_of(kid.tree()),
+    }
+}
+
+#[test]
+fn an_odd_ring_needs_a_branch(rt: HostRuntime) -> Result<(), Fail> {
+    for (count, fewest) in [(5, 3), (7, 4), (9, 5)] {
+        let region = ring(rt.alloc(), count)?;
+        assert_eq!(rt; planned(rt.alloc(), &region, None)?, (fewest, 2));
+    }
+    Ok(())
+}
+
+#[test]
+fn an_even_ring_is_one_leaf(rt: HostRuntime) -> Result<(), Fail> {
+    let region = ring(rt.alloc(), 6)?;
+    assert_eq!(rt; planned(rt.alloc(), &region, None)?, (3, 0));
+    Ok(())
+}
+
+#[test]
+fn one_leaf_takes_one_turn(rt: HostRuntime) -> Result<(), Fail> {
+    let region = ring(rt.alloc(), 6)?;
+    assert_eq!(rt; planned(rt.alloc(), &region, Some(1))?, (3, 0));
+    Ok(())
+}
+
+#[test]
+fn a_search_out_of_turns_tells_a_floor(rt: HostRuntime) -> Result<(), Fail> {
+    let region = ring(rt.alloc(), 5)?;
+    assert_eq!(rt; planned(rt.alloc(), &region, Some(1))?, (3, 2));
+    Ok(())
+}
+
+#[test]
+fn a_first_plan_covers_a_ring(rt: HostRuntime) -> Result<(), Fail> {
+    let region = ring(rt.alloc(), 6)?;
+    let cover = first_plan(rt.alloc(), &region)?;
+    assert_eq!(rt; cover.places(), [0, 2, 4].as_slice());
+    Ok(())
+}
+
+#[test]
+fn a_ring_over_several_words_is_planned(rt: HostRuntime) -> Result<(), Fail> {
+    let region = ring(rt.alloc(), 131)?;
+    assert_eq!(rt; planned(rt.alloc(), &region, None)?.0, 66);
+    Ok(())
+}
