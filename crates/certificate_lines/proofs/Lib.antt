@@ -1,0 +1,15 @@
+pub mod Rest
+pub mod Sound
+pub mod Complete
+pub mod Whole
+pub mod Digits
+pub mod Reading
+pub mod Words
+pub mod Lift
+pub mod Walk
+pub mod Feeds
+pub mod Misfit
+pub mod Unique
+pub mod Pushing
+pub mod KindLemmas
+pub mod SaidLemmas

@@ -1,0 +1,10 @@
+pub mod Steps
+pub mod Kinds
+pub mod Numbers
+pub mod Decides
+pub mod Said
+pub mod Sound
+pub mod Cuts
+pub mod Moves
+pub mod Walked
+pub mod Held

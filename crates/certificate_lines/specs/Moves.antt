@@ -1,0 +1,20 @@
+-- What taking a line does.
+use Rattle.std.specs.Prelude.{◌≡◌, ℕ, ◌+◌, List}
+use Rattle.certificate_lines.specs.Steps.{Takes}
+use Rattle.certificate_lines.specs.Decides.{IsJust, IsNone, IsLineOf}
+use Rattle.certificate_lines.specs.Kinds.{word_of}
+use Rattle.certificate_lines.specs.declared.kind.Kind.{Kind}
+use Rattle.certificate_lines.specs.declared.stage.Stage.{Stage}
+
+-- the line fits, and this is the one stage that it leads to
+pub record Fits (text : List ℕ) (kind : Kind) (numbers : List ℕ) (old new : Stage)
+    (taken now_taken : ℕ) : Type 0 where
+  pub one : IsJust (Takes old text) new
+  -- it has the word of its kind, and these numbers
+  pub said : IsLineOf text (word_of kind) numbers
+  pub counted : now_taken ≡ taken + 1
+
+pub record FitsNot (text : List ℕ) (old new : Stage) (taken now_taken : ℕ) : Type 0 where
+  pub none : IsNone (Takes old text)
+  pub stays : new ≡ old
+  pub counted : now_taken ≡ taken

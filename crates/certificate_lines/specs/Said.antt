@@ -1,0 +1,55 @@
+-- The lines of a certificate as kinds and numbers. This is this project's own.
+use Rattle.std.specs.Prelude.{ℕ, List, [], ◌∷◌, ◌++◌, length, flat_map}
+use Rattle.proof_rules.specs.Tree.{Tree, Forest, leaf, branch, bar, none, more, tree_count}
+use Rattle.proof_rules.specs.Certificate.{Section, Version, first, second, Certificate}
+use Rattle.proof_rules.specs.Text.{line}
+use Rattle.certificate_lines.specs.Kinds.{word_of}
+use Rattle.certificate_lines.specs.Decides.{IsLineOf}
+use Rattle.certificate_lines.specs.declared.kind.Kind.{Kind}
+use Rattle.certificate_lines.specs.declared.kind.Kind.TheVariants as kind
+
+-- what a line says
+pub record Said : Type 0 where
+  pub kind : Kind
+  pub numbers : List ℕ
+
+abbrev pub said : Kind → List ℕ → Said
+said k numbers = record { kind = k; numbers = numbers }
+
+abbrev pub text_of : Said → List ℕ
+text_of s = line (word_of s.kind) s.numbers
+
+abbrev mutual
+  pub tree_said : Tree → List Said
+  tree_said (leaf cells) = said kind.Leaf (length cells ∷ cells) ∷ []
+  tree_said (branch cell kids) = said kind.Branch (cell ∷ tree_count kids ∷ []) ∷ forest_said kids
+  tree_said (bar place by kid) = said kind.Bar (place ∷ by ∷ []) ∷ tree_said kid
+
+  pub forest_said : Forest → List Said
+  forest_said none = []
+  forest_said (more tree trees) = tree_said tree ++ forest_said trees
+
+abbrev pub section_said : Section → List Said
+section_said section = said kind.Region (length section.cells ∷ length section.torches ∷ [])
+    ∷ said kind.Dark section.cells
+    ∷ said kind.Torches section.torches
+    ∷ tree_said section.tree
+
+abbrev pub head_said : Version → Said → Said → List Said
+head_said first box headroom = said kind.Version (1 ∷ []) ∷ box ∷ headroom ∷ []
+head_said (second need) box headroom = said kind.Version (2 ∷ []) ∷ box ∷ headroom ∷ said kind.Need (need ∷ []) ∷ []
+
+-- what the lines of a certificate say
+abbrev pub said_of : Certificate → List Said
+said_of certificate = head_said certificate.version
+    (said kind.Size (certificate.size.x ∷ certificate.size.y ∷ certificate.size.z ∷ []))
+    (said kind.Headroom (certificate.headroom ∷ []))
+    ++ said kind.Regions (length certificate.sections ∷ [])
+    ∷ (flat_map section_said certificate.sections ++ said kind.End [] ∷ [])
+
+-- these lines say just this
+abbrev pub AreSaid : List (List ℕ) → List Said → Type 0
+AreSaid [] [] = Unit {0}
+AreSaid [] (s ∷ all) = ⊥
+AreSaid (text ∷ lines) [] = ⊥
+AreSaid (text ∷ lines) (s ∷ all) = IsLineOf text (word_of s.kind) s.numbers × AreSaid lines all

@@ -1,0 +1,7 @@
+pub mod RelaxLemmas
+pub mod RowLemmas
+pub mod PlaceLemmas
+pub mod SeedLemmas
+pub mod TakeLemmas
+pub mod PairLemmas
+pub mod MarkLemmas

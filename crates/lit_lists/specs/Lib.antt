@@ -1,0 +1,3 @@
+pub mod Relaxing
+pub mod Seeded
+pub mod Lists

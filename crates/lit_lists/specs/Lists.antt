@@ -1,0 +1,98 @@
+-- Which cells are dark, which are places, and what a torch at each place lights, by the number of the cell.
+-- This is this project's own.
+use Rattle.std.specs.Prelude.{◌≡◌, ◌≢◌, ◌<◌, ◌↔◌, ◌⊎◌, ℕ, Bool, false, IsTrue, List, [], ◌∷◌, ◌++◌, length}
+use Rattle.std.specs.Prelude.{slice_index_or, Contains}
+use Rattle.std.specs.List.Sorted.{IsStrictlyIncreasing}
+use Rattle.scan_core.specs.Box.{cell_count}
+use Rattle.cave_model.specs.Cave.{Cave}
+use Rattle.cave_model.specs.Spawn.{IsDark}
+use Rattle.cave_model.specs.Torches.{IsPlace, Lights}
+use Rattle.cave_model.specs.Plan.{AreDistinct}
+
+-- whether the cell has its flag set; none past the end has
+abbrev pub is_marked : List Bool → ℕ → Bool
+is_marked marks cell = slice_index_or marks cell false
+
+-- a flag for each cell, set for those of the kind
+pub record AreMarksOf (count : ℕ) (Kind : ℕ → Type 0) (marks : List Bool) : Type 0 where
+  pub whole : length marks ≡ count
+  pub exact : (cell : ℕ) → IsTrue (is_marked marks cell) ↔ Kind cell
+
+-- the list at this number; past the end it is empty
+abbrev pub row_at : List (List ℕ) → ℕ → List ℕ
+row_at rows number = slice_index_or rows number []
+
+-- so many lists, all of them empty
+pub record AreEmptyRows (count : ℕ) (rows : List (List ℕ)) : Type 0 where
+  pub whole : length rows ≡ count
+  pub empty : (cell : ℕ) → row_at rows cell ≡ []
+
+-- the number was put at the end of the list of the cell
+pub record IsPushed (old : List (List ℕ)) (cell number : ℕ) (new : List (List ℕ)) : Type 0 where
+  pub whole : length new ≡ length old
+  pub here : row_at new cell ≡ row_at old cell ++ number ∷ []
+  pub others : (other : ℕ) → other ≢ cell → row_at new other ≡ row_at old other
+
+-- the cells that a torch at the place lights, each once
+pub record AreLitCells (cave : Cave) (place : ℕ) (cells : List ℕ) : Type 0 where
+  pub once : AreDistinct cells
+  pub exact : (cell : ℕ) → Contains cells cell ↔ Lights cave place cell
+
+-- the place is legal, the cell dark, and a torch at the one lights the other
+pub record IsPair (cave : Cave) (place cell : ℕ) : Type 0 where
+  pub legal : IsPlace cave place
+  pub dark : IsDark cave cell
+  pub lights : Lights cave place cell
+
+-- who lights what, by the number of the cell
+pub record Pairs : Type 0 where
+  -- of each place, the dark cells that it lights
+  pub lights : List (List ℕ)
+  -- of each dark cell, the places that light it
+  pub lit_by : List (List ℕ)
+
+-- this place and this cell were added
+pub record IsAdded (old : Pairs) (place cell : ℕ) (new : Pairs) : Type 0 where
+  pub lights : IsPushed old.lights place cell new.lights
+  pub lit_by : IsPushed old.lit_by cell place new.lit_by
+
+-- so many lists both ways, with no pair in them
+pub record AreNoPairs (count : ℕ) (pairs : Pairs) : Type 0 where
+  pub lights : AreEmptyRows count pairs.lights
+  pub lit_by : AreEmptyRows count pairs.lit_by
+
+-- this place was added with those of the cells that are marked
+pub record AreAdded (marks : List Bool) (old : Pairs) (place : ℕ) (cells : List ℕ) (new : Pairs) : Type 0 where
+  pub whole : length new.lights ≡ length old.lights
+  pub wide : length new.lit_by ≡ length old.lit_by
+  pub here : (cell : ℕ) → Contains (row_at new.lights place) cell
+      ↔ (Contains (row_at old.lights place) cell ⊎ (Contains cells cell × IsTrue (is_marked marks cell)))
+  pub others : (other : ℕ) → other ≢ place → row_at new.lights other ≡ row_at old.lights other
+  pub lit : (cell : ℕ) → Contains cells cell → IsTrue (is_marked marks cell)
+      → row_at new.lit_by cell ≡ row_at old.lit_by cell ++ place ∷ []
+  pub unlit : (cell : ℕ) → (¬ (Contains cells cell × IsTrue (is_marked marks cell)))
+      → row_at new.lit_by cell ≡ row_at old.lit_by cell
+
+-- these are the pairs of the cave whose place is below this number
+pub record ArePairsBelow (cave : Cave) (count : ℕ) (pairs : Pairs) : Type 0 where
+  pub whole : length pairs.lights ≡ cell_count cave.size
+  pub wide : length pairs.lit_by ≡ cell_count cave.size
+  pub lights : (place cell : ℕ) → Contains (row_at pairs.lights place) cell ↔ ((place < count)
+      × IsPair cave place cell)
+  pub lit_by : (place cell : ℕ) → Contains (row_at pairs.lit_by cell) place ↔ ((place < count)
+      × IsPair cave place cell)
+  pub ascending : (cell : ℕ) → IsStrictlyIncreasing (row_at pairs.lit_by cell)
+
+-- flags and pairs by the number of the cell
+pub record Lists : Type 0 where
+  pub dark : List Bool
+  pub places : List Bool
+  pub pairs : Pairs
+
+-- the flags and lists are those of the cave
+pub record AreListsOf (cave : Cave) (lists : Lists) : Type 0 where
+  pub dark : AreMarksOf (cell_count cave.size) (IsDark cave) lists.dark
+  pub places : AreMarksOf (cell_count cave.size) (IsPlace cave) lists.places
+  pub lights : (place cell : ℕ) → Contains (row_at lists.pairs.lights place) cell ↔ IsPair cave place cell
+  pub lit_by : (place cell : ℕ) → Contains (row_at lists.pairs.lit_by cell) place ↔ IsPair cave place cell
+  pub ascending : (cell : ℕ) → IsStrictlyIncreasing (row_at lists.pairs.lit_by cell)

@@ -1,0 +1,14 @@
+//! Which cells are dark, which are places, and what a torch at each lights, as lists both ways: found by rounds of
+//! relaxation, for whoever judges a plan and trusts no flood.
+#![tactic(auto)]
+
+mod levels;
+mod lighting;
+mod lists;
+mod marking;
+mod pairs;
+mod relaxing;
+mod rows;
+
+pub use lighting::lit_cells;
+pub use lists::Lists;

@@ -1,0 +1,92 @@
+ghost use Rattle.std.specs.Prelude.{◌≡◌, ◌<◌, ◌≤◌, ◌-◌, length, slice_index, IfOk, OnOk};
+ghost use Rattle.scan_core.specs.Box.{cell_count};
+ghost use Rattle.cave_model.specs.Cells.{AreNeighbours};
+ghost use Rattle.lit_lists.specs.Relaxing.{Grows, HasPassed, IsSeeded, IsPassed, IsSettled, Queued, Relaxes};
+
+use cave_model::World;
+use scan_core::Cell;
+use std::alloc::AllocError;
+
+/// Levels are at most 15 and fall by one a step at least, so that after so many rounds no cell is left that can raise
+/// another.
+const ROUNDS: u8 = 14;
+
+/// Offers the light of a cell to one of its neighbours, which joins the queue if it is raised.
+fn offer(
+    world: &World,
+    levels: &mut [u8],
+    queue: &mut Vec<Cell>,
+    from: Cell,
+    to: Cell,
+) -> Result<(), AllocError>
+    requires cells { length levels.old ≡ cell_count world.now.size }
+    requires shared { AreNeighbours world.now.size from to }
+    requires inside { to < cell_count world.now.size }
+    ensures grows { OnOk result (Grows world.now (slice_index levels.old from)
+        (slice_index levels.old) queue.old.items (slice_index levels.new) queue.new.items) }
+    ensures passed { OnOk result (IsPassed world.now (slice_index levels.new) from to) }
+{
+    let cost = u8::max(1, world.class_of(to).opacity);
+    let brought = levels[from as usize].saturating_sub(cost);
+    if brought > levels[to as usize] {
+        levels[to as usize] = brought;
+        queue.push(to)?;
+    }
+    Ok(())
+}
+
+/// Passes the light of a cell on to all its neighbours.
+fn pass_on(
+    world: &World,
+    levels: &mut [u8],
+    queue: &mut Vec<Cell>,
+    from: Cell,
+) -> Result<(), AllocError>
+    requires cells { length levels.old ≡ cell_count world.now.size }
+    requires inside { from < cell_count world.now.size }
+    ensures grows { OnOk result (Grows world.now (slice_index levels.old from)
+        (slice_index levels.old) queue.old.items (slice_index levels.new) queue.new.items) }
+    ensures passed { OnOk result (HasPassed world.now (slice_index levels.new) from) }
+{
+    for to in world.neighbours(from) {
+        if let Some(to) = to {
+            offer(world, levels, queue, from, to)?;
+        }
+    }
+    Ok(())
+}
+
+/// A round: the cells of the queue from this index on pass their light on. Where those begin that it raised.
+fn round(
+    world: &World,
+    levels: &mut [u8],
+    queue: &mut Vec<Cell>,
+    begin: usize,
+) -> Result<usize, AllocError>
+    requires cells { length levels.old ≡ cell_count world.now.size }
+    requires queued { Queued world.now begin queue.old.items }
+    ensures queued { IfOk result (λ end. Queued world.now end queue.new.items) }
+    ensures relaxes { IfOk result (λ end. Relaxes world.now (slice_index levels.old) queue.old.items begin
+        (slice_index levels.new) queue.new.items end) }
+{
+    let end = queue.len();
+    for index in begin..end {
+        let from = queue[index];
+        pass_on(world, levels, queue, from)?;
+    }
+    Ok(end)
+}
+
+/// Lets the light of the cells in the queue spread.
+pub fn relax(world: &World, levels: &mut [u8], queue: &mut Vec<Cell>) -> Result<(), AllocError>
+    requires cells { length levels.old ≡ cell_count world.now.size }
+    requires seeded { IsSeeded world.now (slice_index levels.old) queue.old.items }
+    ensures settled { OnOk result (IsSettled world.now
+        (slice_index levels.old) (slice_index levels.new) queue.new.items) }
+{
+    let mut begin = 0;
+    for _ in 0..ROUNDS {
+        begin = round(world, levels, queue, begin)?;
+    }
+    Ok(())
+}

@@ -1,0 +1,73 @@
+-- What is asked at the end, cell by cell. This is this project's own.
+use Rattle.std.specs.Prelude.{◌≡◌, ◌↔◌, ℕ, ◌<◌, Bool, true, false, not, IsTrue, List, length, Contains, Option}
+use Rattle.std.specs.Prelude.{MatchOption, slice_index_or}
+use Rattle.scan_core.specs.Box.{cell_count}
+use Rattle.cave_model.specs.Cave.{Cave}
+use Rattle.proof_check.specs.Refused.{LightsTwo, IsBadCell}
+use Rattle.lit_lists.specs.Lists.{Lists, AreListsOf, is_marked}
+use Rattle.proof_check.specs.Tests.{lit_by}
+use Rattle.proof_check.specs.Homes.{Homes, AreHomesOf}
+use Rattle.proof_check.specs.declared.homes.Home.{Home}
+use Rattle.proof_check.specs.declared.homes.Home.TheVariants as home
+
+-- where the cell stands
+abbrev pub home_of : Homes → ℕ → Home
+home_of h cell = slice_index_or h.homes cell home.Nowhere
+
+abbrev pub is_somewhere : Home → Bool
+is_somewhere home.Nowhere = false
+is_somewhere (home.Only i) = true
+is_somewhere home.Several = true
+
+-- listed where it may not be, or in two lists
+abbrev pub is_misplaced : Home → Bool → Bool
+is_misplaced home.Nowhere allowed = false
+is_misplaced (home.Only i) allowed = not allowed
+is_misplaced home.Several allowed = true
+
+-- not in just one list, or in one where it may not be
+abbrev pub is_unparted : Home → Bool → Bool
+is_unparted home.Nowhere needed = needed
+is_unparted (home.Only i) needed = not needed
+is_unparted home.Several needed = true
+
+-- the first cell of a box for which it holds, or none
+pub record IsNoneBelow (Kind : ℕ → Type 0) (count : ℕ) : Type 0 where
+  pub each : (cell : ℕ) → cell < count → ¬ Kind cell
+
+pub record IsFirstBelow (Kind : ℕ → Type 0) (count cell : ℕ) : Type 0 where
+  pub inside : cell < count
+  pub is : Kind cell
+  pub before : IsNoneBelow Kind cell
+
+abbrev pub IsFirst : (ℕ → Type 0) → ℕ → Option ℕ → Type 0
+IsFirst Kind count result = MatchOption result (IsNoneBelow Kind count) (IsFirstBelow Kind count)
+
+-- one of the places is listed
+abbrev pub HasTorch : List ℕ → Homes → Type 0
+HasTorch places torches = (place : ℕ) × Contains places place × IsTrue (is_somewhere (home_of torches place))
+
+abbrev pub IsMisplaced : List Bool → Homes → ℕ → Type 0
+IsMisplaced allowed torches cell = IsTrue (is_misplaced (home_of torches cell) (is_marked allowed cell))
+
+-- a dark cell that no listed place lights
+pub record IsUnlitBy (lists : Lists) (torches : Homes) (cell : ℕ) : Type 0 where
+  pub dark : IsTrue (is_marked lists.dark cell)
+  pub unlit : ¬ HasTorch (lit_by lists cell) torches
+
+-- whether the place lights cells of two of whatever lists the homes are of
+pub record DecidesLights (cave : Cave) (lists : Lists) (regions : Homes) (place : ℕ) (result : Bool) : Type 0 where
+  pub each : (parts : List (List ℕ)) → AreListsOf cave lists → AreHomesOf parts regions
+      → length regions.homes ≡ cell_count cave.size
+      → IsTrue result ↔ LightsTwo cave parts place
+
+-- the first cell that keeps whatever lists the homes are of from being regions
+pub record DecidesBad (cave : Cave) (lists : Lists) (regions : Homes) (count : ℕ) (result : Option ℕ) : Type 0 where
+  pub each : (parts : List (List ℕ)) → AreListsOf cave lists → AreHomesOf parts regions
+      → length regions.homes ≡ cell_count cave.size
+      → IsFirst (IsBadCell cave parts) count result
+
+pub record NoneBad (cave : Cave) (lists : Lists) (regions : Homes) (count : ℕ) : Type 0 where
+  pub each : (parts : List (List ℕ)) → AreListsOf cave lists → AreHomesOf parts regions
+      → length regions.homes ≡ cell_count cave.size
+      → IsNoneBelow (IsBadCell cave parts) count

@@ -1,0 +1,10 @@
+pub mod Accepted
+pub mod Refused
+pub mod Judged
+pub mod Tally
+pub mod Tests
+pub mod Track
+pub mod Kept
+pub mod Homes
+pub mod Ends
+pub mod Heard

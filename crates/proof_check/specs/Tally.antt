@@ -1,0 +1,15 @@
+-- A list of cells with how often each stands in it. This is this project's own.
+use Rattle.std.specs.Prelude.{◌≡◌, ℕ, ◌+◌, ◌<◌, List, [], ◌∷◌, length, All, nat_eq, if◌then◌else◌, slice_index}
+
+pub record Tally : Type 0 where
+  pub items : List ℕ
+  pub counts : List ℕ
+
+-- how often the cell stands in the list
+abbrev pub times : ℕ → List ℕ → ℕ
+times cell [] = 0
+times cell (other ∷ cells) = (if nat_eq other cell then 1 else 0) + times cell cells
+
+pub record IsTally (tally : Tally) : Type 0 where
+  pub inside : All (λ cell. cell < length tally.counts) tally.items
+  pub counted : (cell : ℕ) → cell < length tally.counts → slice_index tally.counts cell ≡ times cell tally.items

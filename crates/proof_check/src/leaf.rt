@@ -1,0 +1,57 @@
+ghost use Rattle.std.specs.Prelude.{◌≡◌, [], length, IfOk};
+ghost use Rattle.proof_check.specs.Track.{AreInside, DecidesApart};
+
+use crate::tally::Tally;
+use crate::testing::{is_free, mark, meet_open};
+use lit_lists::Lists;
+use scan_core::Cell;
+use std::alloc::AllocError;
+
+/// Whether the cells are free, and no place that isn't barred lights two of them; marks the places seen.
+fn are_apart(
+    lists: &Lists,
+    region: &Tally,
+    chosen: &Tally,
+    barred: &Tally,
+    seen: &mut Tally,
+    these: &[Cell],
+) -> Result<bool, AllocError>
+    requires none { seen.old.items ≡ [] }
+    requires inside { AreInside lists.now (length seen.old.counts) }
+    ensures apart { IfOk result
+        (DecidesApart lists.now region.now.items chosen.now.items barred.now.items these.now) }
+    ensures whole { length seen.new.counts ≡ length seen.old.counts }
+{
+    for cell in these {
+        let places = lists.lit_by(*cell);
+        if !is_free(lists, region, chosen, *cell) {
+            return Ok(false);
+        }
+        if meet_open(places, barred, seen) {
+            return Ok(false);
+        }
+        mark(places, seen)?;
+    }
+    Ok(true)
+}
+
+/// Whether distinct cells may stand in a leaf. The tally of the places seen is empty, and is so again.
+pub fn is_leaf(
+    lists: &Lists,
+    region: &Tally,
+    chosen: &Tally,
+    barred: &Tally,
+    seen: &mut Tally,
+    these: &[Cell],
+) -> Result<bool, AllocError>
+    requires none { seen.old.items ≡ [] }
+    requires inside { AreInside lists.now (length seen.old.counts) }
+    ensures apart { IfOk result
+        (DecidesApart lists.now region.now.items chosen.now.items barred.now.items these.now) }
+    ensures none { IfOk result (λ _. seen.new.items ≡ []) }
+    ensures whole { length seen.new.counts ≡ length seen.old.counts }
+{
+    let apart = are_apart(lists, region, chosen, barred, seen, these)?;
+    seen.cut(0);
+    Ok(apart)
+}

@@ -1,0 +1,80 @@
+ghost use Rattle.std.specs.Prelude.{◌≡◌, ◌<◌, ◌≤◌, length, IfOk};
+ghost use Rattle.scan_core.specs.Box.{cell_count};
+ghost use Rattle.lit_lists.specs.Seeded.{AreUnlit};
+ghost use Rattle.proof_check.specs.Ends as ends;
+
+use crate::homes::{Home, Homes};
+use cave_model::World;
+use lit_lists::{Lists, lit_cells};
+use scan_core::Cell;
+use std::alloc::{AllocError, Global};
+
+/// Whether a cell isn't in just one list, or is in one and may not be.
+fn is_unparted(home: Home, needed: bool) -> bool
+    ensures { result ≡ ends.is_unparted home needed }
+{
+    match home {
+        Home::Nowhere => needed,
+        Home::Only(_) => !needed,
+        Home::Several => true,
+    }
+}
+
+/// Whether the place lights cells of two regions, dark or not. The levels are a scratch of no light.
+fn lights_two(
+    alloc: Global,
+    world: &World,
+    levels: &mut [u8],
+    lists: &Lists,
+    regions: &Homes,
+    place: Cell,
+) -> Result<bool, AllocError>
+    requires cells { length levels.old ≡ cell_count world.now.size }
+    requires unlit { AreUnlit levels.old }
+    requires inside { place < cell_count world.now.size }
+    ensures lights { IfOk result (ends.DecidesLights world.now lists.now regions.now place) }
+    ensures unlit { IfOk result (λ _. AreUnlit levels.new) }
+{
+    if !lists.is_place(place) {
+        return Ok(false);
+    }
+    let cells = lit_cells(alloc, world, levels, place)?;
+    Ok(regions.are_two(&cells))
+}
+
+/// The first cell that keeps the lists from being regions. The levels are a scratch of no light.
+fn first_bad_cell(
+    alloc: Global,
+    world: &World,
+    levels: &mut [u8],
+    lists: &Lists,
+    regions: &Homes,
+) -> Result<Option<Cell>, AllocError>
+    requires cells { length levels.old ≡ cell_count world.now.size }
+    requires unlit { AreUnlit levels.old }
+    ensures { IfOk result (ends.DecidesBad world.now lists.now regions.now (cell_count world.now.size)) }
+{
+    for cell in 0..world.cell_count() {
+        if is_unparted(regions.of(cell), lists.is_dark(cell)) {
+            return Ok(Some(cell));
+        }
+        if lights_two(alloc, world, levels, lists, regions, cell)? {
+            return Ok(Some(cell));
+        }
+    }
+    Ok(None)
+}
+
+/// The first cell that keeps the lists from being the regions of the world.
+pub fn bad_cell(
+    alloc: Global,
+    world: &World,
+    lists: &Lists,
+    regions: &Homes,
+) -> Result<Option<Cell>, AllocError>
+    ensures { IfOk result (ends.DecidesBad world.now lists.now regions.now (cell_count world.now.size)) }
+{
+    let mut levels = vec![in alloc; 0; world.cell_count() as usize]?;
+    let bad = first_bad_cell(alloc, world, levels.as_mut_slice(), lists, regions)?;
+    Ok(bad)
+}

@@ -1,0 +1,105 @@
+ghost use Rattle.std.specs.Prelude.{◌≡◌, ◌<◌, ◌+◌, [], length, IfOk, OnOk};
+ghost use Rattle.proof_check.specs.Track.{Closes, Enters, IsNextKid};
+
+use crate::tally::Tally;
+use scan_core::Cell;
+use std::alloc::{AllocError, Global};
+
+/// An open branch.
+#[derive(Debug, Drop)]
+pub struct Frame {
+    /// The places that may light its cell, a kid for each.
+    pub places: Vec<Cell>,
+    /// Which of them is chosen now.
+    pub index: usize,
+    /// How many places were barred before its kid began.
+    pub bars: usize,
+}
+
+/// The open branches, with the places that are chosen and barred on the way.
+#[derive(Debug, Drop)]
+pub struct Track {
+    pub chosen: Tally,
+    pub barred: Tally,
+    pub frames: Vec<Frame>,
+}
+
+impl Track {
+    /// Goes on to the next kid of a branch.
+    fn next_kid(&mut self, frame: Frame) -> Result<(), AllocError>
+        requires more { frame.index + 1 < length frame.places.items }
+        ensures kid { OnOk result (IsNextKid (length self.old.chosen.counts) (length self.old.barred.counts)
+            frame self.old self.new) }
+        ensures whole { length self.new.chosen.counts ≡ length self.old.chosen.counts }
+        ensures wide { length self.new.barred.counts ≡ length self.old.barred.counts }
+    {
+        let place = frame.places[frame.index];
+        let next = frame.places[frame.index + 1];
+        self.barred.push(place)?;
+        self.chosen.push(next)?;
+        let frame = Frame {
+            places: frame.places,
+            index: frame.index + 1,
+            bars: self.barred.len(),
+        };
+        self.frames.push(frame)?;
+        Ok(())
+    }
+
+    /// A tree has ended: goes on to the next kid of the innermost branch that has one.
+    pub fn close(&mut self) -> Result<(), AllocError>
+        requires same { length self.old.barred.counts ≡ length self.old.chosen.counts }
+        ensures closes { OnOk result (Closes (length self.old.chosen.counts)
+            self.old.chosen.items self.old.barred.items self.old.frames.items
+            self.new.chosen.items self.new.barred.items self.new.frames.items) }
+        ensures whole { length self.new.chosen.counts ≡ length self.old.chosen.counts }
+        ensures wide { length self.new.barred.counts ≡ length self.old.barred.counts }
+    {
+        while let Some(frame) = self.frames.pop() {
+            self.chosen.pop();
+            self.barred.cut(frame.bars);
+            if frame.index < frame.places.len().saturating_sub(1) {
+                self.next_kid(frame)?;
+                return Ok(());
+            }
+        }
+        self.barred.cut(0);
+        Ok(())
+    }
+
+    /// A branch with a kid for each of these places begins.
+    pub fn enter(&mut self, places: Vec<Cell>) -> Result<(), AllocError>
+        requires same { length self.old.barred.counts ≡ length self.old.chosen.counts }
+        ensures enters { OnOk result (Enters (length self.old.chosen.counts) places.items
+            self.old.chosen.items self.old.barred.items self.old.frames.items
+            self.new.chosen.items self.new.barred.items self.new.frames.items) }
+        ensures whole { length self.new.chosen.counts ≡ length self.old.chosen.counts }
+        ensures wide { length self.new.barred.counts ≡ length self.old.barred.counts }
+    {
+        if places.is_empty() {
+            self.close()?;
+            return Ok(());
+        }
+        self.chosen.push(places[0])?;
+        let frame = Frame {
+            places,
+            index: 0,
+            bars: self.barred.len(),
+        };
+        self.frames.push(frame)?;
+        Ok(())
+    }
+
+    /// Nothing is chosen or barred, and no branch is open.
+    pub fn clear(&mut self)
+        ensures chosen { self.new.chosen.items ≡ [] }
+        ensures barred { self.new.barred.items ≡ [] }
+        ensures frames { self.new.frames.items ≡ [] }
+        ensures whole { length self.new.chosen.counts ≡ length self.old.chosen.counts }
+        ensures wide { length self.new.barred.counts ≡ length self.old.barred.counts }
+    {
+        self.chosen.cut(0);
+        self.barred.cut(0);
+        self.frames.clear();
+    }
+}
