@@ -1,2 +1,1 @@
-pub mod WritingLemmas
 pub mod RunLemmas

@@ -1,8 +1,8 @@
 pub mod Limits
 pub mod DarkText
-pub mod Writing
 pub mod Reading
 pub mod Faults
 pub mod Runs
 pub mod Status
 pub mod Texts
+pub mod Versions

@@ -1,7 +1,8 @@
 //! The command line.
+use crate::version::need_for;
 use cave_model::Rule;
 use clap::error::ErrorKind;
-use clap::{Arg, ArgAction, Command, Error};
+use clap::{Arg, ArgAction, ArgMatches, Command, Error};
 use std::alloc::{AllocError, Global};
 
 /// What the words of a command line ask for.
@@ -27,6 +28,13 @@ fn dark_command<'a>(alloc: Global) -> Result<Command<'a>, AllocError> {
         .action(ArgAction::Set)
         .value_parser(clap::value_parser!(u8).range(1..=2))
         .help("How many free cells above its ground a mob needs [default: 2]");
+    let rule = Arg::new(alloc, "rule")
+        .long("rule")
+        .value_name("1.18|1.17")
+        .action(ArgAction::Set)
+        .help(
+            "Which version's rule: mobs spawn at light 0 from 1.18 on, before up to 7 [default: 1.18]",
+        );
     let table = Arg::new(alloc, "table")
         .long("table")
         .value_name("T")
@@ -38,6 +46,7 @@ fn dark_command<'a>(alloc: Global) -> Result<Command<'a>, AllocError> {
         )
         .arg(file)?
         .arg(headroom)?
+        .arg(rule)?
         .arg(table)
 }
 
@@ -53,6 +62,15 @@ fn command<'a>(alloc: Global) -> Result<Command<'a>, AllocError> {
         .subcommand(dark_command(alloc)?)
 }
 
+/// The rule that the words name: headroom 2 and version 1.18 unless told. None for another version.
+fn rule_of(matches: &ArgMatches) -> Option<Rule> {
+    let need = need_for(matches.get_str("rule"))?;
+    if matches.get_one::<u8>("headroom") == Some(1) {
+        return Some(Rule::new(1, need));
+    }
+    Some(Rule::new(2, need))
+}
+
 /// What the words ask for; the first is the program's name. An error has the text for the user: help where that was
 /// asked for, else the mistake and the usage.
 pub fn request_of<'a>(alloc: Global, words: &'a [String]) -> Result<Request<'a>, Error> {
@@ -60,11 +78,8 @@ pub fn request_of<'a>(alloc: Global, words: &'a [String]) -> Result<Request<'a>,
     let matches = command.try_get_matches_from_mut(words)?;
     if let Some(("dark", dark)) = matches.subcommand() {
         if let Some(file) = dark.get_str("FILE") {
-            let headroom = dark.get_one::<u8>("headroom").unwrap_or(2);
-            let rule = if headroom == 1 {
-                Rule::new(1)
-            } else {
-                Rule::new(2)
+            let Some(rule) = rule_of(dark) else {
+                return Err(command.error(ErrorKind::InvalidValue, "--rule is 1.18 or 1.17")?);
             };
             let table = dark.get_str("table");
             return Ok(Request::Dark { file, table, rule });

@@ -1,5 +1,6 @@
 ghost use Rattle.std.specs.Prelude.{◌≡◌, ◌≢◌, IfOk, IfErr, IfSome, OnOk, option_copied, string_bytes};
 ghost use Rattle.std.specs.Io.KnownBytes.{Keeps};
+ghost use Rattle.cave_model.specs.RuleOf.{rule_of};
 ghost use Rattle.torch_plan.specs.DarkText.{IsDarkText};
 ghost use Rattle.torch_plan.specs.Limits.{structure_limit};
 ghost use Rattle.torch_plan.specs.Reading.{GivesAtMost};
@@ -10,12 +11,10 @@ ghost use Rattle.torch_plan.specs.declared.fault.RunFault.{RunFault};
 use crate::fault::{Input, RunFault};
 use crate::limits::STRUCTURE_LIMIT;
 use crate::reading::read_all;
-use crate::rows::rows_for;
 use crate::text::dark_text;
 use crate::writing::put_all;
-use cave_model::{Rule, World, build};
+use cave_model::{Rule, World, read_cave};
 use light_flood::{dark_cells, light};
-use scan_core::read_scan;
 use std::alloc::{AllocError, Global};
 use std::io::{Read, Write};
 
@@ -37,18 +36,14 @@ fn text_of(
     rule: Rule,
 ) -> Result<String, RunFault>
     ensures done { IfOk result (λ s.
-        IsDarkTextOf bytes.now (option_copied table.entry) rule.headroom (string_bytes s)) }
+        IsDarkTextOf bytes.now (option_copied table.entry) (rule_of rule) (string_bytes s)) }
     ensures fault { IfErr result (λ e. e ≢ RunFault.OutOfMemory
         → IsFaultOfBytes bytes.now (option_copied table.entry) e) }
     ensures refused { (e : RunFault) → IsFaultOfBytes bytes.now (option_copied table.entry) e → IsRefusal result e }
 {
-    let scan = read_scan(alloc, bytes)?;
-    let rows = rows_for(alloc, table)?;
-    let world = build(alloc, &scan, &rows, rule)?;
-    match world_text(alloc, &world) {
-        Ok(text) => Ok(text),
-        Err(_) => Err(RunFault::OutOfMemory),
-    }
+    let world = read_cave(alloc, bytes, table, rule)?;
+    let text = world_text(alloc, &world)?;
+    Ok(text)
 }
 
 /// Reads a structure to the end of the reader, and writes the text of its dark cells: `dark m`, and `x y z` of each
@@ -64,13 +59,13 @@ pub fn run_dark<R: Read, W: Write>(
 ) -> Result<(), RunFault>
     // What was written is the text of the bytes that were read.
     ensures done { OnOk result (IfSome (R.remaining reader.old) (λ bytes.
-        WritesDark bytes (option_copied table.entry) rule.headroom (W.contents writer.old) (W.contents writer.new))) }
+        WritesDark bytes (option_copied table.entry) (rule_of rule) (W.contents writer.old) (W.contents writer.new))) }
     // A refused input leaves the writer as it was.
     ensures untouched { IfErr result (λ e. e ≢ RunFault.WriteFailed
         → Keeps (W.contents writer.old) (W.contents writer.new)) }
     // A failed write leaves a beginning of the text.
     ensures begun { IfErr result (λ e. e ≡ RunFault.WriteFailed → IfSome (R.remaining reader.old) (λ bytes.
-        BeginsDark bytes (option_copied table.entry) rule.headroom (W.contents writer.old) (W.contents writer.new))) }
+        BeginsDark bytes (option_copied table.entry) (rule_of rule) (W.contents writer.old) (W.contents writer.new))) }
     // A fault of the input is the one that the definitions name.
     ensures fault { IfErr result (λ e. IsOfInput e
         → IfSome (R.remaining reader.old) (λ bytes. IsFaultOfInput bytes (option_copied table.entry) e)) }

@@ -1,9 +1,12 @@
 ghost use Rattle.std.specs.Prelude.{◌≡◌};
-ghost use Rattle.torch_plan.specs.Faults.{of_build, of_rows, of_scan};
+ghost use Rattle.torch_plan.specs.Faults.{of_cave, of_write};
+ghost use Rattle.torch_plan.specs.declared.fault.RunFault.TheVariants.{OutOfMemory};
 
 use block_rows::RowsFault;
-use cave_model::BuildFault;
+use cave_model::{BuildFault, CaveFault};
+use proof_tree::WriteFault;
 use scan_core::ScanFault;
+use std::alloc::AllocError;
 use std::fmt;
 use thiserror::Error;
 
@@ -53,35 +56,34 @@ impl fmt::Display for Input {
     }
 }
 
-impl From<ScanFault> for RunFault {
-    ghost from_gives = { λ e r. r ≡ of_scan e };
+impl From<CaveFault> for RunFault {
+    ghost from_gives = { λ e r. r ≡ of_cave e };
 
-    fn from(fault: ScanFault) -> RunFault {
+    fn from(fault: CaveFault) -> RunFault {
         match fault {
-            ScanFault::OutOfMemory => RunFault::OutOfMemory,
-            fault => RunFault::Scan(fault),
+            CaveFault::Scan(fault) => RunFault::Scan(fault),
+            CaveFault::Table(fault) => RunFault::Table(fault),
+            CaveFault::Build(fault) => RunFault::Build(fault),
+            CaveFault::OutOfMemory => RunFault::OutOfMemory,
         }
     }
 }
 
-impl From<RowsFault> for RunFault {
-    ghost from_gives = { λ e r. r ≡ of_rows e };
+impl From<WriteFault> for RunFault {
+    ghost from_gives = { λ e r. r ≡ of_write e };
 
-    fn from(fault: RowsFault) -> RunFault {
+    fn from(fault: WriteFault) -> RunFault {
         match fault {
-            RowsFault::OutOfMemory => RunFault::OutOfMemory,
-            fault => RunFault::Table(fault),
+            WriteFault::WriteFailed => RunFault::WriteFailed,
+            WriteFault::OutOfMemory => RunFault::OutOfMemory,
         }
     }
 }
 
-impl From<BuildFault> for RunFault {
-    ghost from_gives = { λ e r. r ≡ of_build e };
+impl From<AllocError> for RunFault {
+    ghost from_gives = { λ _ r. r ≡ OutOfMemory };
 
-    fn from(fault: BuildFault) -> RunFault {
-        match fault {
-            BuildFault::OutOfMemory => RunFault::OutOfMemory,
-            fault => RunFault::Build(fault),
-        }
+    fn from(_e: AllocError) -> RunFault {
+        RunFault::OutOfMemory
     }
 }

@@ -6,9 +6,9 @@ mod dark;
 mod fault;
 mod limits;
 mod reading;
-mod rows;
 mod status;
 mod text;
+mod version;
 mod writing;
 
 pub use cave_model::Rule;

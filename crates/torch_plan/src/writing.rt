@@ -1,24 +1,19 @@
 ghost use Rattle.std.specs.Prelude.{◌≡◌, IfErr, OnOk, OnErr};
 ghost use Rattle.std.specs.Io.KnownBytes.{Appends};
-ghost use Rattle.torch_plan.specs.Writing.{AppendsFront};
+ghost use Rattle.proof_tree.specs.Writing.{AppendsFront};
 ghost use Rattle.torch_plan.specs.declared.fault.RunFault.{RunFault};
 
 use crate::fault::RunFault;
 use std::io::Write;
 
-/// Writes the text, or a beginning of it. A write that takes no byte is a failed one.
+/// Writes the text, or a beginning of it.
 pub fn put_all<W: Write>(writer: &mut W, text: &[u8]) -> Result<(), RunFault>
     ensures ok { OnOk result (Appends (W.contents writer.old) (W.contents writer.new) text.now) }
     ensures err { IfErr result (λ e. e ≡ RunFault.WriteFailed) }
     ensures begun { OnErr result (AppendsFront (W.contents writer.old) (W.contents writer.new) text.now) }
 {
-    let mut rest = text;
-    while !rest.is_empty() {
-        match writer.write(rest) {
-            Ok(0) => return Err(RunFault::WriteFailed),
-            Err(_) => return Err(RunFault::WriteFailed),
-            Ok(count) => rest = rest.split_at(count).1,
-        }
+    match proof_tree::put_all(writer, text) {
+        Ok(()) => Ok(()),
+        Err(_) => Err(RunFault::WriteFailed),
     }
-    Ok(())
 }

@@ -1,6 +1,7 @@
 use Rattle.std.proofs.Common.{string_bytes}
 use Rattle.std.specs.Prelude.{option_copied}
 use Rattle.std.proofs.lemmas.Result.{err_from_is_err_and}
+use Rattle.cave_model.specs.RuleOf.{rule_of}
 use Rattle.torch_plan.specs.Runs.{IsRefusedRun}
 use Rattle.torch_plan.proofs.RunLemmas.{input_fault, input_refused, widened, begun_text}
 use Rattle.torch_plan.proofs.dark.run_dark.Goals as goal
@@ -20,7 +21,7 @@ returns-in_err-text-clause-refused g c =
 
 pub returns-clause-begun : goal.returns-clause-begun
 returns-clause-begun g c =
-    begun_text c.put_all.result (g.R.Read.remaining c.args.reader.now) c.in_ok-bytes.bytes.items (option_copied c.args.table) c.args.rule.headroom (string_bytes c.in_ok-text.text)
+    begun_text c.put_all.result (g.R.Read.remaining c.args.reader.now) c.in_ok-bytes.bytes.items (option_copied c.args.table) (rule_of c.args.rule) (string_bytes c.in_ok-text.text)
     (g.W.Write.contents c.args.writer.now) (g.W.Write.contents c.put_all.new.writer) c.in_ok-bytes.ensures.all
     (rw c.deref.ensures.value at c.in_ok-text.ensures.done) (rw c.as_bytes.ensures.value at c.put_all.ensures.begun)
 

@@ -1,0 +1,8 @@
+-- The least light that keeps mobs away, by the version of the game that the user names.
+-- Source: Minecraft Wiki, "Spawn"; that 1.18 stands for all from then on is this project's own.
+use Rattle.std.specs.Prelude.{◌≡◌, ◌⊎◌, ℕ, List, Option, Some, None, codes}
+
+-- of 1.18 where none is named
+abbrev pub IsNeedFor : Option (List ℕ) → ℕ → Type 0
+IsNeedFor None need = need ≡ 1
+IsNeedFor (Some version) need = ((version ≡ codes "1.18") × (need ≡ 1)) ⊎ ((version ≡ codes "1.17") × (need ≡ 8))
