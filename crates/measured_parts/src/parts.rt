@@ -9,7 +9,7 @@ use std::test::Fail;
 /// The cave of a structure by the shipped rows.
 pub fn world_of(alloc: Global, bytes: &[u8]) -> Result<World, Fail> {
     let scan = read_scan(alloc, bytes)?;
-    Ok(build(alloc, &scan, &Rows::shipped(alloc)?, Rule::new(2))?)
+    Ok(build(alloc, &scan, &Rows::shipped(alloc)?, Rule::new(2, 1))?)
 }
 
 /// How many cells are dark, by one flood from all sources.

@@ -51,7 +51,7 @@ pub fn build_is_wrong(alloc: Global, pillar: &[u8]) -> bool {
     let Ok(rows) = Rows::with_table(alloc, TABLE) else {
         return false;
     };
-    match build(alloc, &scan, &rows, Rule::new(2)) {
+    match build(alloc, &scan, &rows, Rule::new(2, 1)) {
         Ok(world) => world.cell_count() != 3,
         Err(fault) => !matches!(fault, BuildFault::OutOfMemory),
     }
@@ -65,7 +65,7 @@ fn world_of(alloc: Global, pillar: &[u8]) -> Option<World> {
     let Ok(rows) = Rows::shipped(alloc) else {
         return None;
     };
-    build(alloc, &scan, &rows, Rule::new(2)).ok()
+    build(alloc, &scan, &rows, Rule::new(2, 1)).ok()
 }
 
 /// The middle cell is dark.
@@ -120,7 +120,13 @@ pub fn read_table_is_wrong(alloc: Global) -> bool {
 pub fn run_dark_is_wrong(alloc: Global, pillar: &[u8]) -> bool {
     let mut reader = pillar;
     let mut writer = Taking::new();
-    let ended = run_dark(alloc, &mut reader, Some(TABLE), Rule::new(2), &mut writer);
+    let ended = run_dark(
+        alloc,
+        &mut reader,
+        Some(TABLE),
+        Rule::new(2, 1),
+        &mut writer,
+    );
     let Taking { taken, count } = writer;
     match ended {
         Ok(()) => count != 13 || &taken != b"dark 1\n0 1 0\n\0\0\0",

@@ -147,7 +147,17 @@ pub const CORRIDOR_28: Structure<'static> = Structure {
 
 /// The cave of a structure by a user's table; by the shipped rows alone where it is empty.
 pub fn world_by(alloc: Global, structure: &Structure<'_>, table: &[u8]) -> Result<World, Fail> {
+    world_under(alloc, structure, table, Rule::new(2, 1))
+}
+
+/// The same under another rule.
+pub fn world_under(
+    alloc: Global,
+    structure: &Structure<'_>,
+    table: &[u8],
+    rule: Rule,
+) -> Result<World, Fail> {
     let scan = read_scan(alloc, &structure.bytes(alloc)?)?;
     let rows = Rows::with_table(alloc, table)?;
-    Ok(build(alloc, &scan, &rows, Rule::new(2))?)
+    Ok(build(alloc, &scan, &rows, rule)?)
 }

@@ -10,7 +10,7 @@ use std::alloc::Global;
 use std::test::Fail;
 
 /// The ring: 28 cells round an 8 x 8 square, two high.
-const RING: [Fill; 3] = [
+pub const RING: [Fill; 3] = [
     Fill {
         from: [0, 0, 0],
         to: [9, 3, 9],
@@ -29,7 +29,7 @@ const RING: [Fill; 3] = [
 ];
 
 /// A box of 10 x 4 x 10 with these fills.
-const fn ring_box<'a>(palette: &'a [Block<'a>], fills: &'a [Fill]) -> Structure<'a> {
+pub const fn ring_box<'a>(palette: &'a [Block<'a>], fills: &'a [Fill]) -> Structure<'a> {
     Structure {
         size: [10, 4, 10],
         palette,

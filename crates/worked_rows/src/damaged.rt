@@ -50,7 +50,7 @@ fn a_pillar_with_any_byte_changed_is_answered(rt: HostRuntime) -> Result<(), Fai
             if let Some(byte) = changed.get_mut(place) {
                 *byte = value;
             }
-            let shown = dark(alloc, &changed, Rule::new(2))?;
+            let shown = dark(alloc, &changed, Rule::new(2, 1))?;
             if shown.refusal.is_none() {
                 assert!(rt; read_root(alloc, &changed).is_ok());
             } else {

@@ -26,7 +26,7 @@ fn corridor_prints(
         rt,
         alloc,
         &long_box(&palette, &fills, more),
-        Rule::new(2),
+        Rule::new(2, 1),
         text,
     )
 }
@@ -52,20 +52,26 @@ fn corner_is_refused(
 fn an_empty_box_has_no_dark_cell(rt: HostRuntime) -> Result<(), Fail> {
     let bytes = EMPTY.bytes(rt.alloc())?;
     assert_eq!(rt; bytes.len(), 57);
-    prints(&rt, rt.alloc(), &EMPTY, Rule::new(2), "dark 0\n")
+    prints(&rt, rt.alloc(), &EMPTY, Rule::new(2, 1), "dark 0\n")
 }
 
 #[test]
 fn a_corridor_of_27_is_dark(rt: HostRuntime) -> Result<(), Fail> {
     let text = row_of_cells(rt.alloc(), &[(1, 27)])?;
     let cave = long_box(&[STONE, AIR], &[ROCK, DUG], &[]);
-    prints(&rt, rt.alloc(), &cave, Rule::new(2), text.as_str())
+    prints(&rt, rt.alloc(), &cave, Rule::new(2, 1), text.as_str())
 }
 
 #[test]
 fn a_corridor_of_28_is_dark(rt: HostRuntime) -> Result<(), Fail> {
     let text = row_of_cells(rt.alloc(), &[(1, 28)])?;
-    prints(&rt, rt.alloc(), &CORRIDOR_28, Rule::new(2), text.as_str())
+    prints(
+        &rt,
+        rt.alloc(),
+        &CORRIDOR_28,
+        Rule::new(2, 1),
+        text.as_str(),
+    )
 }
 
 #[test]
@@ -99,7 +105,7 @@ fn the_last_entry_of_a_position_counts(rt: HostRuntime) -> Result<(), Fail> {
     };
     let more = [stone];
     let cave = long_box(&[STONE, AIR], &[ROCK, DUG], &more);
-    prints(&rt, rt.alloc(), &cave, Rule::new(2), text.as_str())
+    prints(&rt, rt.alloc(), &cave, Rule::new(2, 1), text.as_str())
 }
 
 #[test]
@@ -135,7 +141,7 @@ fn an_unknown_block_that_no_cell_names_is_not_judged(rt: HostRuntime) -> Result<
         state,
     });
     let cave = long_box(&[STONE, AIR, STAIRS], &[ROCK, DUG], &overwritten);
-    prints(&rt, rt.alloc(), &cave, Rule::new(2), text.as_str())
+    prints(&rt, rt.alloc(), &cave, Rule::new(2, 1), text.as_str())
 }
 
 #[test]
@@ -153,8 +159,8 @@ fn a_name_is_printed_with_its_odd_bytes_escaped(rt: HostRuntime) -> Result<(), F
 fn the_pillar_has_one_dark_cell(rt: HostRuntime) -> Result<(), Fail> {
     let bytes = PILLAR.bytes(rt.alloc())?;
     assert_eq!(rt; bytes.len(), 213);
-    prints(&rt, rt.alloc(), &PILLAR, Rule::new(2), "dark 1\n0 1 0\n")?;
-    prints(&rt, rt.alloc(), &PILLAR, Rule::new(1), "dark 1\n0 1 0\n")
+    prints(&rt, rt.alloc(), &PILLAR, Rule::new(2, 1), "dark 1\n0 1 0\n")?;
+    prints(&rt, rt.alloc(), &PILLAR, Rule::new(1, 1), "dark 1\n0 1 0\n")
 }
 
 #[test]
@@ -163,8 +169,8 @@ fn one_free_cell_is_enough_under_headroom_1_alone(rt: HostRuntime) -> Result<(),
     let fills = [ROCK, fill([1, 1, 1], [27, 1, 1], 1)];
     let cave = long_box(&palette, &fills, &[]);
     let text = row_of_cells(rt.alloc(), &[(1, 27)])?;
-    prints(&rt, rt.alloc(), &cave, Rule::new(2), "dark 0\n")?;
-    prints(&rt, rt.alloc(), &cave, Rule::new(1), text.as_str())
+    prints(&rt, rt.alloc(), &cave, Rule::new(2, 1), "dark 0\n")?;
+    prints(&rt, rt.alloc(), &cave, Rule::new(1, 1), text.as_str())
 }
 
 #[test]

@@ -12,6 +12,10 @@ mod dark;
 #[cfg(test)]
 mod light;
 #[cfg(test)]
+mod regions;
+#[cfg(test)]
+mod rule;
+#[cfg(test)]
 mod running;
 #[cfg(test)]
 mod streams;

@@ -55,7 +55,7 @@ pub fn prints(
 
 /// The run is refused in these words, and prints nothing.
 pub fn refuses(rt: &impl Abort, alloc: Global, bytes: &[u8], line: &str) -> Result<(), Fail> {
-    let shown = dark(alloc, bytes, Rule::new(2))?;
+    let shown = dark(alloc, bytes, Rule::new(2, 1))?;
     assert!(rt; matches!(&shown.refusal, Some(words) if words.as_str() == line));
     assert!(rt; shown.written.is_empty());
     Ok(())

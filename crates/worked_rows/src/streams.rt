@@ -66,7 +66,7 @@ fn a_reader_may_give_one_byte_a_call(rt: HostRuntime) -> Result<(), Fail> {
         fails_at: usize::MAX,
     };
     let mut written = Vec::new(alloc);
-    assert!(rt; run_dark(alloc, &mut reader, None, Rule::new(2), &mut written).is_ok());
+    assert!(rt; run_dark(alloc, &mut reader, None, Rule::new(2, 1), &mut written).is_ok());
     assert_eq!(rt; written.as_slice(), TEXT);
     Ok(())
 }
@@ -83,7 +83,7 @@ fn a_read_that_fails_anywhere_is_told_and_nothing_is_written(rt: HostRuntime) ->
             fails_at,
         };
         let mut written = Vec::new(alloc);
-        let ended = run_dark(alloc, &mut reader, None, Rule::new(2), &mut written);
+        let ended = run_dark(alloc, &mut reader, None, Rule::new(2, 1), &mut written);
         assert!(rt; matches!(&ended, Err(RunFault::ReadFailed)));
         assert!(rt; written.is_empty());
     }
@@ -100,7 +100,7 @@ fn a_writer_may_take_one_byte_a_call(rt: HostRuntime) -> Result<(), Fail> {
         chunk: 1,
         fails_at: usize::MAX,
     };
-    assert!(rt; run_dark(alloc, &mut reader, None, Rule::new(2), &mut writer).is_ok());
+    assert!(rt; run_dark(alloc, &mut reader, None, Rule::new(2, 1), &mut writer).is_ok());
     assert_eq!(rt; writer.taken.as_slice(), TEXT);
     Ok(())
 }
@@ -115,7 +115,7 @@ fn a_writer_that_takes_nothing_has_failed(rt: HostRuntime) -> Result<(), Fail> {
         chunk: 0,
         fails_at: usize::MAX,
     };
-    let ended = run_dark(alloc, &mut reader, None, Rule::new(2), &mut writer);
+    let ended = run_dark(alloc, &mut reader, None, Rule::new(2, 1), &mut writer);
     assert!(rt; matches!(&ended, Err(RunFault::WriteFailed)));
     assert!(rt; writer.taken.is_empty());
     Ok(())
@@ -132,7 +132,7 @@ fn a_write_that_fails_leaves_a_beginning(rt: HostRuntime) -> Result<(), Fail> {
             chunk: 1,
             fails_at,
         };
-        let ended = run_dark(alloc, &mut reader, None, Rule::new(2), &mut writer);
+        let ended = run_dark(alloc, &mut reader, None, Rule::new(2, 1), &mut writer);
         assert!(rt; matches!(&ended, Err(RunFault::WriteFailed)));
         assert_eq!(rt; writer.taken.as_slice(), &TEXT[..fails_at]);
     }

@@ -25,7 +25,12 @@ fn prints_by(
     table: &[u8],
     text: &str,
 ) -> Result<(), Fail> {
-    let shown = dark_by(alloc, &structure.bytes(alloc)?, Some(table), Rule::new(2))?;
+    let shown = dark_by(
+        alloc,
+        &structure.bytes(alloc)?,
+        Some(table),
+        Rule::new(2, 1),
+    )?;
     assert!(rt; shown.refusal.is_none());
     assert_eq!(rt; shown.written.as_slice(), text.as_bytes());
     Ok(())
@@ -39,7 +44,7 @@ fn refuses_by(
     table: &[u8],
     line: &str,
 ) -> Result<(), Fail> {
-    let shown = dark_by(alloc, bytes, Some(table), Rule::new(2))?;
+    let shown = dark_by(alloc, bytes, Some(table), Rule::new(2, 1))?;
     assert!(rt; matches!(&shown.refusal, Some(words) if words.as_str() == line));
     assert!(rt; shown.written.is_empty());
     Ok(())
