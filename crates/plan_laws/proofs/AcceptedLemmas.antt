@@ -62,7 +62,7 @@ section_cells : (plans : List Plan) → map (λ (section : Section). section.cel
 section_cells [] = refl
 section_cells (p ∷ ps) = ap (λ (l : List (List ℕ)). p.region.cells ∷ l) (section_cells ps)
 
-section_torches : (plans : List Plan) → all_torches (map part_of plans) ≡ torches_of (map section_of plans)
+pub section_torches : (plans : List Plan) → all_torches (map part_of plans) ≡ torches_of (map section_of plans)
 section_torches [] = refl
 section_torches (p ∷ ps) = ap (λ (l : List ℕ). in_order p.torches ++ l) (section_torches ps)
 
@@ -119,7 +119,7 @@ need_fits need plans false e = sym (one_if_not need (or_left (not (nat_eq need 1
 
 -- ---- in range
 
-place_inside : (cave : Cave) (p : ℕ) → IsSound cave → IsPlace cave p → p < cell_count cave.size
+pub place_inside : (cave : Cave) (p : ℕ) → IsSound cave → IsPlace cave p → p < cell_count cave.size
 place_inside cave p sound place = subst (λ (n : ℕ). p < n) sound.whole (elim (cases_lt p (length cave.classes)) [
   | inl lt ↦ lt
   | inr le ↦ absurd (true≢false (sym (first_true (class_at cave p).put _ place.1) ∙ ap (λ (class : Class). class.put) (get_or_past cave.classes p void le)))

@@ -1,8 +1,3 @@
-pub mod Limits
-pub mod DarkText
-pub mod Reading
-pub mod Faults
-pub mod Runs
+-- public clauses cite
 pub mod Status
-pub mod Texts
 pub mod Versions

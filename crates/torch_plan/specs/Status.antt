@@ -1,7 +1,7 @@
 -- The exit status of a run that was refused. The numbers are this project's own.
 use Rattle.std.specs.Prelude.{ℕ}
-use Rattle.torch_plan.specs.declared.fault.RunFault.{RunFault}
-use Rattle.torch_plan.specs.declared.fault.RunFault.TheVariants.{ReadFailed, TooLong, WriteFailed, Scan, Table, Build, Unlightable, NoThread, OutOfMemory}
+use Rattle.cave_runs.specs.declared.fault.RunFault.{RunFault}
+use Rattle.cave_runs.specs.declared.fault.RunFault.TheVariants.{ReadFailed, TooLong, WriteFailed, Scan, Table, Build, Unlightable, NoThread, OutOfMemory}
 
 -- 1 for refused input, 3 where a cell can't be lit, 6 where reading or writing failed, 7 for want of memory or threads
 abbrev pub status : RunFault → ℕ

@@ -1,65 +1,124 @@
 //! The command line.
 use crate::version::need_for;
 use cave_model::Rule;
+use cave_runs::PlanOpts;
 use clap::error::ErrorKind;
 use clap::{Arg, ArgAction, ArgMatches, Command, Error};
 use std::alloc::{AllocError, Global};
 
-/// What the words of a command line ask for.
+/// What the words of a command line ask for. A structure is in the file, or in standard input where that is `-`; its
+/// blocks go by the user's table in that file, where there is one, before the shipped rows.
 #[derive(Clone, Copy, Debug, PartialEq, Eq)]
 pub enum Request<'a> {
-    /// The dark cells of the structure in this file, or of standard input where that is `-`, by the user's table in
-    /// that file, where there is one.
+    /// The dark cells of the structure.
     Dark {
         file: &'a str,
         table: Option<&'a str>,
         rule: Rule,
     },
+    /// The fewest torches of the structure, and a certificate in the file `proof`, where there is one.
+    Plan {
+        file: &'a str,
+        table: Option<&'a str>,
+        opts: PlanOpts,
+        proof: Option<&'a str>,
+    },
 }
 
-fn dark_command<'a>(alloc: Global) -> Result<Command<'a>, AllocError> {
-    let file = Arg::new(alloc, "FILE")
+fn file<'a>(alloc: Global) -> Arg<'a> {
+    Arg::new(alloc, "FILE")
         .required(true)
         .action(ArgAction::Set)
-        .help("The structure file, unpacked (NBT), or - for standard input");
-    let headroom = Arg::new(alloc, "headroom")
+        .help("The structure file, unpacked (NBT), or - for standard input")
+}
+
+fn headroom<'a>(alloc: Global) -> Arg<'a> {
+    Arg::new(alloc, "headroom")
         .long("headroom")
         .value_name("1|2")
         .action(ArgAction::Set)
         .value_parser(clap::value_parser!(u8).range(1..=2))
-        .help("How many free cells above its ground a mob needs [default: 2]");
-    let rule = Arg::new(alloc, "rule")
+        .help("How many free cells above its ground a mob needs [default: 2]")
+}
+
+fn rule<'a>(alloc: Global) -> Arg<'a> {
+    Arg::new(alloc, "rule")
         .long("rule")
         .value_name("1.18|1.17")
         .action(ArgAction::Set)
         .help(
             "Which version's rule: mobs spawn at light 0 from 1.18 on, before up to 7 [default: 1.18]",
-        );
-    let table = Arg::new(alloc, "table")
+        )
+}
+
+fn table<'a>(alloc: Global) -> Arg<'a> {
+    Arg::new(alloc, "table")
         .long("table")
         .value_name("T")
         .action(ArgAction::Set)
-        .help("A table of blocks (TOML) whose rows go before the shipped ones");
+        .help("A table of blocks (TOML) whose rows go before the shipped ones")
+}
+
+fn proof<'a>(alloc: Global) -> Arg<'a> {
+    Arg::new(alloc, "proof")
+        .long("proof")
+        .value_name("OUT")
+        .action(ArgAction::Set)
+        .help("Where to write the proof that fewer torches don't do")
+}
+
+fn workers<'a>(alloc: Global) -> Arg<'a> {
+    Arg::new(alloc, "workers")
+        .long("workers")
+        .value_name("N")
+        .action(ArgAction::Set)
+        .value_parser(clap::value_parser!(u8).range(1..=1))
+        .help("How many threads search: one, so far [default: 1]")
+}
+
+fn turns<'a>(alloc: Global) -> Arg<'a> {
+    Arg::new(alloc, "turns")
+        .long("turns")
+        .value_name("N")
+        .action(ArgAction::Set)
+        .value_parser(clap::value_parser!(u64).range(1..=1_000_000_000))
+        .help("How many nodes the search of a region may work on [default: no limit]")
+}
+
+fn dark_command<'a>(alloc: Global) -> Result<Command<'a>, AllocError> {
     Command::new(alloc, "dark")
         .about(
             "Print the cells in which a hostile mob could spawn: their number, then x y z of each",
         )
-        .arg(file)?
-        .arg(headroom)?
-        .arg(rule)?
-        .arg(table)
+        .arg(file(alloc))?
+        .arg(headroom(alloc))?
+        .arg(rule(alloc))?
+        .arg(table(alloc))
+}
+
+fn plan_command<'a>(alloc: Global) -> Result<Command<'a>, AllocError> {
+    Command::new(alloc, "plan")
+        .about("Print the fewest torches that leave no such cell dark, layer by layer")
+        .arg(file(alloc))?
+        .arg(headroom(alloc))?
+        .arg(rule(alloc))?
+        .arg(table(alloc))?
+        .arg(proof(alloc))?
+        .arg(workers(alloc))?
+        .arg(turns(alloc))
 }
 
 fn command<'a>(alloc: Global) -> Result<Command<'a>, AllocError> {
     Command::new(alloc, "torchplan")
         .about("Plan the fewest torches for a Minecraft cave, saved as a structure file")
         .after_help(
-            "Save a cave with a structure block, then: gunzip -c cave.nbt | torchplan dark -",
+            "Save a cave with a structure block, then: gunzip -c cave.nbt | torchplan plan -",
         )
         .subcommand_required(true)
         .arg_required_else_help(true)
         .disable_version_flag(true)
-        .subcommand(dark_command(alloc)?)
+        .subcommand(dark_command(alloc)?)?
+        .subcommand(plan_command(alloc)?)
 }
 
 /// The rule that the words name: headroom 2 and version 1.18 unless told. None for another version.
@@ -71,19 +130,38 @@ fn rule_of(matches: &ArgMatches) -> Option<Rule> {
     Some(Rule::new(2, need))
 }
 
+fn dark_of<'a>(matches: &ArgMatches<'a>) -> Option<Request<'a>> {
+    Some(Request::Dark {
+        file: matches.get_str("FILE")?,
+        table: matches.get_str("table"),
+        rule: rule_of(matches)?,
+    })
+}
+
+fn plan_of<'a>(matches: &ArgMatches<'a>) -> Option<Request<'a>> {
+    Some(Request::Plan {
+        file: matches.get_str("FILE")?,
+        table: matches.get_str("table"),
+        opts: PlanOpts {
+            rule: rule_of(matches)?,
+            turns: matches.get_one::<u64>("turns"),
+        },
+        proof: matches.get_str("proof"),
+    })
+}
+
 /// What the words ask for; the first is the program's name. An error has the text for the user: help where that was
 /// asked for, else the mistake and the usage.
 pub fn request_of<'a>(alloc: Global, words: &'a [String]) -> Result<Request<'a>, Error> {
     let mut command = command(alloc)?;
     let matches = command.try_get_matches_from_mut(words)?;
-    if let Some(("dark", dark)) = matches.subcommand() {
-        if let Some(file) = dark.get_str("FILE") {
-            let Some(rule) = rule_of(dark) else {
-                return Err(command.error(ErrorKind::InvalidValue, "--rule is 1.18 or 1.17")?);
-            };
-            let table = dark.get_str("table");
-            return Ok(Request::Dark { file, table, rule });
-        }
+    let request = match matches.subcommand() {
+        Some(("dark", dark)) => dark_of(dark),
+        Some(("plan", plan)) => plan_of(plan),
+        _ => None,
+    };
+    match request {
+        Some(request) => Ok(request),
+        None => Err(command.error(ErrorKind::InvalidValue, "--rule is 1.18 or 1.17")?),
     }
-    Err(command.error(ErrorKind::MissingSubcommand, "no command")?)
 }

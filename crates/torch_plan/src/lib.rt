@@ -1,19 +1,11 @@
-//! The runs of torchplan, from bytes read to bytes written, and its command line.
+//! The command line of torchplan, its runs, and their exit statuses.
 #![tactic(auto)]
 
 mod command;
-mod dark;
-mod fault;
-mod limits;
-mod reading;
 mod status;
-mod text;
 mod version;
-mod writing;
 
 pub use cave_model::Rule;
+pub use cave_runs::{Input, Outcome, PlanOpts, RunFault, Unkept, read_table, run_dark, run_plan};
 pub use command::{Request, request_of};
-pub use dark::run_dark;
-pub use fault::{Input, RunFault};
-pub use reading::read_table;
 pub use status::status_of;

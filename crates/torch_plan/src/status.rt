@@ -1,7 +1,7 @@
 ghost use Rattle.std.specs.Prelude.{◌≡◌};
 ghost use Rattle.torch_plan.specs.Status.{status};
 
-use crate::fault::RunFault;
+use cave_runs::RunFault;
 
 /// The exit status of a refused run: 1 refused input, 3 a cell that no torch lights, 6 reading or writing failed,
 /// 7 memory or threads refused (this project's own).

@@ -2,10 +2,15 @@
 #![tactic(auto)]
 
 use clap::error::ErrorKind;
-use std::fs::File;
+use std::fs::{self, File};
+use std::io::Read;
+use std::os::unix::fs::MetadataExt;
 use std::process::ExitCode;
 use std::{env, io};
-use torch_plan::{Request, Rule, RunFault, read_table, request_of, run_dark, status_of};
+use torch_plan::{
+    Outcome, PlanOpts, Request, Rule, RunFault, Unkept, read_table, request_of, run_dark, run_plan,
+    status_of,
+};
 
 /// The words of the command line. One that is no text is a mistake in usage.
 fn words_of(rt: &HostRuntime) -> Result<Vec<String>, ExitCode> {
@@ -65,17 +70,102 @@ fn dark(rt: &HostRuntime, file: &str, table: Option<&str>, rule: Rule) -> Result
     }
 }
 
+/// What the system knows an existing file by, whatever its name. None for what is no file.
+fn identity(rt: &HostRuntime, path: &str) -> Option<(u64, u64)> {
+    match fs::metadata(rt, path) {
+        Ok(data) if data.is_file() => Some((data.dev(), data.ino())),
+        _ => None,
+    }
+}
+
+/// Whether writing to one of these files would write over the other.
+fn is_same(rt: &HostRuntime, one: &str, other: &str) -> bool {
+    match (identity(rt, one), identity(rt, other)) {
+        (Some(one), Some(other)) => one == other,
+        _ => false,
+    }
+}
+
+/// Whether the file for the proof is one that is read.
+fn is_input(rt: &HostRuntime, proof: &str, file: &str, table: Option<&str>) -> bool {
+    let file = if file == "-" { "/dev/stdin" } else { file };
+    is_same(rt, proof, file) || matches!(table, Some(table) if is_same(rt, proof, table))
+}
+
+/// Plans what the reader has. The file for the proof is made, or emptied, before it is read.
+fn plan_from<R: Read>(
+    rt: &HostRuntime,
+    reader: &mut R,
+    table: Option<&[u8]>,
+    opts: &PlanOpts,
+    proof: Option<&str>,
+) -> Result<Outcome, RunFault> {
+    let alloc = rt.alloc();
+    let mut output = io::writer(rt);
+    let Some(path) = proof else {
+        return run_plan(alloc, reader, table, opts, &mut output, &mut Unkept);
+    };
+    match File::create(rt, path) {
+        Ok(mut kept) => run_plan(alloc, reader, table, opts, &mut output, &mut kept),
+        Err(_) => Err(RunFault::WriteFailed),
+    }
+}
+
+fn plan(
+    rt: &HostRuntime,
+    file: &str,
+    table: Option<&str>,
+    opts: &PlanOpts,
+    proof: Option<&str>,
+) -> Result<Outcome, RunFault> {
+    let table = table_of(rt, table)?;
+    let table = table.as_deref();
+    if file == "-" {
+        return plan_from(rt, &mut rt.reader(), table, opts, proof);
+    }
+    match File::open(rt, file) {
+        Ok(mut input) => plan_from(rt, &mut input, table, opts, proof),
+        Err(_) => Err(RunFault::ReadFailed),
+    }
+}
+
+/// The status of a plan: 5 where it was stopped.
+fn planned(
+    rt: &HostRuntime,
+    file: &str,
+    table: Option<&str>,
+    opts: &PlanOpts,
+    proof: Option<&str>,
+) -> ExitCode {
+    if matches!(proof, Some(proof) if is_input(rt, proof, file, table)) {
+        let _ = eprintln!(rt; "error: --proof would write over a file that is read");
+        return ExitCode::from(2);
+    }
+    match plan(rt, file, table, opts, proof) {
+        Ok(Outcome::Done) => ExitCode::from(0),
+        Ok(Outcome::Stopped) => ExitCode::from(5),
+        Err(fault) => refused(rt, &fault),
+    }
+}
+
 fn main(rt: HostRuntime) -> ExitCode {
     let words = match words_of(&rt) {
         Ok(words) => words,
         Err(status) => return status,
     };
-    let ended = match request_of(rt.alloc(), &words) {
-        Ok(Request::Dark { file, table, rule }) => dark(&rt, file, table, rule),
-        Err(error) => return explained(&rt, &error),
-    };
-    match ended {
-        Ok(()) => ExitCode::from(0),
-        Err(fault) => refused(&rt, &fault),
+    match request_of(rt.alloc(), &words) {
+        Ok(Request::Dark { file, table, rule }) => match dark(&rt, file, table, rule) {
+            Ok(()) => ExitCode::from(0),
+            Err(fault) => refused(&rt, &fault),
+        },
+        Ok(
+            Request::Plan {
+                file,
+                table,
+                opts,
+                proof,
+            },
+        ) => planned(&rt, file, table, &opts, proof),
+        Err(error) => explained(&rt, &error),
     }
 }

@@ -1,0 +1,3 @@
+pub mod UpToLemmas
+pub mod CourseLemmas
+pub mod OutlineLemmas

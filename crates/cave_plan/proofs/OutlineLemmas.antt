@@ -1,0 +1,124 @@
+-- The plan of a cave, from those of its regions.
+use Rattle.std.proofs.Common.{◌≡◌, ℕ, ◌<◌, ◌≤◌, Bool, true, false, List, [], ◌∷◌, ◌++◌, length, map, All, Contains, refl, sym, ap, subst, ◌∙◌, Option, Some, None, inl, inr}
+use Rattle.std.specs.Prelude.{flat_map, IsSome}
+use Rattle.std.proofs.lemmas.List.Elements.{All-head, All-tail, All-cons, All-nil, Contains-append_cases, Contains-append_left, Contains-append_right}
+use Rattle.scan_core.specs.Box.{cell_count}
+use Rattle.cave_model.specs.Cave.{Cave, IsWorld}
+use Rattle.cave_model.specs.Coverage.{of_cave, Agrees}
+use Rattle.cave_model.specs.Listing.{Lists}
+use Rattle.cave_model.specs.Regions.{AreRegions}
+use Rattle.set_cover.specs.Instance.{Instance, of_instance}
+use Rattle.cave_regions.specs.Region.{IsRegion}
+use Rattle.cave_regions.specs.Splitting.{cells_of_each}
+use Rattle.proof_rules.specs.Certificate.{Section, torches_of}
+use Rattle.proof_rules.proofs.ListLemmas.{all_members}
+use Rattle.proof_tree.specs.Order.{in_order}
+use Rattle.proof_tree.specs.Planned.{Plan, section_of, IsBestOf, AreBestOf}
+use Rattle.proof_tree.proofs.OrderLemmas.{has_ordered, ordered_has}
+use Rattle.plan_laws.specs.Best.{AreTorchesOf}
+use Rattle.plan_laws.specs.Bounded.{Bounded, IsBoundedIn, AreBoundedIn, AreInOrder, IsPlanWithin, all_torches, total_floor}
+use Rattle.plan_laws.proofs.PartLemmas.{torches_are, are_apart, plan_within}
+use Rattle.plan_laws.proofs.AcceptedLemmas.{fewest, place_inside}
+use Rattle.cave_plan.specs.Course.{Course, IsBounded, IsProved, AreProved, IsCourse, floor_if}
+use Rattle.cave_plan.specs.Outline.{AreRegionsIn, IsPlanned, IsStoppedAt, IsOutlineOf, Prints}
+
+abbrev AgreesIn : Cave → Instance → Type 0
+AgreesIn cave region = Agrees (of_instance region) (of_cave cave) region.cells
+
+-- ---- regions
+
+cells_by : {X : Type 0} (f : X → Instance) (xs : List X) → cells_of_each (map f xs) ≡ map (λ x. (f x).cells) xs
+cells_by f [] = refl
+cells_by f (x ∷ xs) = ap (λ (l : List (List ℕ)). (f x).cells ∷ l) (cells_by f xs)
+
+regions_by : {X : Type 0} (cave : Cave) (regions : List Instance) (f : X → Instance) (xs : List X) → map f xs ≡ regions → AreRegions cave (cells_of_each regions)
+    → AreRegions cave (map (λ x. (f x).cells) xs)
+regions_by cave regions f xs e are = subst (AreRegions cave) (cells_by f xs) (subst (λ (l : List Instance). AreRegions cave (cells_of_each l)) (sym e) are)
+
+each_bounded : (cave : Cave) (parts : List Bounded) → All IsBounded parts → All (AgreesIn cave) (map (λ part. part.region) parts) → All (IsBoundedIn cave) parts
+each_bounded cave [] all agree = All-nil (IsBoundedIn cave)
+each_bounded cave (p ∷ ps) all agree =
+    let rest = map (λ (part : Bounded). part.region) ps in
+    let is = All-head IsBounded p ps all in
+    All-cons (IsBoundedIn cave) p ps (record { agrees = All-head (AgreesIn cave) p.region rest agree; cover = is.cover; none_below = is.none_below })
+    (each_bounded cave ps (All-tail IsBounded p ps all) (All-tail (AgreesIn cave) p.region rest agree))
+
+each_best : (cave : Cave) (plans : List Plan) → All IsProved plans → All IsRegion (map (λ plan. plan.region) plans) → All (AgreesIn cave) (map (λ plan. plan.region) plans) → All (IsBestOf cave) plans
+each_best cave [] all kept agree = All-nil (IsBestOf cave)
+each_best cave (p ∷ ps) all kept agree =
+    let rest = map (λ (plan : Plan). plan.region) ps in
+    let is = All-head IsProved p ps all in
+    All-cons (IsBestOf cave) p ps (record { kept = All-head IsRegion p.region rest kept; agrees = All-head (AgreesIn cave) p.region rest agree; cover = is.cover; good = is.good })
+    (each_best cave ps (All-tail IsProved p ps all) (All-tail IsRegion p.region rest kept) (All-tail (AgreesIn cave) p.region rest agree))
+
+-- ---- torches, in order or not
+
+abbrev loose : List Plan → List ℕ
+loose plans = flat_map (λ (plan : Plan). plan.torches) plans
+
+abbrev ordered : List Plan → List ℕ
+ordered plans = torches_of (map section_of plans)
+
+to_ordered : (plans : List Plan) (x : ℕ) → Contains (loose plans) x → Contains (ordered plans) x
+to_ordered [] x h = h
+to_ordered (p ∷ ps) x h = elim (Contains-append_cases p.torches (loose ps) x h) [
+  | inl h ↦ Contains-append_left (in_order p.torches) (ordered ps) x (ordered_has p.torches x h)
+  | inr h ↦ Contains-append_right (in_order p.torches) (ordered ps) x (to_ordered ps x h)
+]
+
+to_loose : (plans : List Plan) (x : ℕ) → Contains (ordered plans) x → Contains (loose plans) x
+to_loose [] x h = h
+to_loose (p ∷ ps) x h = elim (Contains-append_cases (in_order p.torches) (ordered ps) x h) [
+  | inl h ↦ Contains-append_left p.torches (loose ps) x (has_ordered p.torches x h)
+  | inr h ↦ Contains-append_right p.torches (loose ps) x (to_loose ps x h)
+]
+
+of_plans : (plans : List Plan) (torches cells : List ℕ) → loose plans ≡ torches → Lists (Contains torches) cells → AreTorchesOf plans cells
+of_plans plans torches cells e order = record {
+  ascending = order.ascending;
+  exact = λ x. (
+    (λ h. to_ordered plans x (subst (λ (l : List ℕ). Contains l x) (sym e) ((order.exact x).0 h))),
+    (λ h. (order.exact x).1 (subst (λ (l : List ℕ). Contains l x) e (to_loose plans x h))),
+  );
+}
+
+-- ---- the plan
+
+module _ (cave : Cave) (turns : Option ℕ) (regions : List Instance) (c : Course) (world : IsWorld cave) (are : AreRegionsIn cave regions) (is : IsCourse regions turns c)
+    (cells : List ℕ) (order : Lists (Contains c.torches) cells) where
+  bounded : AreBoundedIn cave is.parts
+  bounded = record {
+    regions = regions_by cave regions (λ (part : Bounded). part.region) is.parts is.of_them are.parts;
+    each = each_bounded cave is.parts is.each (subst (All (AgreesIn cave)) (sym is.of_them) are.agree);
+  }
+
+  in_parts : AreInOrder is.parts cells
+  in_parts = subst (λ (l : List ℕ). Lists (Contains l) cells) (sym is.whole) order
+
+  pub inside : All (λ cell. cell < cell_count cave.size) cells
+  inside =
+      let torches = torches_are cave is.parts bounded.each (are_apart cave is.parts bounded.regions.apart) in
+      all_members (λ cell. cell < cell_count cave.size) cells (λ p h. place_inside cave p world.sound (torches.legal p ((in_parts.exact p).0 h)))
+
+  stopped_at : (text : List ℕ) → c.stopped ≡ true → Prints cave cells (Some c.floor) text → IsStoppedAt cave turns text
+  stopped_at text e prints = record {
+    limited = is.limited e;
+    torches = cells;
+    floor = c.floor;
+    within = subst (IsPlanWithin cave cells) is.total (plan_within cave is.parts cells world.sound bounded in_parts);
+    prints = prints;
+  }
+
+  planned_to_end : (text : List ℕ) → c.stopped ≡ false → Prints cave cells None text → IsPlanned cave text c.plans
+  planned_to_end text e prints =
+      let proved = is.proved e in
+      let best : AreBestOf cave c.plans = record {
+        regions = regions_by cave regions (λ (plan : Plan). plan.region) c.plans proved.of_them are.parts;
+        each = each_best cave c.plans proved.each (subst (All IsRegion) (sym proved.of_them) are.each) (subst (All (AgreesIn cave)) (sym proved.of_them) are.agree);
+      } in
+      let of_them = of_plans c.plans c.torches cells proved.whole order in
+      record { world = world; torches = cells; best = fewest cave c.plans world best cells of_them; prints = prints; plans_are = best; of_plans = of_them }
+
+  pub outlines : (stopped : Bool) (text : List ℕ) → c.stopped ≡ stopped → Prints cave cells (floor_if stopped c.floor) text → IsOutlineOf cave turns text stopped c.plans
+  outlines true text e prints = stopped_at text e prints
+  outlines false text e prints = planned_to_end text e prints

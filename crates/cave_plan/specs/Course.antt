@@ -1,0 +1,53 @@
+-- The plans of regions, as far as they go. This is this project's own.
+use Rattle.std.specs.Prelude.{◌≡◌, ℕ, Bool, true, false, List, [], ◌∷◌, ◌++◌, length, map, flat_map, All, Option, Some, None, IsSome, if◌then◌else◌}
+use Rattle.set_cover.specs.Instance.{Instance, of_instance}
+use Rattle.proof_rules.specs.Good.{Good}
+use Rattle.cave_regions.specs.Cover.{IsCoverOfRegion}
+use Rattle.proof_tree.specs.Planned.{Plan}
+use Rattle.search_core.specs.Planned.{NoneBelow}
+use Rattle.plan_laws.specs.Bounded.{Bounded, all_torches, total_floor}
+
+-- what is kept: the torches of all regions, a number that no torches are fewer than, whether the turns of a region
+-- were spent, and the regions that have a tree
+pub record Course : Type 0 where
+  pub torches : List ℕ
+  pub floor : ℕ
+  pub stopped : Bool
+  pub plans : List Plan
+
+abbrev pub course : List ℕ → ℕ → Bool → List Plan → Course
+course torches floor stopped plans = record { torches = torches; floor = floor; stopped = stopped; plans = plans }
+
+-- a cover of the region, and a number that no cover is below
+pub record IsBounded (part : Bounded) : Type 0 where
+  pub cover : IsCoverOfRegion part.region part.torches
+  pub none_below : NoneBelow part.region part.floor
+
+-- a cover of the region, and a tree which proves that none is smaller
+pub record IsProved (plan : Plan) : Type 0 where
+  pub cover : IsCoverOfRegion plan.region plan.torches
+  pub good : Good (of_instance plan.region) plan.region.cells [] [] (length plan.torches) plan.tree
+
+-- each of the regions is proved, with just these torches
+pub record AreProved (regions : List Instance) (torches : List ℕ) (plans : List Plan) : Type 0 where
+  pub of_them : map (λ plan. plan.region) plans ≡ regions
+  pub each : All IsProved plans
+  pub whole : flat_map (λ plan. plan.torches) plans ≡ torches
+
+-- a cover and such a number for each of the regions; and a tree, unless some turns were spent, which were limited
+pub record IsCourse (regions : List Instance) (turns : Option ℕ) (c : Course) : Type 0 where
+  pub parts : List Bounded
+  pub of_them : map (λ part. part.region) parts ≡ regions
+  pub each : All IsBounded parts
+  pub whole : all_torches parts ≡ c.torches
+  pub total : total_floor parts ≡ c.floor
+  pub proved : c.stopped ≡ false → AreProved regions c.torches c.plans
+  pub limited : c.stopped ≡ true → IsSome turns
+
+-- one region more is planned
+pub record GoesOn (turns : Option ℕ) (region : Instance) (old new : Course) : Type 0 where
+  pub each : (regions : List Instance) → IsCourse regions turns old → IsCourse (regions ++ region ∷ []) turns new
+
+-- the number that no torches are fewer than, where turns were spent
+abbrev pub floor_if : Bool → ℕ → Option ℕ
+floor_if stopped floor = if stopped then Some floor else None

@@ -1,0 +1,4 @@
+-- public clauses cite
+pub mod PlanText
+pub mod Course
+pub mod Outline

@@ -1,0 +1,59 @@
+-- What a plan of a cave shows: its text, and where no turns were spent the regions' trees. This is this project's own.
+use Rattle.std.specs.Prelude.{◌≡◌, ℕ, Bool, true, false, List, length, All, Option, Some, None, IsSome, MatchBool}
+use Rattle.cave_model.specs.Cave.{Cave, IsWorld}
+use Rattle.cave_model.specs.Coverage.{of_cave, Agrees}
+use Rattle.cave_model.specs.Regions.{AreRegions}
+use Rattle.cave_model.specs.Spawn.{AreDarkCells}
+use Rattle.set_cover.specs.Instance.{Instance, of_instance}
+use Rattle.cave_regions.specs.Region.{IsRegion}
+use Rattle.cave_regions.specs.Splitting.{cells_of_each}
+use Rattle.proof_tree.specs.Planned.{Plan, AreBestOf}
+use Rattle.proof_check.specs.Accepted.{IsBestPlan}
+use Rattle.plan_laws.specs.Best.{AreTorchesOf}
+use Rattle.plan_laws.specs.Bounded.{IsPlanWithin}
+use Rattle.cave_plan.specs.Course.{Course, IsCourse}
+use Rattle.cave_plan.specs.PlanText.{plan_text}
+
+-- the number of dark cells
+pub record CountsDark (cave : Cave) (count : ℕ) : Type 0 where
+  pub cells : List ℕ
+  pub dark : AreDarkCells cave cells
+  pub number : length cells ≡ count
+
+-- the text of these torches
+pub record Prints (cave : Cave) (torches : List ℕ) (floor : Option ℕ) (text : List ℕ) : Type 0 where
+  pub dark : ℕ
+  pub counts : CountsDark cave dark
+  pub is : text ≡ plan_text cave torches dark floor
+
+-- the regions of the cave, each with what its places light there
+pub record AreRegionsIn (cave : Cave) (regions : List Instance) : Type 0 where
+  pub parts : AreRegions cave (cells_of_each regions)
+  pub each : All IsRegion regions
+  pub agree : All (λ region. Agrees (of_instance region) (of_cave cave) region.cells) regions
+
+-- a plan of each of the cave's regions, as far as they go
+pub record IsCourseIn (cave : Cave) (turns : Option ℕ) (c : Course) : Type 0 where
+  pub regions : List Instance
+  pub are : AreRegionsIn cave regions
+  pub is : IsCourse regions turns c
+
+-- the fewest torches, their text, and best plans of all regions with just these torches
+pub record IsPlanned (cave : Cave) (text : List ℕ) (plans : List Plan) : Type 0 where
+  pub world : IsWorld cave
+  pub torches : List ℕ
+  pub best : IsBestPlan cave torches
+  pub prints : Prints cave torches None text
+  pub plans_are : AreBestOf cave plans
+  pub of_plans : AreTorchesOf plans torches
+
+-- turns were limited: safe torches, a number that no safe torches are fewer than, and their text
+pub record IsStoppedAt (cave : Cave) (turns : Option ℕ) (text : List ℕ) : Type 0 where
+  pub limited : IsSome turns
+  pub torches : List ℕ
+  pub floor : ℕ
+  pub within : IsPlanWithin cave torches floor
+  pub prints : Prints cave torches (Some floor) text
+
+abbrev pub IsOutlineOf : Cave → Option ℕ → List ℕ → Bool → List Plan → Type 0
+IsOutlineOf cave turns text stopped plans = MatchBool stopped (IsStoppedAt cave turns text) (IsPlanned cave text plans)

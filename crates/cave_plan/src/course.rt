@@ -1,0 +1,138 @@
+//! The regions of a cave, planned one after another.
+ghost use Rattle.std.specs.Prelude.{◌≡◌, ◌≤◌, ◌+◌, [], false, Contains, IfOk, OnOk};
+ghost use Rattle.std.specs.Arc.{arc_value};
+ghost use Rattle.cave_model.specs.Listing.{Lists};
+ghost use Rattle.proof_tree.specs.PlanOf.{plans_of};
+ghost use Rattle.proof_tree.specs.Shape.{tree_of};
+ghost use Rattle.search_core.specs.Planned.{IsBest, IsStopped};
+ghost use Rattle.cave_plan.specs.Course.{GoesOn, IsCourse, course};
+
+use cave_regions::{Cover, Region};
+use proof_tree::{Planned, Proof};
+use scan_core::Cell;
+use search_core::{AloneFault, plan_alone};
+use std::alloc::{AllocError, Global};
+use std::sync::Arc;
+
+/// The plans of regions, as far as they go.
+#[derive(Drop)]
+pub struct Course {
+    /// The regions that were planned to the end.
+    pub parts: Vec<Planned>,
+    /// The torches of all regions, one region after another.
+    pub torches: Vec<Cell>,
+    /// A number that no torches of all these regions are fewer than.
+    pub floor: u64,
+    /// Whether the turns of some region were spent.
+    pub stopped: bool,
+}
+
+/// The sum of two numbers that together are at most a third.
+fn sum_within(a: u64, b: u64, most: usize) -> u64
+    ensures { a + b ≤ most → result ≡ a + b }
+{
+    let most = most as u64;
+    if a <= most && b <= most - a {
+        return a + b;
+    }
+    most
+}
+
+impl Course {
+    /// No region yet.
+    fn new(alloc: Global) -> Course
+        ensures torches { result.torches.items ≡ [] }
+        ensures floor { result.floor ≡ 0 }
+        ensures stopped { result.stopped ≡ false }
+        ensures parts { plans_of result.parts.items ≡ [] }
+    {
+        Course {
+            parts: Vec::new(alloc),
+            torches: Vec::new(alloc),
+            floor: 0,
+            stopped: false,
+        }
+    }
+
+    /// Takes a region that was planned to the end.
+    fn add_best(
+        &mut self,
+        turns: Option<u64>,
+        region: Arc<Region>,
+        cover: Cover,
+        proof: Proof,
+    ) -> Result<(), AllocError>
+        requires { IsBest (arc_value region) cover (tree_of proof) }
+        ensures { OnOk result (GoesOn turns (arc_value region)
+            (course self.old.torches.items self.old.floor self.old.stopped (plans_of self.old.parts.items))
+            (course self.new.torches.items self.new.floor self.new.stopped (plans_of self.new.parts.items))) }
+    {
+        self.torches.extend_from_slice(cover.places())?;
+        self.floor = sum_within(self.floor, cover.size(), self.torches.len());
+        self.parts.push((region, cover, proof))?;
+        Ok(())
+    }
+
+    /// Takes a region whose turns were spent.
+    fn add_stopped(
+        &mut self,
+        turns: Option<u64>,
+        cover: &Cover,
+        floor: u64,
+    ) -> Result<(), AllocError>
+        requires { IsStopped cover.now.region turns cover.now floor }
+        ensures { OnOk result (GoesOn turns cover.now.region
+            (course self.old.torches.items self.old.floor self.old.stopped (plans_of self.old.parts.items))
+            (course self.new.torches.items self.new.floor self.new.stopped (plans_of self.new.parts.items))) }
+    {
+        self.torches.extend_from_slice(cover.places())?;
+        self.floor = sum_within(self.floor, floor, self.torches.len());
+        self.stopped = true;
+        Ok(())
+    }
+
+    /// Plans one region more, with all the turns.
+    fn plan(
+        &mut self,
+        alloc: Global,
+        region: Arc<Region>,
+        turns: Option<u64>,
+    ) -> Result<(), AllocError>
+        ensures { OnOk result (GoesOn turns (arc_value region)
+            (course self.old.torches.items self.old.floor self.old.stopped (plans_of self.old.parts.items))
+            (course self.new.torches.items self.new.floor self.new.stopped (plans_of self.new.parts.items))) }
+    {
+        match plan_alone(alloc, &region, turns) {
+            Ok((cover, proof)) => self.add_best(turns, region, cover, proof),
+            Err(AloneFault::Stopped { cover, floor }) => self.add_stopped(turns, &cover, floor),
+            Err(AloneFault::OutOfMemory) => Err(AllocError),
+        }
+    }
+}
+
+/// The plans of all regions, each with all the turns.
+pub fn planned(
+    alloc: Global,
+    regions: Vec<Region>,
+    turns: Option<u64>,
+) -> Result<Course, AllocError>
+    ensures { IfOk result (λ c. IsCourse regions.items turns
+        (course c.torches.items c.floor c.stopped (plans_of c.parts.items))) }
+{
+    let mut course = Course::new(alloc);
+    for region in regions {
+        let region = Arc::new(alloc, region)?;
+        course.plan(alloc, region, turns)?;
+    }
+    Ok(course)
+}
+
+/// Numbers in order, each once.
+pub fn in_order(cells: Vec<Cell>) -> Vec<Cell>
+    ensures { Lists (Contains cells.items) result.items }
+{
+    let mut cells = cells;
+    cells.sort_unstable();
+    cells.dedup();
+    cells
+}

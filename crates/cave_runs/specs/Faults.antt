@@ -1,0 +1,17 @@
+-- A run's fault, of those of its parts: memory that was refused is told as such, whatever part met it.
+use Rattle.cave_model.specs.declared.cave_fault.CaveFault.{CaveFault}
+use Rattle.cave_model.specs.declared.cave_fault.CaveFault.TheVariants as cave
+use Rattle.proof_tree.specs.declared.fault.WriteFault.{WriteFault}
+use Rattle.proof_tree.specs.declared.fault.WriteFault.TheVariants as writing
+use Rattle.cave_runs.specs.declared.fault.RunFault.{RunFault}
+use Rattle.cave_runs.specs.declared.fault.RunFault.TheVariants.{WriteFailed, Scan, Table, Build, OutOfMemory}
+
+abbrev pub of_cave : CaveFault → RunFault
+of_cave (cave.Scan fault) = Scan fault
+of_cave (cave.Table fault) = Table fault
+of_cave (cave.Build fault) = Build fault
+of_cave cave.OutOfMemory = OutOfMemory
+
+abbrev pub of_write : WriteFault → RunFault
+of_write writing.WriteFailed = WriteFailed
+of_write writing.OutOfMemory = OutOfMemory

@@ -1,0 +1,119 @@
+-- What a plan writes of the bytes that are read, or why they have no plan. This is this project's own.
+use Rattle.std.specs.Prelude.{◌≡◌, ◌<◌, ◌≤◌, ◌⊎◌, ◌↔◌, ℕ, Bool, List, [], length, Contains, Option, Some, None, IsSome, IfSome}
+use Rattle.std.specs.Io.KnownBytes.{Appends, Keeps}
+use Rattle.scan_core.specs.Box.{coordinates}
+use Rattle.cave_model.specs.Bytes.{IsCaveOfBytes}
+use Rattle.cave_model.specs.Cave.{Cave}
+use Rattle.cave_model.specs.Rule.{Rule}
+use Rattle.cover_rows.specs.Coverage.{IsUnlightable}
+use Rattle.proof_rules.specs.Certificate.{Certificate, torches_of}
+use Rattle.proof_tree.specs.Planned.{Plan, certificate_text}
+use Rattle.proof_tree.specs.Writing.{AppendsPart}
+use Rattle.proof_check.specs.Accepted.{Accepts, IsBestPlan}
+use Rattle.plan_laws.specs.Bounded.{IsPlanWithin}
+use Rattle.cave_plan.specs.Outline.{Prints, IsPlanned, IsStoppedAt, IsOutlineOf}
+use Rattle.cave_runs.specs.Limits.{structure_limit}
+use Rattle.cave_runs.specs.Runs.{IsFaultOfBytes}
+use Rattle.cave_runs.specs.declared.fault.Input.TheVariants.{StructureInput}
+use Rattle.cave_runs.specs.declared.fault.RunFault.{RunFault}
+use Rattle.cave_runs.specs.declared.fault.RunFault.TheVariants as faults
+use Rattle.cave_runs.specs.declared.plan.Outcome.{Outcome}
+use Rattle.cave_runs.specs.declared.plan.Outcome.TheVariants.{Done, Stopped}
+
+-- ---- what is written
+
+-- safe torches were printed, with no safe ones fewer; and a certificate that the checker accepts, of just these torches
+pub record WritesBest (cave : Cave) (old new proof_old proof_new : Option (List ℕ)) : Type 0 where
+  pub torches : List ℕ
+  pub best : IsBestPlan cave torches
+  pub text : List ℕ
+  pub prints : Prints cave torches None text
+  pub written : Appends old new text
+  pub proof : List ℕ
+  pub certificate : Certificate
+  pub accepted : Accepts cave proof certificate
+  pub same : (cell : ℕ) → Contains torches cell ↔ Contains (torches_of certificate.sections) cell
+  pub number : length torches ≡ length (torches_of certificate.sections)
+  pub proved : Appends proof_old proof_new proof
+
+-- turns were limited: safe torches were printed, with a number that no safe ones are fewer than, and no certificate
+pub record WritesFloor (cave : Cave) (turns : Option ℕ) (old new proof_old proof_new : Option (List ℕ)) : Type 0 where
+  pub limited : IsSome turns
+  pub torches : List ℕ
+  pub floor : ℕ
+  pub within : IsPlanWithin cave torches floor
+  pub text : List ℕ
+  pub prints : Prints cave torches (Some floor) text
+  pub written : Appends old new text
+  pub unproved : Keeps proof_old proof_new
+
+abbrev pub EndsIn : Outcome → Cave → Option ℕ → Option (List ℕ) → Option (List ℕ) → Option (List ℕ) → Option (List ℕ) → Type 0
+EndsIn Done cave turns old new proof_old proof_new = WritesBest cave old new proof_old proof_new
+EndsIn Stopped cave turns old new proof_old proof_new = WritesFloor cave turns old new proof_old proof_new
+
+-- this was written of the cave that the bytes tell
+pub record Plans (bytes : List ℕ) (table : Option (List ℕ)) (rule : Rule) (turns : Option ℕ) (outcome : Outcome) (old new proof_old proof_new : Option (List ℕ)) : Type 0 where
+  pub cave : Cave
+  pub told : IsCaveOfBytes bytes table rule cave
+  pub ends : EndsIn outcome cave turns old new proof_old proof_new
+
+-- ---- what a fault leaves
+
+-- the text of a plan, and of its certificate
+abbrev pub AreTextsOf : Cave → Option ℕ → List ℕ → List ℕ → Type 0
+AreTextsOf cave turns text proof = ((plans : List Plan) × IsPlanned cave text plans × (proof ≡ certificate_text cave plans))
+    ⊎ (IsStoppedAt cave turns text × (proof ≡ []))
+
+-- of each a beginning was written, or all of it
+pub record Begins (cave : Cave) (turns : Option ℕ) (old new proof_old proof_new : Option (List ℕ)) : Type 0 where
+  pub text : List ℕ
+  pub proof : List ℕ
+  pub are : AreTextsOf cave turns text proof
+  pub written : AppendsPart old new text
+  pub proved : AppendsPart proof_old proof_new proof
+
+pub record BeginsPlan (bytes : List ℕ) (table : Option (List ℕ)) (rule : Rule) (turns : Option ℕ) (old new proof_old proof_new : Option (List ℕ)) : Type 0 where
+  pub cave : Cave
+  pub told : IsCaveOfBytes bytes table rule cave
+  pub begins : Begins cave turns old new proof_old proof_new
+
+-- a failed write leaves a beginning of each; want of memory one of the certificate alone; any other fault nothing
+abbrev pub Leaves : RunFault → Option (List ℕ) → Option (List ℕ) → Rule → Option ℕ → Option (List ℕ) → Option (List ℕ) → Option (List ℕ) → Option (List ℕ) → Type 0
+Leaves faults.WriteFailed known table rule turns old new proof_old proof_new =
+    IfSome known (λ bytes. BeginsPlan bytes table rule turns old new proof_old proof_new)
+Leaves faults.OutOfMemory known table rule turns old new proof_old proof_new =
+    Keeps old new × (Keeps proof_old proof_new ⊎ IfSome known (λ bytes. BeginsPlan bytes table rule turns old new proof_old proof_new))
+Leaves other known table rule turns old new proof_old proof_new = Keeps old new × Keeps proof_old proof_new
+
+-- what a fault of writing leaves of this cave's plan
+abbrev pub LeavesIn : RunFault → Cave → Option ℕ → Option (List ℕ) → Option (List ℕ) → Option (List ℕ) → Option (List ℕ) → Type 0
+LeavesIn faults.WriteFailed cave turns old new proof_old proof_new = Begins cave turns old new proof_old proof_new
+LeavesIn faults.OutOfMemory cave turns old new proof_old proof_new = Keeps old new × Begins cave turns old new proof_old proof_new
+LeavesIn other cave turns old new proof_old proof_new = ⊥
+
+-- the same whatever the turns are
+pub record LeavesProved (fault : RunFault) (cave : Cave) (old new proof_old proof_new : Option (List ℕ)) : Type 0 where
+  pub each : (turns : Option ℕ) → LeavesIn fault cave turns old new proof_old proof_new
+
+-- ---- why there is no plan
+
+-- the fault names the least dark cell that no place lights
+pub record IsUnlit (cave : Cave) (fault : RunFault) : Type 0 where
+  pub cell : ℕ
+  pub unlightable : IsUnlightable cave cell
+  pub least : (other : ℕ) → IsUnlightable cave other → cell ≤ other
+  pub named : fault ≡ faults.Unlightable (coordinates cave.size cell).x (coordinates cave.size cell).y (coordinates cave.size cell).z
+
+-- the bytes tell no cave, or one that can't be lit
+abbrev pub IsNoPlan : List ℕ → Option (List ℕ) → Rule → RunFault → Type 0
+IsNoPlan bytes table rule fault = IsFaultOfBytes bytes table fault
+    ⊎ ((cave : Cave) × IsCaveOfBytes bytes table rule cave × IsUnlit cave fault)
+
+-- the input is too long, or has no plan
+abbrev pub IsNoPlanOfInput : List ℕ → Option (List ℕ) → Rule → RunFault → Type 0
+IsNoPlanOfInput bytes table rule fault = ((structure_limit < length bytes) × (fault ≡ faults.TooLong StructureInput))
+    ⊎ ((length bytes ≤ structure_limit) × IsNoPlan bytes table rule fault)
+
+-- the cave of the bytes, with its outline
+abbrev pub Tells : List ℕ → Option (List ℕ) → Rule → Option ℕ → Cave → List ℕ → Bool → List Plan → Type 0
+Tells bytes table rule turns cave text stopped plans = IsCaveOfBytes bytes table rule cave × IsOutlineOf cave turns text stopped plans

@@ -1,0 +1,82 @@
+ghost use Rattle.std.specs.Prelude.{◌≡◌, ◌≢◌, IfOk, IfErr, IfSome, OnOk, option_copied, string_bytes};
+ghost use Rattle.std.specs.Io.KnownBytes.{Keeps};
+ghost use Rattle.cave_model.specs.RuleOf.{rule_of};
+ghost use Rattle.cave_runs.specs.DarkText.{IsDarkText};
+ghost use Rattle.cave_runs.specs.Limits.{structure_limit};
+ghost use Rattle.cave_runs.specs.Reading.{GivesAtMost};
+ghost use Rattle.cave_runs.specs.Runs.{BeginsDark, IsDarkTextOf, IsFaultOfBytes, IsFaultOfInput, IsOfInput};
+ghost use Rattle.cave_runs.specs.Runs.{IsRefusal, IsRefusedRun, WritesDark};
+ghost use Rattle.cave_runs.specs.declared.fault.RunFault.{RunFault};
+
+use crate::fault::{Input, RunFault};
+use crate::limits::STRUCTURE_LIMIT;
+use crate::reading::read_all;
+use crate::text::dark_text;
+use crate::writing::put_all;
+use cave_model::{Rule, World, read_cave};
+use light_flood::{dark_cells, light};
+use std::alloc::{AllocError, Global};
+use std::io::{Read, Write};
+
+/// The text of the dark cells of a world.
+fn world_text(alloc: Global, world: &World) -> Result<String, AllocError>
+    ensures { IfOk result (λ s. IsDarkText world.now (string_bytes s)) }
+{
+    let levels = light(alloc, world)?;
+    let cells = dark_cells(alloc, world, &levels)?;
+    dark_text(alloc, world.size(), &cells)
+}
+
+/// The text of the dark cells of the cave that the bytes tell. A fault of the structure goes before one of the table,
+/// and that before an unknown block.
+fn text_of(
+    alloc: Global,
+    bytes: &[u8],
+    table: Option<&[u8]>,
+    rule: Rule,
+) -> Result<String, RunFault>
+    ensures done { IfOk result (λ s.
+        IsDarkTextOf bytes.now (option_copied table.entry) (rule_of rule) (string_bytes s)) }
+    ensures fault { IfErr result (λ e. e ≢ RunFault.OutOfMemory
+        → IsFaultOfBytes bytes.now (option_copied table.entry) e) }
+    ensures refused { (e : RunFault) → IsFaultOfBytes bytes.now (option_copied table.entry) e → IsRefusal result e }
+{
+    let world = read_cave(alloc, bytes, table, rule)?;
+    let text = world_text(alloc, &world)?;
+    Ok(text)
+}
+
+/// Reads a structure to the end of the reader, and writes the text of its dark cells: `dark m`, and `x y z` of each
+/// on a line of its own, in the order of their numbers. All is read before it is judged, and the whole text is made
+/// before its first byte is written. The rows are those of the user's table, where there is one, before the shipped
+/// ones.
+pub fn run_dark<R: Read, W: Write>(
+    alloc: Global,
+    reader: &mut R,
+    table: Option<&[u8]>,
+    rule: Rule,
+    writer: &mut W,
+) -> Result<(), RunFault>
+    // What was written is the text of the bytes that were read.
+    ensures done { OnOk result (IfSome (R.remaining reader.old) (λ bytes.
+        WritesDark bytes (option_copied table.entry) (rule_of rule) (W.contents writer.old) (W.contents writer.new))) }
+    // A refused input leaves the writer as it was.
+    ensures untouched { IfErr result (λ e. e ≢ RunFault.WriteFailed
+        → Keeps (W.contents writer.old) (W.contents writer.new)) }
+    // A failed write leaves a beginning of the text.
+    ensures begun { IfErr result (λ e. e ≡ RunFault.WriteFailed → IfSome (R.remaining reader.old) (λ bytes.
+        BeginsDark bytes (option_copied table.entry) (rule_of rule) (W.contents writer.old) (W.contents writer.new))) }
+    // A fault of the input is the one that the definitions name.
+    ensures fault { IfErr result (λ e. IsOfInput e
+        → IfSome (R.remaining reader.old) (λ bytes. IsFaultOfInput bytes (option_copied table.entry) e)) }
+    // Such a fault is answered, unless a read failed.
+    ensures refused { IfSome (R.remaining reader.old) (λ bytes.
+        (e : RunFault) → IsFaultOfInput bytes (option_copied table.entry) e → IsRefusedRun result e) }
+    // A failed read comes before more than the limit was read.
+    ensures before { IfErr result (λ e. e ≡ RunFault.ReadFailed
+        → GivesAtMost structure_limit (R.remaining reader.old) (R.remaining reader.new)) }
+{
+    let bytes = read_all(alloc, reader, STRUCTURE_LIMIT, Input::StructureInput)?;
+    let text = text_of(alloc, &bytes, table, rule)?;
+    put_all(writer, text.as_bytes())
+}

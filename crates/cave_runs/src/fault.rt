@@ -1,0 +1,89 @@
+ghost use Rattle.std.specs.Prelude.{◌≡◌};
+ghost use Rattle.cave_runs.specs.Faults.{of_cave, of_write};
+ghost use Rattle.cave_runs.specs.declared.fault.RunFault.TheVariants.{OutOfMemory};
+
+use block_rows::RowsFault;
+use cave_model::{BuildFault, CaveFault};
+use proof_tree::WriteFault;
+use scan_core::ScanFault;
+use std::alloc::AllocError;
+use std::fmt;
+use thiserror::Error;
+
+/// An input of a run.
+#[derive(Clone, Copy, Debug, PartialEq, Eq)]
+pub enum Input {
+    StructureInput,
+    TableInput,
+    ProofInput,
+}
+
+/// Why a run was refused. Its text is the fault line without `torchplan: ` in front.
+#[derive(Debug, Drop, Error)]
+pub enum RunFault {
+    #[error("cannot read")]
+    ReadFailed,
+    #[error("{0}: file too long")]
+    TooLong(Input),
+    #[error("cannot write")]
+    WriteFailed,
+    #[error("{0}")]
+    Scan(ScanFault),
+    #[error("{0}")]
+    Table(RowsFault),
+    #[error("{0}")]
+    Build(BuildFault),
+    #[error("unlightable {x} {y} {z}")]
+    Unlightable { x: u32, y: u32, z: u32 },
+    #[error("no thread")]
+    NoThread,
+    #[error("out of memory")]
+    OutOfMemory,
+}
+
+impl fmt::Display for Input {
+    ghost use Rattle.std.specs.Prelude.{Some};
+    ghost use Rattle.cave_runs.specs.Texts.{input_text};
+
+    ghost output = { λ input. Some (input_text input) };
+
+    fn fmt<W: fmt::Write>(&self, f: &mut fmt::Formatter<W>) -> fmt::Result {
+        f.write_str(match *self {
+            Input::StructureInput => "structure",
+            Input::TableInput => "table",
+            Input::ProofInput => "proof",
+        })
+    }
+}
+
+impl From<CaveFault> for RunFault {
+    ghost from_gives = { λ e r. r ≡ of_cave e };
+
+    fn from(fault: CaveFault) -> RunFault {
+        match fault {
+            CaveFault::Scan(fault) => RunFault::Scan(fault),
+            CaveFault::Table(fault) => RunFault::Table(fault),
+            CaveFault::Build(fault) => RunFault::Build(fault),
+            CaveFault::OutOfMemory => RunFault::OutOfMemory,
+        }
+    }
+}
+
+impl From<WriteFault> for RunFault {
+    ghost from_gives = { λ e r. r ≡ of_write e };
+
+    fn from(fault: WriteFault) -> RunFault {
+        match fault {
+            WriteFault::WriteFailed => RunFault::WriteFailed,
+            WriteFault::OutOfMemory => RunFault::OutOfMemory,
+        }
+    }
+}
+
+impl From<AllocError> for RunFault {
+    ghost from_gives = { λ _ r. r ≡ OutOfMemory };
+
+    fn from(_e: AllocError) -> RunFault {
+        RunFault::OutOfMemory
+    }
+}

@@ -1,0 +1,154 @@
+//! The plan of a structure, from the bytes read to the bytes written.
+ghost use Rattle.std.specs.Prelude.{◌≡◌, ◌≢◌, IfOk, IfErr, IfSome, OnOk, option_copied, string_bytes};
+ghost use Rattle.cave_model.specs.RuleOf.{rule_of};
+ghost use Rattle.cave_plan.specs.Outline.{IsOutlineOf, IsPlanned};
+ghost use Rattle.proof_tree.specs.PlanOf.{plans_of};
+ghost use Rattle.cave_runs.specs.Limits.{structure_limit};
+ghost use Rattle.cave_runs.specs.PlanRuns.{EndsIn, IsNoPlan, IsNoPlanOfInput, IsUnlit, Leaves};
+ghost use Rattle.cave_runs.specs.PlanRuns.{LeavesIn, LeavesProved, Plans, Tells, WritesBest};
+ghost use Rattle.cave_runs.specs.Reading.{GivesAtMost};
+ghost use Rattle.cave_runs.specs.Runs.{IsOfInput, IsRefusal, IsRefusedRun};
+ghost use Rattle.cave_runs.specs.declared.fault.RunFault.{RunFault};
+
+use crate::fault::{Input, RunFault};
+use crate::limits::STRUCTURE_LIMIT;
+use crate::reading::read_all;
+use crate::writing::put_all;
+use cave_model::{Rule, World, read_cave};
+use cave_plan::{Outline, plan_cave};
+use cover_rows::CoverFault;
+use proof_tree::write_certificate;
+use scan_core::coordinates;
+use std::alloc::Global;
+use std::io::{Read, Write};
+
+/// What a plan is made by: the rule of spawning, and how many nodes the search of a region may work on.
+#[derive(Clone, Copy, Debug, PartialEq, Eq)]
+pub struct PlanOpts {
+    pub rule: Rule,
+    pub turns: Option<u64>,
+}
+
+/// How a plan ended.
+#[derive(Clone, Copy, Debug, PartialEq, Eq)]
+pub enum Outcome {
+    /// The torches are the fewest.
+    Done,
+    /// The turns of a region were spent before.
+    Stopped,
+}
+
+/// The plan of a world; a dark cell that no place lights is told by its coordinates.
+fn outline_of(alloc: Global, world: &World, turns: Option<u64>) -> Result<Outline, RunFault>
+    ensures found { IfOk result (λ o.
+        IsOutlineOf world.now turns (string_bytes o.text) o.stopped (plans_of o.parts.items)) }
+    ensures fault { IfErr result (λ e. e ≢ RunFault.OutOfMemory → IsUnlit world.now e) }
+    ensures refused { (e : RunFault) → IsUnlit world.now e → IsRefusal result e }
+{
+    match plan_cave(alloc, world, turns) {
+        Ok(outline) => Ok(outline),
+        Err(CoverFault::OutOfMemory) => Err(RunFault::OutOfMemory),
+        Err(CoverFault::Unlightable { cell }) => {
+            let [x, y, z] = coordinates(world.size(), cell);
+            Err(RunFault::Unlightable { x, y, z })
+        }
+    }
+}
+
+/// The cave that the bytes tell, with its plan.
+fn planned(
+    alloc: Global,
+    bytes: &[u8],
+    table: Option<&[u8]>,
+    opts: &PlanOpts,
+) -> Result<(World, Outline), RunFault>
+    ensures found { IfOk result (λ p. Tells bytes.now (option_copied table.entry) (rule_of opts.now.rule)
+        opts.now.turns p.0 (string_bytes p.1.text) p.1.stopped (plans_of p.1.parts.items)) }
+    ensures fault { IfErr result (λ e. e ≢ RunFault.OutOfMemory
+        → IsNoPlan bytes.now (option_copied table.entry) (rule_of opts.now.rule) e) }
+    ensures refused { (e : RunFault) → IsNoPlan bytes.now (option_copied table.entry) (rule_of opts.now.rule) e
+        → IsRefusal result e }
+{
+    let world = read_cave(alloc, bytes, table, opts.rule)?;
+    let outline = outline_of(alloc, &world, opts.turns)?;
+    Ok((world, outline))
+}
+
+/// Writes the certificate of planned regions, and then the text of the plan.
+fn put_proved<W: Write, V: Write>(
+    alloc: Global,
+    world: &World,
+    outline: &Outline,
+    writer: &mut W,
+    proof: &mut V,
+) -> Result<(), RunFault>
+    requires { IsPlanned world.now (string_bytes outline.now.text) (plans_of outline.now.parts.items) }
+    ensures done { OnOk result (WritesBest world.now (W.contents writer.old) (W.contents writer.new)
+        (V.contents proof.old) (V.contents proof.new)) }
+    ensures left { IfErr result (λ e. LeavesProved e world.now
+        (W.contents writer.old) (W.contents writer.new) (V.contents proof.old) (V.contents proof.new)) }
+{
+    write_certificate(alloc, proof, world, &outline.parts)?;
+    put_all(writer, outline.text.as_bytes())
+}
+
+/// Writes the text of a plan, and before it the certificate, where the search came to its end.
+fn put_plan<W: Write, V: Write>(
+    alloc: Global,
+    world: &World,
+    outline: &Outline,
+    turns: Option<u64>,
+    writer: &mut W,
+    proof: &mut V,
+) -> Result<Outcome, RunFault>
+    requires { IsOutlineOf world.now turns (string_bytes outline.now.text) outline.now.stopped
+        (plans_of outline.now.parts.items) }
+    ensures done { IfOk result (λ outcome. EndsIn outcome world.now turns
+        (W.contents writer.old) (W.contents writer.new) (V.contents proof.old) (V.contents proof.new)) }
+    ensures left { IfErr result (λ e. LeavesIn e world.now turns
+        (W.contents writer.old) (W.contents writer.new) (V.contents proof.old) (V.contents proof.new)) }
+{
+    if outline.stopped {
+        put_all(writer, outline.text.as_bytes())?;
+        return Ok(Outcome::Stopped);
+    }
+    put_proved(alloc, world, outline, writer, proof)?;
+    Ok(Outcome::Done)
+}
+
+/// Reads a structure to the end of the reader, plans the fewest torches that leave none of its cells dark, and writes
+/// the proof's certificate to `proof` and the plan's text to `writer`. All is read before it is judged, all regions are
+/// planned before a byte is written, and the whole text of the plan is made before its first byte is. The rows are
+/// those of the user's table, where there is one, before the shipped ones. Where the turns of a region were spent, the
+/// text says how few torches there might be, and no certificate is written.
+pub fn run_plan<R: Read, W: Write, V: Write>(
+    alloc: Global,
+    reader: &mut R,
+    table: Option<&[u8]>,
+    opts: &PlanOpts,
+    writer: &mut W,
+    proof: &mut V,
+) -> Result<Outcome, RunFault>
+    // The fewest torches of the cave that the bytes tell, and their proof; or, where turns were limited, safe torches
+    // and a number that no safe ones are fewer than.
+    ensures done { IfOk result (λ outcome. IfSome (R.remaining reader.old) (λ bytes.
+        Plans bytes (option_copied table.entry) (rule_of opts.now.rule) opts.now.turns outcome
+        (W.contents writer.old) (W.contents writer.new) (V.contents proof.old) (V.contents proof.new))) }
+    // A refused input leaves both writers as they were.
+    ensures left { IfErr result (λ e. Leaves e (R.remaining reader.old) (option_copied table.entry)
+        (rule_of opts.now.rule) opts.now.turns
+        (W.contents writer.old) (W.contents writer.new) (V.contents proof.old) (V.contents proof.new)) }
+    // A fault of the input is the one that the definitions name.
+    ensures fault { IfErr result (λ e. IsOfInput e → IfSome (R.remaining reader.old) (λ bytes.
+        IsNoPlanOfInput bytes (option_copied table.entry) (rule_of opts.now.rule) e)) }
+    // Such a fault is answered, unless a read failed.
+    ensures refused { IfSome (R.remaining reader.old) (λ bytes. (e : RunFault)
+        → IsNoPlanOfInput bytes (option_copied table.entry) (rule_of opts.now.rule) e → IsRefusedRun result e) }
+    // A failed read comes before more than the limit was read.
+    ensures before { IfErr result (λ e. e ≡ RunFault.ReadFailed
+        → GivesAtMost structure_limit (R.remaining reader.old) (R.remaining reader.new)) }
+{
+    let bytes = read_all(alloc, reader, STRUCTURE_LIMIT, Input::StructureInput)?;
+    let (world, outline) = planned(alloc, &bytes, table, opts)?;
+    put_plan(alloc, &world, &outline, opts.turns, writer, proof)
+}

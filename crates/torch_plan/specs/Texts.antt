@@ -1,9 +1,0 @@
--- What is printed of an input in front of its fault. The words are this project's own.
-use Rattle.std.specs.Prelude.{ℕ, List, codes}
-use Rattle.torch_plan.specs.declared.fault.Input.{Input}
-use Rattle.torch_plan.specs.declared.fault.Input.TheVariants.{StructureInput, TableInput, ProofInput}
-
-abbrev pub input_text : Input → List ℕ
-input_text StructureInput = codes "structure"
-input_text TableInput = codes "table"
-input_text ProofInput = codes "proof"
