@@ -50,5 +50,13 @@ def cavern(seed, size):
     return cells
 
 
+def floors(size):
+    """Floors of stone, each with two layers of air over it, as many as the box holds: the most dark cells and places
+    that a box of 16 layers has."""
+    x_side, y_side, z_side = size
+    layers = [y for y in range(y_side) if y % 3 != 0 and y + y % 3 < y_side + 1]
+    return {(x, y, z): AIR for y in layers for z in range(z_side) for x in range(x_side)}
+
+
 def file_of(cells, size):
     return structure(size, lambda x, y, z: cells.get((x, y, z), STONE))

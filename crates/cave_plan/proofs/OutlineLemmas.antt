@@ -3,7 +3,10 @@ use Rattle.std.proofs.Common.{◌≡◌, ℕ, ◌<◌, ◌≤◌, Bool, true, fa
 use Rattle.std.specs.Prelude.{flat_map, IsSome}
 use Rattle.std.proofs.lemmas.List.Elements.{All-head, All-tail, All-cons, All-nil, Contains-append_cases, Contains-append_left, Contains-append_right}
 use Rattle.scan_core.specs.Box.{cell_count}
-use Rattle.cave_model.specs.Cave.{Cave, IsWorld}
+use Rattle.cave_model.specs.Cave.{Cave, IsSound, IsWorld}
+use Rattle.cave_model.specs.Plan.{Torch, IsSafe}
+use Rattle.cave_model.proofs.TorchLemmas.{safe_covers}
+use Rattle.cover_rows.specs.Coverage.{IsUnlightable}
 use Rattle.cave_model.specs.Coverage.{of_cave, Agrees}
 use Rattle.cave_model.specs.Listing.{Lists}
 use Rattle.cave_model.specs.Regions.{AreRegions}
@@ -17,7 +20,7 @@ use Rattle.proof_tree.specs.Planned.{Plan, section_of, IsBestOf, AreBestOf}
 use Rattle.proof_tree.proofs.OrderLemmas.{has_ordered, ordered_has}
 use Rattle.plan_laws.specs.Best.{AreTorchesOf}
 use Rattle.plan_laws.specs.Bounded.{Bounded, IsBoundedIn, AreBoundedIn, AreInOrder, IsPlanWithin, all_torches, total_floor}
-use Rattle.plan_laws.proofs.PartLemmas.{torches_are, are_apart, plan_within}
+use Rattle.plan_laws.proofs.PartLemmas.{torches_are, are_apart, plan_within, legal_places}
 use Rattle.plan_laws.proofs.AcceptedLemmas.{fewest, place_inside}
 use Rattle.cave_plan.specs.Course.{Course, IsBounded, IsProved, AreProved, IsCourse, floor_if}
 use Rattle.cave_plan.specs.Outline.{AreRegionsIn, IsPlanned, IsStoppedAt, IsOutlineOf, Prints}
@@ -122,3 +125,11 @@ module _ (cave : Cave) (turns : Option ℕ) (regions : List Instance) (c : Cours
   pub outlines : (stopped : Bool) (text : List ℕ) → c.stopped ≡ stopped → Prints cave cells (floor_if stopped c.floor) text → IsOutlineOf cave turns text stopped c.plans
   outlines true text e prints = stopped_at text e prints
   outlines false text e prints = planned_to_end text e prints
+
+-- ---- no plan
+
+pub none_safe : (cave : Cave) (cell : ℕ) (torches : List Torch) → IsSound cave → IsUnlightable cave cell → IsSafe cave torches → ⊥
+none_safe cave cell torches sound is safe =
+    let cover = safe_covers cave torches sound safe in
+    let by = cover.covered cell is.dark in
+    is.alone by.0 (legal_places cave torches cover.legal by.0 by.1) by.2

@@ -3,6 +3,7 @@
 
 mod course;
 mod drawing;
+pub mod laws;
 mod outline;
 
 pub use drawing::plan_text;

@@ -1,2 +1,3 @@
 pub mod RunLemmas
 pub mod PlanRunLemmas
+pub mod CheckRunLemmas

@@ -3,8 +3,11 @@ use Rattle.cave_model.specs.declared.cave_fault.CaveFault.{CaveFault}
 use Rattle.cave_model.specs.declared.cave_fault.CaveFault.TheVariants as cave
 use Rattle.proof_tree.specs.declared.fault.WriteFault.{WriteFault}
 use Rattle.proof_tree.specs.declared.fault.WriteFault.TheVariants as writing
+use Rattle.proof_check.specs.declared.fault.CheckFault.{CheckFault}
+use Rattle.proof_check.specs.declared.fault.CheckFault.TheVariants as check
+use Rattle.cave_runs.specs.declared.fault.Input.TheVariants.{ProofInput}
 use Rattle.cave_runs.specs.declared.fault.RunFault.{RunFault}
-use Rattle.cave_runs.specs.declared.fault.RunFault.TheVariants.{WriteFailed, Scan, Table, Build, OutOfMemory}
+use Rattle.cave_runs.specs.declared.fault.RunFault.TheVariants.{ReadFailed, TooLong, WriteFailed, Scan, Table, Build, OutOfMemory}
 
 abbrev pub of_cave : CaveFault → RunFault
 of_cave (cave.Scan fault) = Scan fault
@@ -15,3 +18,11 @@ of_cave cave.OutOfMemory = OutOfMemory
 abbrev pub of_write : WriteFault → RunFault
 of_write writing.WriteFailed = WriteFailed
 of_write writing.OutOfMemory = OutOfMemory
+
+abbrev pub of_check : CheckFault → RunFault
+of_check (check.Scan fault) = Scan fault
+of_check (check.Table fault) = Table fault
+of_check (check.Build fault) = Build fault
+of_check check.ReadFailed = ReadFailed
+of_check check.TooLong = TooLong ProofInput
+of_check check.OutOfMemory = OutOfMemory

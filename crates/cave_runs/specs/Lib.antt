@@ -5,4 +5,5 @@ pub mod Reading
 pub mod Faults
 pub mod Runs
 pub mod PlanRuns
+pub mod CheckRuns
 pub mod Texts

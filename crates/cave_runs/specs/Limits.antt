@@ -8,3 +8,7 @@ structure_limit = 67108864
 -- a user's table has at most so many bytes
 abbrev pub table_limit : ℕ
 table_limit = 1048576
+
+-- a certificate has at most so many bytes
+abbrev pub proof_limit : ℕ
+proof_limit = 1073741824

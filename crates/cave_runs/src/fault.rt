@@ -1,9 +1,10 @@
 ghost use Rattle.std.specs.Prelude.{◌≡◌};
-ghost use Rattle.cave_runs.specs.Faults.{of_cave, of_write};
+ghost use Rattle.cave_runs.specs.Faults.{of_cave, of_check, of_write};
 ghost use Rattle.cave_runs.specs.declared.fault.RunFault.TheVariants.{OutOfMemory};
 
 use block_rows::RowsFault;
 use cave_model::{BuildFault, CaveFault};
+use proof_check::CheckFault;
 use proof_tree::WriteFault;
 use scan_core::ScanFault;
 use std::alloc::AllocError;
@@ -65,6 +66,21 @@ impl From<CaveFault> for RunFault {
             CaveFault::Table(fault) => RunFault::Table(fault),
             CaveFault::Build(fault) => RunFault::Build(fault),
             CaveFault::OutOfMemory => RunFault::OutOfMemory,
+        }
+    }
+}
+
+impl From<CheckFault> for RunFault {
+    ghost from_gives = { λ e r. r ≡ of_check e };
+
+    fn from(fault: CheckFault) -> RunFault {
+        match fault {
+            CheckFault::Scan(fault) => RunFault::Scan(fault),
+            CheckFault::Table(fault) => RunFault::Table(fault),
+            CheckFault::Build(fault) => RunFault::Build(fault),
+            CheckFault::ReadFailed => RunFault::ReadFailed,
+            CheckFault::TooLong => RunFault::TooLong(Input::ProofInput),
+            CheckFault::OutOfMemory => RunFault::OutOfMemory,
         }
     }
 }

@@ -1,6 +1,7 @@
 //! The runs of torchplan, from bytes read to bytes written.
 #![tactic(auto)]
 
+mod check;
 mod dark;
 mod fault;
 mod limits;
@@ -10,8 +11,10 @@ mod text;
 mod unkept;
 mod writing;
 
+pub use check::run_check;
 pub use dark::run_dark;
 pub use fault::{Input, RunFault};
 pub use plan::{Outcome, PlanOpts, run_plan};
+pub use proof_check::Verdict;
 pub use reading::read_table;
 pub use unkept::Unkept;

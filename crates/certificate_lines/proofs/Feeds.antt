@@ -1,5 +1,5 @@
 -- Line feeds: where lines are cut, and that no line of a certificate has one.
-use Rattle.std.proofs.Common.{◌≡◌, ◌≢◌, ℕ, zero, suc, ◌+◌, ◌<◌, inl, inr, List, [], ◌∷◌, ◌++◌, length, take, drop, get_or, All, refl, sym, subst, ap, arith, append_assoc, add-one, ◌∙◌}
+use Rattle.std.proofs.Common.{◌≡◌, ◌≢◌, ℕ, zero, suc, ◌+◌, ◌<◌, ◌≤◌, inl, inr, List, [], ◌∷◌, ◌++◌, length, take, drop, get_or, All, refl, sym, subst, ap, arith, append_assoc, add-one, ◌∙◌}
 use Rattle.std.specs.Prelude.{Bool, true, not, codes, decimal, nat_eq, ◌&&◌}
 use Rattle.std.proofs.lemmas.Bool.{eq-eqb}
 use Rattle.std.proofs.lemmas.List.Elements.{All-head, All-tail}
@@ -107,3 +107,9 @@ same_front (a ∷ before) (b ∷ lines) rest n m e =
     let c0 = c.0 in
     let r1 = r.1 in
     (r.0, cc, r.2)
+
+-- a text without a line feed is no longer than the line that it begins
+pub clean_length : (front line after later : List ℕ) → HasNoFeed front → front ++ after ≡ line ++ 10 ∷ later → length front ≤ length line
+clean_length [] line after later n e = omega arith
+clean_length (b ∷ front) [] after later n e = absurd (n.0 cc)
+clean_length (b ∷ front) (c ∷ line) after later n e = (let r = clean_length front line after later n.1 cc in omega arith)

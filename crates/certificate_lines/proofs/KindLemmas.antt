@@ -110,7 +110,7 @@ kind_small (stage.Region second count to_come) text i = a_region_small second co
 kind_small (stage.Dark second count to_come n t) text i = dark_small second count to_come n t i.0
 kind_small (stage.Torches second count to_come t) text i = torches_small second count to_come t i.0
 kind_small (stage.Node second count to_come pending) text i = node_small second count to_come pending (node_kind (get_or text 0 0)) i.0
-kind_small stage.Done text i = record { each = λ ns next m. absurd m }
+kind_small stage.Done text i = record { each = λ ns next m. absurd m; few = λ ns next m. absurd m }
 
 pub line_fits : (s : Stage) (k : Kind) (text numbers : List ℕ) (r : Option Stage) → IsSound s → k ≡ kind_at s text → IsLineOf text (word_of k) numbers → Decides r (MeansAt s k numbers) → Decides r (Takes s text)
 line_fits s k text numbers r sound is l h =

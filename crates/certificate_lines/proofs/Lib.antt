@@ -6,6 +6,7 @@ pub mod Digits
 pub mod Reading
 pub mod Words
 pub mod Lift
+pub mod Lengths
 pub mod Walk
 pub mod Feeds
 pub mod Misfit

@@ -6,7 +6,7 @@ use Rattle.std.proofs.lemmas.Bool.{leb-true}
 use Rattle.scan_core.specs.Box.{cell_count}
 use Rattle.proof_rules.specs.Text.{line}
 use Rattle.proof_rules.specs.Certificate.{AreListed}
-use Rattle.certificate_lines.specs.Numbers.{IsSmall}
+use Rattle.certificate_lines.specs.Numbers.{IsSmall, most_numbers}
 use Rattle.certificate_lines.specs.Decides.{IsLineOf, IsNoLineOf, IsNone, Decides}
 use Rattle.certificate_lines.specs.Steps.{Says, StartMeans, BoxMeans, HeadroomMeans, NeedMeans, RegionsMeans, EndMeans, RegionMeans, DarkMeans, TorchesMeans, LeafMeans, BranchMeans, BarMeans}
 use Rattle.certificate_lines.proofs.Complete.{listed_few}
@@ -14,6 +14,7 @@ use Rattle.certificate_lines.specs.declared.stage.Stage.{Stage}
 
 pub record AreSmall (Means : List ℕ → Stage → Type 0) : Type 0 where
   pub each : (numbers : List ℕ) (next : Stage) → Means numbers next → All IsSmall numbers
+  pub few : (numbers : List ℕ) (next : Stage) → Means numbers next → length numbers ≤ most_numbers
 
 pub lift : (word text numbers : List ℕ) (Means : List ℕ → Stage → Type 0) (r : Option Stage) → AreSmall Means → IsLineOf text word numbers → Decides r (Means numbers) → Decides r (Says word Means text)
 lift word text numbers Means None small l h = record { none = λ other s. h.none other (subst (λ (ns : List ℕ). Means ns other) (l.only s.0 (small.each s.0 other s.2) s.1) s.2) }
@@ -23,7 +24,7 @@ lift word text numbers Means (Some next) small l h = record {
 }
 
 pub lift_none : (word text : List ℕ) (Means : List ℕ → Stage → Type 0) → AreSmall Means → IsNoLineOf text word → IsNone (Says word Means text)
-lift_none word text Means small l = record { none = λ other s. l.none s.0 (small.each s.0 other s.2) s.1 }
+lift_none word text Means small l = record { none = λ other s. l.none s.0 (small.each s.0 other s.2) (small.few s.0 other s.2) s.1 }
 
 pub pick_left : (P Q : Stage → Type 0) (r : Option Stage) → ((s : Stage) → Q s → ⊥) → Decides r P → Decides r (λ s. P s ⊎ Q s)
 pick_left P Q None no_other h = record {
@@ -75,6 +76,10 @@ start_small = record {
     | inl h ↦ one_small 1 ns h.0 (omega arith)
     | inr h ↦ one_small 2 ns h.0 (omega arith)
   ];
+  few = λ ns s m. elim m [
+    | inl h ↦ omega (arith, ap length h.0)
+    | inr h ↦ omega (arith, ap length h.0)
+  ];
 }
 
 pub and_both : (b c : Bool) → IsTrue (b && c) → IsTrue b × IsTrue c
@@ -89,13 +94,17 @@ sides x y z n h =
     (leb-true x 128 c.0, leb-true y 128 c.1, leb-true z 128 b.1)
 
 pub box_small : (second : Bool) → AreSmall (BoxMeans second)
-box_small second = record { each = λ ns s m. let h = sides m.0.x m.0.y m.0.z (cell_count m.0) m.2 in three_small m.0.x m.0.y m.0.z ns m.1 (omega (arith, h.0)) (omega (arith, h.1)) (omega (arith, h.2)) }
+box_small second = record { each = λ ns s m. let h = sides m.0.x m.0.y m.0.z (cell_count m.0) m.2 in three_small m.0.x m.0.y m.0.z ns m.1 (omega (arith, h.0)) (omega (arith, h.1)) (omega (arith, h.2)); few = λ ns s m. omega (arith, ap length m.1) }
 
 pub headroom_small : (second : Bool) (count : ℕ) → AreSmall (HeadroomMeans second count)
 headroom_small second count = record {
   each = λ ns s m. elim (m.0) [
     | inl h ↦ one_small 1 ns h (omega arith)
     | inr h ↦ one_small 2 ns h (omega arith)
+  ];
+  few = λ ns s m. elim (m.0) [
+    | inl h ↦ omega (arith, ap length h)
+    | inr h ↦ omega (arith, ap length h)
   ];
 }
 
@@ -105,31 +114,35 @@ need_small count = record {
     | inl h ↦ one_small 1 ns h (omega arith)
     | inr h ↦ one_small 8 ns h (omega arith)
   ];
+  few = λ ns s m. elim (m.0) [
+    | inl h ↦ omega (arith, ap length h)
+    | inr h ↦ omega (arith, ap length h)
+  ];
 }
 
 pub regions_small : (second : Bool) (count : ℕ) → count ≤ 262144 → AreSmall (RegionsMeans second count)
-regions_small second count few = record { each = λ ns s m. one_small m.0 ns m.1 (omega (arith, m.2)) }
+regions_small second count few = record { each = λ ns s m. one_small m.0 ns m.1 (omega (arith, m.2)); few = λ ns s m. omega (arith, ap length m.1) }
 
 pub end_small : (to_come : ℕ) → AreSmall (EndMeans to_come)
-end_small to_come = record { each = λ ns s m. subst (All IsSmall) (sym m.1) (All-nil IsSmall) }
+end_small to_come = record { each = λ ns s m. subst (All IsSmall) (sym m.1) (All-nil IsSmall); few = λ ns s m. omega (arith, ap length m.1) }
 
 pub region_small : (second : Bool) (count to_come : ℕ) → count ≤ 262144 → AreSmall (RegionMeans second count to_come)
-region_small second count to_come few = record { each = λ ns s m. two_small m.1 m.2 ns m.4 (omega (arith, m.6)) (omega (arith, m.8)) }
+region_small second count to_come few = record { each = λ ns s m. two_small m.1 m.2 ns m.4 (omega (arith, m.6)) (omega (arith, m.8)); few = λ ns s m. omega (arith, ap length m.4) }
 
 pub dark_small : (second : Bool) (count to_come n t : ℕ) → count ≤ 262144 → AreSmall (DarkMeans second count to_come n t)
-dark_small second count to_come n t few = record { each = λ ns s m. listed_small count ns few m.0 }
+dark_small second count to_come n t few = record { each = λ ns s m. listed_small count ns few m.0; few = λ ns s m. omega (arith, listed_few count ns m.0) }
 
 pub torches_small : (second : Bool) (count to_come t : ℕ) → count ≤ 262144 → AreSmall (TorchesMeans second count to_come t)
-torches_small second count to_come t few = record { each = λ ns s m. listed_small count ns few m.0 }
+torches_small second count to_come t few = record { each = λ ns s m. listed_small count ns few m.0; few = λ ns s m. omega (arith, listed_few count ns m.0) }
 
 pub leaf_small : (second : Bool) (count to_come pending : ℕ) → count ≤ 262144 → AreSmall (LeafMeans second count to_come pending)
-leaf_small second count to_come pending few = record { each = λ ns s m. subst (All IsSmall) (sym m.3) (All-cons IsSmall (length m.1) m.1 (omega (arith, listed_few count m.1 m.4)) (listed_small count m.1 few m.4)) }
+leaf_small second count to_come pending few = record { each = λ ns s m. subst (All IsSmall) (sym m.3) (All-cons IsSmall (length m.1) m.1 (omega (arith, listed_few count m.1 m.4)) (listed_small count m.1 few m.4)); few = λ ns s m. omega (arith, ap length m.3, listed_few count m.1 m.4) }
 
 pub branch_small : (second : Bool) (count to_come pending : ℕ) → count ≤ 262144 → AreSmall (BranchMeans second count to_come pending)
-branch_small second count to_come pending few = record { each = λ ns s m. two_small m.1 m.2 ns m.4 (omega (arith, m.5)) (omega (arith, m.6)) }
+branch_small second count to_come pending few = record { each = λ ns s m. two_small m.1 m.2 ns m.4 (omega (arith, m.5)) (omega (arith, m.6)); few = λ ns s m. omega (arith, ap length m.4) }
 
 pub bar_small : (second : Bool) (count to_come pending : ℕ) → count ≤ 262144 → AreSmall (BarMeans second count to_come pending)
-bar_small second count to_come pending few = record { each = λ ns s m. two_small m.1 m.2 ns m.5 (omega (arith, m.6)) (omega (arith, m.7)) }
+bar_small second count to_come pending few = record { each = λ ns s m. two_small m.1 m.2 ns m.5 (omega (arith, m.6)) (omega (arith, m.7)); few = λ ns s m. omega (arith, ap length m.5) }
 
 -- ---- the two lines that may come where a region may, and the three where a node does
 
@@ -193,3 +206,10 @@ nothing (Some k) A B e h = absurd cc
 pub something : {K : Type 0} (r : Option K) (A : Type 0) (B : K → Type 0) → is_some r ≡ true → MatchOption r A B → (k : K) × B k
 something None A B e h = absurd cc
 something (Some k) A B e h = (k, h)
+
+pub at_none : {K : Type 0} (r : Option K) (A : Type 0) (B : K → Type 0) → r ≡ None → MatchOption r A B → A
+at_none None A B e h = h
+at_none (Some k) A B e h = absurd cc
+
+pub at_some : {K : Type 0} (r : Option K) (k : K) (A : Type 0) (B : K → Type 0) → r ≡ Some k → MatchOption r A B → B k
+at_some {K} r k A B e h = subst (λ (o : Option K). MatchOption o A B) e h

@@ -1,7 +1,7 @@
 -- What a test of a line answers: the one stage that comes next, or that there is none.
-use Rattle.std.specs.Prelude.{◌≡◌, ℕ, List, [], ◌∷◌, ◌++◌, All, Option, MatchOption}
+use Rattle.std.specs.Prelude.{◌≡◌, ◌≤◌, ℕ, List, [], ◌∷◌, ◌++◌, length, All, Option, MatchOption}
 use Rattle.proof_rules.specs.Text.{line}
-use Rattle.certificate_lines.specs.Numbers.{IsSmall}
+use Rattle.certificate_lines.specs.Numbers.{IsSmall, most_numbers}
 use Rattle.certificate_lines.specs.declared.stage.Stage.{Stage}
 
 pub record IsJust (P : Stage → Type 0) (next : Stage) : Type 0 where
@@ -21,7 +21,7 @@ pub record IsLineOf (text word numbers : List ℕ) : Type 0 where
   pub only : (others : List ℕ) → All IsSmall others → text ≡ line word others → others ≡ numbers
 
 pub record IsNoLineOf (text word : List ℕ) : Type 0 where
-  pub none : (numbers : List ℕ) → All IsSmall numbers → text ≡ line word numbers → ⊥
+  pub none : (numbers : List ℕ) → All IsSmall numbers → length numbers ≤ most_numbers → text ≡ line word numbers → ⊥
 
 pub record HasNoFront (text word : List ℕ) : Type 0 where
   pub none : (rest : List ℕ) → text ≡ word ++ rest → ⊥

@@ -8,3 +8,4 @@ pub mod Cuts
 pub mod Moves
 pub mod Walked
 pub mod Held
+pub mod Keeping

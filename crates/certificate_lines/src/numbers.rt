@@ -7,6 +7,9 @@ use std::alloc::AllocError;
 /// No certificate names a greater number.
 const LIMIT: u32 = 262_144;
 
+/// No line of one has more numbers.
+const MOST_NUMBERS: usize = 262_145;
+
 /// The digit that a text begins with, and what comes after it.
 fn digit(text: &[u8]) -> Option<(u32, &[u8])>
     ensures { MatchOption result (IsCut text.now)
@@ -44,13 +47,16 @@ fn number(text: &[u8]) -> Option<(u32, &[u8])>
     Some((number, rest))
 }
 
-/// Reads the numbers of a text, each after a space, into the buffer.
+/// Reads the numbers of a text, each after a space, into the buffer; stops where there are more than a line may have.
 pub fn read_numbers(text: &[u8], numbers: &mut Vec<u32>) -> Result<bool, AllocError>
     ensures { IfOk result (λ fits. MatchBool fits (AreNumbers text.now numbers.new.items) (AreNoNumbers text.now)) }
 {
     numbers.clear();
     let mut rest = text;
     while !rest.is_empty() {
+        if numbers.len() >= MOST_NUMBERS {
+            return Ok(false);
+        }
         let Some(tail) = after_space(rest) else {
             return Ok(false);
         };

@@ -16,7 +16,7 @@ use Rattle.proof_rules.proofs.ListLemmas.{no_member, cons_cases, later, here, al
 use Rattle.proof_check.proofs.FewestLemmas.{hung, pick, length-cells}
 use Rattle.plan_laws.specs.Bounded.{Bounded, IsBoundedIn, AreBoundedIn, AreInOrder, IsPlanWithin, all_torches, total_floor}
 
-legal_places : (cave : Cave) (torches : List Torch) → AreLegal cave torches → (p : ℕ) → Contains (cells_of torches) p → IsPlace cave p
+pub legal_places : (cave : Cave) (torches : List Torch) → AreLegal cave torches → (p : ℕ) → Contains (cells_of torches) p → IsPlace cave p
 legal_places cave [] h p c = no_member p c
 legal_places cave (t ∷ ts) h p c = elim (cons_cases t.cell (cells_of ts) p c) [
   | inl e ↦ subst (IsPlace cave) e (t.hang, All-head (λ (torch : Torch). IsTrue (is_legal cave torch.cell torch.hang)) t ts h)

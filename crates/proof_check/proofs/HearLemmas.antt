@@ -21,7 +21,7 @@ use Rattle.proof_check.proofs.HomeLemmas.{stands_new}
 
 -- ---- the lists of one line more
 
-flat_push : (f : Said → List (List ℕ)) (all : List Said) (s : Said) → flat_map f (all ++ s ∷ []) ≡ flat_map f all ++ f s
+pub flat_push : (f : Said → List (List ℕ)) (all : List Said) (s : Said) → flat_map f (all ++ s ∷ []) ≡ flat_map f all ++ f s
 flat_push f [] s = append-nil (f s)
 flat_push f (t ∷ all) s = ap (λ (l : List (List ℕ)). f t ++ l) (flat_push f all s) ∙ sym (append_assoc (f t) (flat_map f all) (f s))
 

@@ -10,3 +10,12 @@ pub mod StepLemmas
 pub mod HomeLemmas
 pub mod PartLemmas
 pub mod HearLemmas
+pub mod EndLemmas
+pub mod ReasonLemmas
+pub mod StartLemmas
+pub mod SayLemmas
+pub mod ReachLemmas
+pub mod TrialLemmas
+pub mod ConcludeLemmas
+pub mod ReadingLemmas
+pub mod VerdictLemmas

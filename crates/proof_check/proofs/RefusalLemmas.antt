@@ -19,8 +19,8 @@ use Rattle.cave_model.specs.Plan.{AreDistinct}
 use Rattle.cave_model.specs.Regions.{all_cells, AreRegions}
 use Rattle.proof_check.specs.declared.reason.Reason.{Reason}
 use Rattle.proof_check.specs.declared.reason.Reason.TheVariants.{Syntax, WrongBox, IllegalPlace, LeftDark, BadRegions, BadNode, TooWeak}
-use Rattle.proof_check.specs.Accepted.{Proves}
-use Rattle.proof_check.specs.Refused.{IsListed, IsBadCell, start_line, IsReasonOf}
+use Rattle.proof_check.specs.Accepted.{Proves, AreDistinctPlaces, LeaveNoneDark}
+use Rattle.proof_check.specs.Refused.{IsListed, IsBadTorch, IsLeftDark, IsBadCell, start_line, IsReasonOf}
 use Rattle.proof_check.specs.Accepted.{AreProved}
 use Rattle.proof_check.specs.Refused.{weak_leaf, weak_leaf_of, first_weak, IsBadAt, AreBadAt, IsFirstBad}
 
@@ -141,7 +141,7 @@ twice (r ∷ rs) i zero cell lt h g d = absurd (omega arith)
 twice (r ∷ rs) zero (suc j) cell lt h g d = distinct_split r (all_cells rs) cell d h (listed rs j cell g)
 twice (r ∷ rs) (suc i) (suc j) cell lt h g d = twice rs i j cell (omega arith) h g (distinct_rest r (all_cells rs) d)
 
-which_list : (lists : List (List ℕ)) (cell : ℕ) → Contains (all_cells lists) cell → IsListed lists cell
+pub which_list : (lists : List (List ℕ)) (cell : ℕ) → Contains (all_cells lists) cell → IsListed lists cell
 which_list [] cell h = no_member cell h
 which_list (r ∷ rs) cell h = elim (Contains-append_cases r (all_cells rs) cell h) [
   | inl h ↦ (0, h)
@@ -150,10 +150,10 @@ which_list (r ∷ rs) cell h = elim (Contains-append_cases r (all_cells rs) cell
 
 -- ---- a reason shows that the certificate proves nothing
 
-first_bad : (cave : Cave) (sections : List Section) (line bad : ℕ) → IsFirstBad cave sections line bad → ¬ AreProved cave (λ section. length section.torches) sections
-first_bad cave [] line bad b g = b
-first_bad cave (s ∷ ss) line bad (inl b) g = bad_proves_none cave s.cells [] [] s.tree (line + 3) bad (length s.torches) b (All-head (λ (s : Section). Good (of_cave cave) s.cells [] [] (length s.torches) s.tree) s ss g)
-first_bad cave (s ∷ ss) line bad (inr b) g = first_bad cave ss (line + 3 + node_count s.tree) bad b.1 (All-tail (λ (s : Section). Good (of_cave cave) s.cells [] [] (length s.torches) s.tree) s ss g)
+pub first_bad : (cave : Cave) (floor : Section → ℕ) (sections : List Section) (line bad : ℕ) → IsFirstBad cave sections line bad → ¬ AreProved cave floor sections
+first_bad cave floor [] line bad b g = b
+first_bad cave floor (s ∷ ss) line bad (inl b) g = bad_proves_none cave s.cells [] [] s.tree (line + 3) bad (floor s) b (All-head (λ (s : Section). Good (of_cave cave) s.cells [] [] (floor s) s.tree) s ss g)
+first_bad cave floor (s ∷ ss) line bad (inr b) g = first_bad cave floor ss (line + 3 + node_count s.tree) bad b.1 (All-tail (λ (s : Section). Good (of_cave cave) s.cells [] [] (floor s) s.tree) s ss g)
 
 option_or_some : (a b : Option ℕ) (n : ℕ) → option_or a b ≡ Some n → (a ≡ Some n) ⊎ (b ≡ Some n)
 option_or_some None b n e = inr e
@@ -187,22 +187,28 @@ first_weak_fails cave (s ∷ ss) line weak e g = elim (option_or_some (weak_leaf
   | inr e ↦ first_weak_fails cave ss (line + 3 + node_count s.tree) weak e (All-tail (λ (s : Section). Good (of_cave cave) s.cells [] [] (length s.torches) s.tree) s ss g)
 ]
 
-bad_cell : (cave : Cave) (regions : List (List ℕ)) (cell : ℕ) → IsBadCell cave regions cell → (i : ℕ) → AreRegions cave regions → ⊥
-bad_cell cave regions cell (inl b) i r = elim b.1 [
+pub bad_cell : (cave : Cave) (regions : List (List ℕ)) (cell : ℕ) → IsBadCell cave regions cell → ¬ AreRegions cave regions
+bad_cell cave regions cell (inl b) r = elim b.1 [
   | inl out ↦ out (which_list regions cell ((r.exact cell).1 b.0))
   | inr two ↦ twice regions two.0 two.1 cell two.2 two.3 two.4 r.once
 ]
-bad_cell cave regions cell (inr (inl b)) i r = b.1 ((r.exact cell).0 (listed regions b.0.0 cell b.0.1))
-bad_cell cave regions cell (inr (inr b)) i r = let same : b.1 ≡ b.2 = r.apart cell b.3 b.4 b.1 b.2 b.0 b.8 b.9 b.6 b.7 in let lt : b.1 < b.2 = b.5 in omega arith
+bad_cell cave regions cell (inr (inl b)) r = b.1 ((r.exact cell).0 (listed regions b.0.0 cell b.0.1))
+bad_cell cave regions cell (inr (inr b)) r = let same : b.1 ≡ b.2 = r.apart cell b.3 b.4 b.1 b.2 b.0 b.8 b.9 b.6 b.7 in let lt : b.1 < b.2 = b.5 in omega arith
+
+pub bad_torch : (cave : Cave) (certificate : Certificate) (cell : ℕ) → IsBadTorch cave certificate cell → ¬ AreDistinctPlaces cave (torches_of certificate.sections)
+bad_torch cave certificate cell b p = elim b.1 [
+  | inl no_place ↦ no_place (at_member (IsPlace cave) (torches_of certificate.sections) cell p.legal (listed (torch_lists certificate.sections) b.0.0 cell b.0.1))
+  | inr two ↦ twice (torch_lists certificate.sections) two.0 two.1 cell two.2 two.3 two.4 p.distinct
+]
+
+pub left_dark : (cave : Cave) (certificate : Certificate) (cell : ℕ) → IsLeftDark cave certificate cell → ¬ LeaveNoneDark cave (torches_of certificate.sections)
+left_dark cave certificate cell b lit = b.1 (lit cell b.0)
 
 pub reason_refutes : (cave : Cave) (certificate : Certificate) (reason : Reason) → IsReasonOf cave certificate reason → ¬ Proves cave certificate
 reason_refutes cave certificate (Syntax line) r p = r
 reason_refutes cave certificate WrongBox r p = r p.of_cave
-reason_refutes cave certificate (IllegalPlace cell) r p = elim r.1.is.1 [
-  | inl no_place ↦ no_place (at_member (IsPlace cave) (torches_of certificate.sections) cell p.places.legal (listed (torch_lists certificate.sections) r.1.is.0.0 cell r.1.is.0.1))
-  | inr two ↦ twice (torch_lists certificate.sections) two.0 two.1 cell two.2 two.3 two.4 p.places.distinct
-]
-reason_refutes cave certificate (LeftDark cell) r p = r.1.is.1 (p.lit cell r.1.is.0)
-reason_refutes cave certificate (BadRegions cell) r p = bad_cell cave (regions_of certificate) cell r.1.is 0 p.regions
-reason_refutes cave certificate (BadNode line) r p = first_bad cave certificate.sections (start_line certificate.version) line r.1 p.trees
+reason_refutes cave certificate (IllegalPlace cell) r p = bad_torch cave certificate cell r.1.is p.places
+reason_refutes cave certificate (LeftDark cell) r p = left_dark cave certificate cell r.1.is p.lit
+reason_refutes cave certificate (BadRegions cell) r p = bad_cell cave (regions_of certificate) cell r.1.is p.regions
+reason_refutes cave certificate (BadNode line) r p = first_bad cave (λ section. length section.torches) certificate.sections (start_line certificate.version) line r.1 p.trees
 reason_refutes cave certificate (TooWeak line) r p = first_weak_fails cave certificate.sections (start_line certificate.version) line r.1 p.trees

@@ -8,3 +8,9 @@ pub mod Kept
 pub mod Homes
 pub mod Ends
 pub mod Heard
+pub mod Faults
+pub mod Verdict
+pub mod Texts
+pub mod Ending
+pub mod Tried
+pub mod Reading

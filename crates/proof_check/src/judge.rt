@@ -1,12 +1,13 @@
-ghost use Rattle.std.specs.Prelude.{◌≡◌, ◌<◌, ◌+◌, ◌^◌, OnOk};
-ghost use Rattle.proof_check.specs.Heard.{Hears};
+ghost use Rattle.std.specs.Prelude.{◌≡◌, ◌<◌, ◌+◌, ◌^◌, [], IfOk, OnOk};
+ghost use Rattle.proof_check.specs.Heard.{Hears, IsAfter};
 ghost use Rattle.proof_check.specs.Kept.{AreAscending, IsWide};
 
 use crate::homes::Homes;
 use crate::nodes::Nodes;
+use cave_model::World;
 use certificate_lines::Kind;
 use lit_lists::Lists;
-use std::alloc::AllocError;
+use std::alloc::{AllocError, Global};
 
 /// The judge of a certificate's lines.
 #[derive(Debug, Drop)]
@@ -18,6 +19,23 @@ pub struct Judge {
 }
 
 impl Judge {
+    /// No line was heard.
+    pub fn new(alloc: Global, world: &World) -> Result<Judge, AllocError>
+        ensures { IfOk result (λ judge. IsAfter world.now judge []) }
+    {
+        let count = world.cell_count();
+        let lists = Lists::new(alloc, world)?;
+        let nodes = Nodes::new(alloc, count)?;
+        let torches = Homes::new(alloc, count)?;
+        let regions = Homes::new(alloc, count)?;
+        Ok(Judge {
+            lists,
+            nodes,
+            torches,
+            regions,
+        })
+    }
+
     /// Takes what a line says.
     pub fn line(&mut self, kind: Kind, numbers: &[u32], line: u64) -> Result<(), AllocError>
         requires wide { IsWide self.old.lists self.old.nodes }

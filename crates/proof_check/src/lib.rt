@@ -1,22 +1,26 @@
-//! What a checker may accept, and why it refuses; the judge of a certificate's lines, with what is asked at its end.
-//! The call that reads a certificate and answers with a verdict isn't here yet.
+//! What a checker may accept, and why it refuses; the judge of a certificate's lines; and the calls that read a
+//! certificate, in memory or from a reader, and answer with a verdict.
 #![tactic(auto)]
 
+mod checking;
+mod ending;
 mod ends;
+mod fault;
 mod homes;
 mod judge;
-mod laws;
+pub mod laws;
 mod leaf;
 mod nodes;
 mod parts;
+mod reading;
 mod reason;
 mod tally;
 mod testing;
 mod track;
+mod trial;
+mod verdict;
 
-pub use ends::{first_misplaced, first_unlit};
-pub use homes::{Home, Homes};
-pub use judge::Judge;
-pub use nodes::Nodes;
-pub use parts::bad_cell;
+pub use checking::{check, check_from};
+pub use fault::CheckFault;
 pub use reason::Reason;
+pub use verdict::Verdict;

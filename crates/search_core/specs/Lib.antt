@@ -6,4 +6,5 @@ pub mod Pieces
 -- private
 pub mod Alone
 pub mod Bars
+pub mod Desks
 pub mod Kids

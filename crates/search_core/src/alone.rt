@@ -1,5 +1,5 @@
 //! The desk of a search alone.
-ghost use Rattle.std.specs.Prelude.{◌≡◌, is_some};
+ghost use Rattle.std.specs.Prelude.{◌≡◌, is_some, length};
 ghost use Rattle.search_core.specs.Alone.{IsKept};
 
 use crate::desk::Desk;
@@ -56,6 +56,13 @@ impl AloneDesk {
             turns,
             refused: false,
         }
+    }
+
+    /// The size of the smallest cover.
+    pub(crate) fn size(&self) -> u64
+        ensures { result ≡ length self.now.cover.places }
+    {
+        self.cover.size()
     }
 
     /// The smallest cover.

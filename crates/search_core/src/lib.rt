@@ -1,26 +1,36 @@
 //! Closing a piece by branch and bound: a search proposes, judges accept.
 #![tactic(auto)]
 
+mod aimed;
 mod alone;
+mod barring;
 mod bars;
+mod bit_lists;
+mod branching;
 mod closing;
 mod closing_piece;
 mod conflicts;
+mod cover_search;
 mod desk;
 mod dice;
 mod fault;
 mod halt;
+mod kernel;
 mod lists;
 mod numbering;
 mod plain;
 mod planning;
 mod plateau;
+mod pool;
 mod proposer;
+mod pruning;
 mod reduction;
+mod rounds;
 mod row_weighting;
 mod steps;
 mod strategy;
 mod tree_judge;
+mod waste;
 
 pub use alone::AloneDesk;
 pub use bars::Bar;

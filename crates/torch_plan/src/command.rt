@@ -23,6 +23,13 @@ pub enum Request<'a> {
         opts: PlanOpts,
         proof: Option<&'a str>,
     },
+    /// The verdict on the certificate in the file `proof`, which is never standard input.
+    Check {
+        file: &'a str,
+        proof: &'a str,
+        table: Option<&'a str>,
+        rule: Rule,
+    },
 }
 
 fn file<'a>(alloc: Global) -> Arg<'a> {
@@ -108,6 +115,20 @@ fn plan_command<'a>(alloc: Global) -> Result<Command<'a>, AllocError> {
         .arg(turns(alloc))
 }
 
+fn check_command<'a>(alloc: Global) -> Result<Command<'a>, AllocError> {
+    let certificate = Arg::new(alloc, "PROOF")
+        .required(true)
+        .action(ArgAction::Set)
+        .help("The proof that `plan --proof` wrote");
+    Command::new(alloc, "check")
+        .about("Say whether a proof shows that its torches are the fewest for the structure")
+        .arg(file(alloc))?
+        .arg(certificate)?
+        .arg(headroom(alloc))?
+        .arg(rule(alloc))?
+        .arg(table(alloc))
+}
+
 fn command<'a>(alloc: Global) -> Result<Command<'a>, AllocError> {
     Command::new(alloc, "torchplan")
         .about("Plan the fewest torches for a Minecraft cave, saved as a structure file")
@@ -118,7 +139,8 @@ fn command<'a>(alloc: Global) -> Result<Command<'a>, AllocError> {
         .arg_required_else_help(true)
         .disable_version_flag(true)
         .subcommand(dark_command(alloc)?)?
-        .subcommand(plan_command(alloc)?)
+        .subcommand(plan_command(alloc)?)?
+        .subcommand(check_command(alloc)?)
 }
 
 /// The rule that the words name: headroom 2 and version 1.18 unless told. None for another version.
@@ -150,6 +172,15 @@ fn plan_of<'a>(matches: &ArgMatches<'a>) -> Option<Request<'a>> {
     })
 }
 
+fn check_of<'a>(matches: &ArgMatches<'a>) -> Option<Request<'a>> {
+    Some(Request::Check {
+        file: matches.get_str("FILE")?,
+        proof: matches.get_str("PROOF")?,
+        table: matches.get_str("table"),
+        rule: rule_of(matches)?,
+    })
+}
+
 /// What the words ask for; the first is the program's name. An error has the text for the user: help where that was
 /// asked for, else the mistake and the usage.
 pub fn request_of<'a>(alloc: Global, words: &'a [String]) -> Result<Request<'a>, Error> {
@@ -158,6 +189,7 @@ pub fn request_of<'a>(alloc: Global, words: &'a [String]) -> Result<Request<'a>,
     let request = match matches.subcommand() {
         Some(("dark", dark)) => dark_of(dark),
         Some(("plan", plan)) => plan_of(plan),
+        Some(("check", check)) => check_of(check),
         _ => None,
     };
     match request {

@@ -8,8 +8,8 @@ use std::os::unix::fs::MetadataExt;
 use std::process::ExitCode;
 use std::{env, io};
 use torch_plan::{
-    Outcome, PlanOpts, Request, Rule, RunFault, Unkept, read_table, request_of, run_dark, run_plan,
-    status_of,
+    Outcome, PlanOpts, Request, Rule, RunFault, Unkept, Verdict, read_table, request_of, run_check,
+    run_dark, run_plan, status_of,
 };
 
 /// The words of the command line. One that is no text is a mistake in usage.
@@ -148,6 +148,50 @@ fn planned(
     }
 }
 
+/// Judges a certificate. Both files are opened before either is read.
+fn check(
+    rt: &HostRuntime,
+    file: &str,
+    proof: &str,
+    table: Option<&str>,
+    rule: Rule,
+) -> Result<Verdict, RunFault> {
+    let alloc = rt.alloc();
+    let mut output = io::writer(rt);
+    let table = table_of(rt, table)?;
+    let table = table.as_deref();
+    if file == "-" {
+        return match File::open(rt, proof) {
+            Ok(mut proof) => {
+                run_check(
+                    alloc,
+                    &mut rt.reader(),
+                    table,
+                    rule,
+                    &mut proof,
+                    &mut output,
+                )
+            }
+            Err(_) => Err(RunFault::ReadFailed),
+        };
+    }
+    match (File::open(rt, file), File::open(rt, proof)) {
+        (Ok(mut input), Ok(mut proof)) => {
+            run_check(alloc, &mut input, table, rule, &mut proof, &mut output)
+        }
+        _ => Err(RunFault::ReadFailed),
+    }
+}
+
+/// The status of a check: 4 where the certificate is rejected.
+fn checked(rt: &HostRuntime, file: &str, proof: &str, table: Option<&str>, rule: Rule) -> ExitCode {
+    match check(rt, file, proof, table, rule) {
+        Ok(Verdict::Accepted { .. }) => ExitCode::from(0),
+        Ok(Verdict::Rejected(_)) => ExitCode::from(4),
+        Err(fault) => refused(rt, &fault),
+    }
+}
+
 fn main(rt: HostRuntime) -> ExitCode {
     let words = match words_of(&rt) {
         Ok(words) => words,
@@ -166,6 +210,14 @@ fn main(rt: HostRuntime) -> ExitCode {
                 proof,
             },
         ) => planned(&rt, file, table, &opts, proof),
+        Ok(
+            Request::Check {
+                file,
+                proof,
+                table,
+                rule,
+            },
+        ) => checked(&rt, file, proof, table, rule),
         Err(error) => explained(&rt, &error),
     }
 }

@@ -12,6 +12,10 @@ mod dark;
 #[cfg(test)]
 mod light;
 #[cfg(test)]
+mod plan;
+#[cfg(test)]
+mod planning;
+#[cfg(test)]
 mod regions;
 #[cfg(test)]
 mod rule;

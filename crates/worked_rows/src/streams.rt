@@ -1,9 +1,10 @@
 //! Readers and writers that fail.
 
 use crate::caves::PILLAR;
+use crate::planning::FREELY;
 use std::io::{Error, ErrorKind, Read, Result as Done, Write};
 use std::test::Fail;
-use torch_plan::{Rule, RunFault, run_dark};
+use torch_plan::{Rule, RunFault, run_dark, run_plan};
 
 /// Gives so many bytes a call, and fails at the call with this number.
 #[derive(Drop)]
@@ -135,6 +136,55 @@ fn a_write_that_fails_leaves_a_beginning(rt: HostRuntime) -> Result<(), Fail> {
         let ended = run_dark(alloc, &mut reader, None, Rule::new(2, 1), &mut writer);
         assert!(rt; matches!(&ended, Err(RunFault::WriteFailed)));
         assert_eq!(rt; writer.taken.as_slice(), &TEXT[..fails_at]);
+    }
+    Ok(())
+}
+
+const PLAN: &[u8] = b"torches 1\ndark 1\nT 0 1 0 floor\nlayer 1\nT\n";
+
+#[test]
+fn a_failed_write_of_a_plan_leaves_a_beginning(rt: HostRuntime) -> Result<(), Fail> {
+    let alloc = rt.alloc();
+    let bytes = PILLAR.bytes(alloc)?;
+    for fails_at in 0..PLAN.len() {
+        let mut reader = bytes.as_slice();
+        let mut writer = Taking {
+            taken: Vec::new(alloc),
+            chunk: 1,
+            fails_at,
+        };
+        let mut proof = Vec::new(alloc);
+        let ended = run_plan(alloc, &mut reader, None, &FREELY, &mut writer, &mut proof);
+        assert!(rt; matches!(&ended, Err(RunFault::WriteFailed)));
+        assert_eq!(rt; writer.taken.as_slice(), &PLAN[..fails_at]);
+        assert!(rt; proof.ends_with(b"\nend\n"));
+    }
+    Ok(())
+}
+
+#[test]
+fn a_failed_write_of_a_certificate_leaves_its_beginning_and_no_plan(
+    rt: HostRuntime,
+) -> Result<(), Fail> {
+    let alloc = rt.alloc();
+    let bytes = PILLAR.bytes(alloc)?;
+    let mut reader = bytes.as_slice();
+    let mut whole = Vec::new(alloc);
+    let mut text = Vec::new(alloc);
+    assert!(rt; run_plan(alloc, &mut reader, None, &FREELY, &mut text, &mut whole).is_ok());
+    assert_eq!(rt; text.as_slice(), PLAN);
+    for fails_at in 0..whole.len() {
+        let mut reader = bytes.as_slice();
+        let mut proof = Taking {
+            taken: Vec::new(alloc),
+            chunk: 1,
+            fails_at,
+        };
+        let mut text = Vec::new(alloc);
+        let ended = run_plan(alloc, &mut reader, None, &FREELY, &mut text, &mut proof);
+        assert!(rt; matches!(&ended, Err(RunFault::WriteFailed)));
+        assert_eq!(rt; proof.taken.as_slice(), &whole[..fails_at]);
+        assert!(rt; text.is_empty());
     }
     Ok(())
 }

@@ -1,0 +1,56 @@
+-- What a check writes of the bytes that are read, or why there is no verdict. This is this project's own.
+use Rattle.std.specs.Prelude.{◌≡◌, ◌≢◌, ◌<◌, ◌⊎◌, ◌++◌, ℕ, List, length, codes, Option, Result, MatchResult, IfSome}
+use Rattle.std.specs.Io.KnownBytes.{Appends, Keeps}
+use Rattle.cave_model.specs.Rule.{Rule}
+use Rattle.proof_tree.specs.Writing.{AppendsFront}
+use Rattle.proof_check.specs.Texts.{verdict_text}
+use Rattle.proof_check.specs.Verdict.{IsJudged}
+use Rattle.proof_check.specs.declared.verdict.Verdict.{Verdict}
+use Rattle.cave_runs.specs.Limits.{proof_limit}
+use Rattle.cave_runs.specs.Runs.{IsFaultOfInput}
+use Rattle.cave_runs.specs.declared.fault.Input.{Input}
+use Rattle.cave_runs.specs.declared.fault.Input.TheVariants.{ProofInput}
+use Rattle.cave_runs.specs.declared.fault.RunFault.{RunFault}
+use Rattle.cave_runs.specs.declared.fault.RunFault.TheVariants as faults
+
+-- the line of a verdict
+abbrev pub verdict_line : Verdict → List ℕ
+verdict_line verdict = verdict_text verdict ++ codes "\n"
+
+-- the verdict of what both readers had, where it is known
+abbrev pub Judges : Option (List ℕ) → Option (List ℕ) → Rule → Option (List ℕ) → Verdict → Type 0
+Judges structure table rule certificate verdict = IfSome structure (λ bytes. IfSome certificate (λ text. IsJudged bytes table rule text verdict))
+
+-- the verdict's line was written, and nothing else
+pub record WritesVerdict (structure table : Option (List ℕ)) (rule : Rule) (certificate old new : Option (List ℕ)) (verdict : Verdict) : Type 0 where
+  pub judges : Judges structure table rule certificate verdict
+  pub written : Appends old new (verdict_line verdict)
+
+-- a failed write leaves a beginning of the line, any other fault nothing
+abbrev pub LeavesLine : RunFault → Option (List ℕ) → Option (List ℕ) → Rule → Option (List ℕ) → Option (List ℕ) → Option (List ℕ) → Type 0
+LeavesLine faults.WriteFailed structure table rule certificate old new =
+    (verdict : Verdict) × Judges structure table rule certificate verdict × AppendsFront old new (verdict_line verdict)
+LeavesLine other structure table rule certificate old new = Keeps old new
+
+-- why there is no verdict: the structure has a fault, or the certificate is too long
+abbrev pub IsNoVerdict : Option (List ℕ) → Option (List ℕ) → Option (List ℕ) → RunFault → Type 0
+IsNoVerdict structure table certificate fault = IfSome structure (λ bytes. IsFaultOfInput bytes table fault)
+    ⊎ ((fault ≡ faults.TooLong ProofInput) × IfSome certificate (λ text. proof_limit < length text))
+
+-- a stream failed, an input is too long, or memory ran out
+abbrev pub IsExcuse : RunFault → Type 0
+IsExcuse fault = (fault ≡ faults.ReadFailed) ⊎ (fault ≡ faults.WriteFailed) ⊎ (fault ≡ faults.OutOfMemory)
+    ⊎ ((input : Input) × (fault ≡ faults.TooLong input))
+
+-- the verdict, unless for one of these
+abbrev pub IsSaid : Result Verdict RunFault → Verdict → Type 0
+IsSaid r verdict = MatchResult r (λ v. v ≡ verdict) IsExcuse
+
+-- the verdict of what both readers had is answered, unless for one of these
+abbrev pub SaysIt : Option (List ℕ) → Option (List ℕ) → Rule → Option (List ℕ) → Result Verdict RunFault → Type 0
+SaysIt structure table rule certificate r = IfSome structure (λ bytes. IfSome certificate (λ text.
+    (verdict : Verdict) → IsJudged bytes table rule text verdict → IsSaid r verdict))
+
+-- the fault, unless a read failed, the certificate is too long or memory ran out
+abbrev pub IsUnsaid : Result Verdict RunFault → RunFault → Type 0
+IsUnsaid r fault = MatchResult r (λ _. ⊥) (λ e. (e ≡ fault) ⊎ (e ≡ faults.ReadFailed) ⊎ (e ≡ faults.TooLong ProofInput) ⊎ (e ≡ faults.OutOfMemory))

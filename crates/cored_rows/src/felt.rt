@@ -1,0 +1,113 @@
+//! The felt ring, its covers, and pieces that are closed. Places 111, 114 and 118 leave the cells 188, 185 and 181
+//! dark, and each lights the other 27.
+use crate::structure::ring_bytes;
+use block_rows::Rows;
+use cave_model::{Rule, build};
+use cave_regions::{Cover, Region, split};
+use cover_rows::Problem;
+use event_core::{Core, Event};
+use pack_bound::{cover_of, first_plan, is_cover};
+use proof_tree::{Closed, Name, Piece, Proof};
+use scan_core::read_scan;
+use search_core::{AloneDesk, close_piece};
+use std::alloc::{AllocError, Global};
+use std::sync::Arc;
+use std::test::Fail;
+
+const TABLE: &[u8] = b"[[row]]\nname = \"cave:felt\"\nopacity = 15\nstand = true\n";
+
+/// The ring with stone below these cells of its northern side.
+fn ring(alloc: Global, stones: &[i32]) -> Result<Arc<Region>, Fail> {
+    let scan = read_scan(alloc, &ring_bytes(alloc, stones)?)?;
+    let rows = Rows::with_table(alloc, TABLE)?;
+    let world = build(alloc, &scan, &rows, Rule::new(2, 1))?;
+    let problem = Problem::new(alloc, &world)?;
+    match split(alloc, &problem)?.pop() {
+        Some(region) => Ok(Arc::new(alloc, region)?),
+        None => Err(AllocError.into()),
+    }
+}
+
+/// The places 111, 114 and 118.
+pub(crate) fn felt_ring(alloc: Global) -> Result<Arc<Region>, Fail> {
+    ring(alloc, &[1, 4, 8])
+}
+
+/// The places 111 and 118 alone.
+pub(crate) fn other_ring(alloc: Global) -> Result<Arc<Region>, Fail> {
+    ring(alloc, &[1, 8])
+}
+
+/// The cover by the places 111 and 114.
+pub(crate) fn small_cover(alloc: Global, region: &Arc<Region>) -> Result<Cover, Fail> {
+    Ok(first_plan(alloc, region)?)
+}
+
+/// The cover by all three places.
+pub(crate) fn large_cover(alloc: Global, region: &Arc<Region>) -> Result<Cover, Fail> {
+    let all = [0, 1, 2];
+    if !is_cover(alloc, region.as_ref(), &all)? {
+        return Err(AllocError.into());
+    }
+    Ok(cover_of(alloc, region, &all)?)
+}
+
+/// A core of two workers.
+pub(crate) fn core_of(alloc: Global, region: &Arc<Region>) -> Result<Core, Fail> {
+    let cover = first_plan(alloc, region)?;
+    let shared = Arc::try_clone(cover.region())?;
+    Ok(Core::new(alloc, shared, cover, 2)?)
+}
+
+/// A core of one worker, which begins with the cover by all three places.
+pub(crate) fn large_core(alloc: Global, region: &Arc<Region>) -> Result<Core, Fail> {
+    let cover = large_cover(alloc, region)?;
+    let shared = Arc::try_clone(cover.region())?;
+    Ok(Core::new(alloc, shared, cover, 1)?)
+}
+
+/// The root, closed at a floor of 2.
+pub(crate) fn closed_root(alloc: Global, region: &Arc<Region>) -> Result<Closed, Fail> {
+    let piece = Piece::root(alloc, region)?;
+    let cover = first_plan(alloc, region)?;
+    let mut desk = AloneDesk::new(cover, None);
+    match close_piece(alloc, piece, &mut desk) {
+        Ok(closed) => Ok(closed),
+        Err(_) => Err(AllocError.into()),
+    }
+}
+
+/// What the core answers to these events.
+pub(crate) fn play(alloc: Global, core: &mut Core, events: Vec<Event>) -> Result<Vec<bool>, Fail> {
+    let mut answers = Vec::new(alloc);
+    for event in events {
+        let done = core.step(event)?;
+        answers.push(done)?;
+    }
+    Ok(answers)
+}
+
+/// The size of the best cover, and how many kids the tree has; none where the core isn't done.
+pub(crate) fn assembled(core: Core) -> Option<(u64, usize)> {
+    match core.assemble() {
+        Ok((cover, proof)) => Some((cover.size(), kids_of(&proof))),
+        Err(_) => None,
+    }
+}
+
+fn kids_of(proof: &Proof) -> usize {
+    match proof {
+        Proof::Leaf(_) => 0,
+        Proof::Branch { cell: _, kids } => kids.trees().len(),
+        Proof::Bar { .. } => 1,
+    }
+}
+
+pub(crate) fn root_name(alloc: Global) -> Name {
+    Name::root(alloc)
+}
+
+/// The name of the root's kid with this number.
+pub(crate) fn kid_name(alloc: Global, number: u32) -> Result<Name, Fail> {
+    Ok(Name::root(alloc).kid(number)?)
+}

@@ -1,0 +1,14 @@
+pub mod NameLemmas
+pub mod StateLemmas
+pub mod TurnLemmas
+pub mod OpenLemmas
+pub mod RunLemmas
+pub mod GoodLemmas
+pub mod ShapeLemmas
+pub mod NodeLemmas
+pub mod TraceLemmas
+pub mod SieveLemmas
+pub mod AssembleLemmas
+pub mod DoneLemmas
+pub mod KeptLemmas
+pub mod MoveLemmas

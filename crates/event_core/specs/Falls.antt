@@ -1,0 +1,22 @@
+-- Each kid is smaller than all kids together.
+use Rattle.std.specs.Prelude.{◌≤◌, List, [], ◌∷◌}
+use Rattle.std.proofs.Common.{arith, max}
+use denote.Param.Weighed.{most}
+use Rattle.event_core.specs.declared.node.Node.{Node}
+use Rattle.event_core.specs.declared.node.Node.TheVariants.{Waiting, Held, Closed, Opened}
+use Rattle.event_core.specs.declared.node.Nodes.TheDeep.{deep-Node}
+use Rattle.event_core.specs.Nodes.{shape_of, shapes_of}
+use Rattle.event_core.specs.Shape.{shape_size, shapes_size}
+
+pub shape_falls : (n : Node) → deep-Node n ≤ shape_size (shape_of n)
+shape_falls Waiting = omega arith
+shape_falls (Held worker) = omega arith
+shape_falls (Closed floor proof) = omega arith
+shape_falls (Opened cell places kids room) = omega arith
+
+pub most_falls : (ns : List Node) → most (λ n. deep-Node n) ns ≤ shapes_size (shapes_of ns)
+most_falls [] = omega arith
+most_falls (n ∷ ns) = omega (arith, shape_falls n, most_falls ns)
+
+pub kids_fall : (ns : List Node) → max (most (λ n. deep-Node n) ns) 0 ≤ shapes_size (shapes_of ns)
+kids_fall ns = omega (arith, most_falls ns)

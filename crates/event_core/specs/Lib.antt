@@ -1,0 +1,17 @@
+-- public clauses cite
+pub mod State
+pub mod Events
+pub mod Plays
+pub mod Assembled
+pub mod Sound
+pub mod Laws
+pub mod Kept
+-- private
+pub mod Shape
+pub mod Finished
+pub mod Codes
+pub mod Nodes
+pub mod Falls
+pub mod Tracing
+pub mod Opening
+pub mod Moving

@@ -1,0 +1,70 @@
+-- The pieces that a core knows, as a tree: how the code keeps them.
+use Rattle.std.specs.Prelude.{ℕ, ◌+◌, zero, suc, List, [], ◌∷◌, ◌++◌, Option, Some, None}
+use Rattle.proof_rules.specs.Tree.{Tree}
+use Rattle.event_core.specs.State.{Status, waiting, held, opened, closed, Part}
+
+mutual
+  pub data Shape : Type 0 where
+    at_rest : Shape
+    in_hand : ℕ → Shape
+    settled : ℕ → Tree → Shape
+    -- on a cell, with the places of its kids, and room for so many trees
+    parted : ℕ → List ℕ → ℕ → Shapes → Shape
+
+  pub data Shapes : Type 0 where
+    no_shape : Shapes
+    one_shape : Shape → Shapes → Shapes
+
+abbrev mutual
+  pub shape_size : Shape → ℕ
+  shape_size at_rest = 1
+  shape_size (in_hand worker) = 1
+  shape_size (settled floor tree) = 1
+  shape_size (parted cell places room kids) = shapes_size kids + 1
+
+  pub shapes_size : Shapes → ℕ
+  shapes_size no_shape = 0
+  shapes_size (one_shape kid kids) = shape_size kid + shapes_size kids + 1
+
+abbrev pub shape_count : Shapes → ℕ
+shape_count no_shape = 0
+shape_count (one_shape kid kids) = shape_count kids + 1
+
+abbrev pub status_of : Shape → Status
+status_of at_rest = waiting
+status_of (in_hand worker) = held worker
+status_of (settled floor tree) = closed floor tree
+status_of (parted cell places room kids) = opened cell
+
+abbrev mutual
+  -- the piece below this one that has this name, where these places are chosen and barred in this one
+  pub part_in : List ℕ → List ℕ → Shape → List ℕ → Option Part
+  part_in chosen barred shape [] = Some (record { chosen = chosen; barred = barred; status = status_of shape })
+  part_in chosen barred at_rest (number ∷ rest) = None
+  part_in chosen barred (in_hand worker) (number ∷ rest) = None
+  part_in chosen barred (settled floor tree) (number ∷ rest) = None
+  part_in chosen barred (parted cell places room kids) (number ∷ rest) =
+      part_below chosen barred places kids number rest
+
+  -- the same among kids: each has its place chosen too, and those before it barred
+  pub part_below : List ℕ → List ℕ → List ℕ → Shapes → ℕ → List ℕ → Option Part
+  part_below chosen barred [] kids number rest = None
+  part_below chosen barred (place ∷ places) no_shape number rest = None
+  part_below chosen barred (place ∷ places) (one_shape kid kids) zero rest =
+      part_in (chosen ++ place ∷ []) barred kid rest
+  part_below chosen barred (place ∷ places) (one_shape kid kids) (suc number) rest =
+      part_below chosen (barred ++ place ∷ []) places kids number rest
+
+abbrev mutual
+  -- the same with the new shape at this name
+  pub put_in : Shape → List ℕ → Shape → Shape
+  put_in shape [] new = new
+  put_in at_rest (number ∷ rest) new = at_rest
+  put_in (in_hand worker) (number ∷ rest) new = in_hand worker
+  put_in (settled floor tree) (number ∷ rest) new = settled floor tree
+  put_in (parted cell places room kids) (number ∷ rest) new = parted cell places room (put_below kids number rest new)
+
+  pub put_below : Shapes → ℕ → List ℕ → Shape → Shapes
+  put_below no_shape number rest new = no_shape
+  put_below (one_shape kid kids) zero rest new = one_shape (put_in kid rest new) kids
+  put_below (one_shape kid kids) (suc number) rest new = one_shape kid (put_below kids number rest new)

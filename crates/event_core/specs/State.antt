@@ -1,0 +1,54 @@
+-- What is known of a region while workers close its pieces, as plain data. This is this project's own.
+use Rattle.std.specs.Prelude.{◌≡◌, ℕ, List, [], ◌∷◌, length, replicate, Option, Some, None}
+use Rattle.set_cover.specs.Instance.{Instance}
+use Rattle.proof_rules.specs.Tree.{Tree}
+
+-- what became of a piece
+pub data Status : Type 0 where
+  waiting : Status
+  -- by this worker
+  held : ℕ → Status
+  -- on this cell
+  opened : ℕ → Status
+  -- at this floor, by this tree
+  closed : ℕ → Tree → Status
+
+-- a piece: the places that are chosen and barred in it, and what became of it
+pub record Part : Type 0 where
+  pub chosen : List ℕ
+  pub barred : List ℕ
+  pub status : Status
+
+pub record State : Type 0 where
+  pub region : Instance
+  -- the places of the smallest cover so far
+  pub best : List ℕ
+  -- for each worker the size that it saw last
+  pub seen : List ℕ
+  -- the piece of each name, if there is one
+  pub part_at : List ℕ → Option Part
+
+-- the piece of this name is so
+abbrev pub HasPart : State → List ℕ → List ℕ → List ℕ → Status → Type 0
+HasPart state name chosen barred status =
+    state.part_at name ≡ Some (record { chosen = chosen; barred = barred; status = status })
+
+-- it is still to be closed
+abbrev pub IsLeft : Status → Type 0
+IsLeft waiting = Unit {0}
+IsLeft (held worker) = Unit {0}
+IsLeft (opened cell) = ⊥
+IsLeft (closed floor tree) = ⊥
+
+-- at first the root waits alone, and each worker has seen the size of the cover handed in
+pub record Begins (region : Instance) (places : List ℕ) (workers : ℕ) (state : State) : Type 0 where
+  pub of_it : state.region ≡ region
+  pub best : state.best ≡ places
+  pub seen : state.seen ≡ replicate workers (length places)
+  pub root : HasPart state [] [] [] waiting
+  pub alone : (number : ℕ) (rest : List ℕ) → state.part_at (number ∷ rest) ≡ None
+
+-- no piece waits or is held
+abbrev pub IsDone : State → Type 0
+IsDone state = (name chosen barred : List ℕ) (status : Status) → HasPart state name chosen barred status
+    → ¬ IsLeft status

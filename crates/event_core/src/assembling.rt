@@ -1,0 +1,70 @@
+//! The tree of a core in which no piece waits or is held.
+ghost use Rattle.std.specs.Prelude.{◌≡◌, IsTrue};
+ghost use Rattle.proof_tree.specs.Shape.{tree_of};
+ghost use Rattle.event_core.specs.Nodes.{shape_of, shapes_of};
+ghost use Rattle.event_core.specs.Finished.{assembled, is_done, are_done, IsWhole};
+
+use crate::node::Node;
+use proof_tree::{Kids, Proof};
+use std::mem;
+
+/// Whether no piece waits or is held.
+#[cycle(done)]
+pub(crate) fn is_done(node: &Node) -> bool
+    ensures { result ≡ is_done (shape_of node.now) }
+{
+    match node {
+        Node::Waiting => false,
+        Node::Held(_) => false,
+        Node::Closed { .. } => true,
+        Node::Opened {
+            cell: _,
+            places: _,
+            kids,
+            room: _,
+        } => are_done(kids.as_slice()),
+    }
+}
+
+#[cycle(done)]
+fn are_done(nodes: &[Node]) -> bool
+    ensures { result ≡ are_done (shapes_of nodes.now) }
+{
+    for node in nodes {
+        if !is_done(node) {
+            return false;
+        }
+    }
+    true
+}
+
+/// The tree of a node that is done. It takes no memory.
+pub(crate) fn assemble(node: Node) -> Proof
+    requires done { IsTrue (is_done (shape_of node)) }
+    requires whole { IsWhole (shape_of node) }
+    ensures { tree_of result ≡ assembled (shape_of node) }
+{
+    match node {
+        Node::Closed { floor: _, proof } => proof,
+        Node::Opened {
+            cell,
+            places: _,
+            kids,
+            mut room,
+        } => {
+            let mut index = 0usize;
+            for kid in kids.into_items() {
+                if index < room.len() {
+                    room[index] = assemble(kid);
+                    index += 1;
+                }
+            }
+            Proof::Branch {
+                cell,
+                kids: Kids::of(room),
+            }
+        }
+        Node::Waiting => unreachable!(),
+        Node::Held(_) => unreachable!(),
+    }
+}

@@ -1,0 +1,20 @@
+use cave_regions::Cover;
+use proof_tree::{Closed, Name};
+use scan_core::Cell;
+
+/// What may happen in a core. Workers are numbers below the count handed in.
+#[derive(Drop)]
+pub enum Event {
+    /// A worker sees the size of the best cover.
+    Look(u32),
+    /// A worker offers a cover, which is the best from then on if it is smaller.
+    Offer(u32, Cover),
+    /// A worker takes a waiting piece.
+    Take(u32, Name),
+    /// A piece is opened on a cell: its kids wait.
+    Open(Name, Cell),
+    /// A worker closes a piece that it holds.
+    Close(u32, Closed),
+    /// A worker leaves a piece that it holds: it waits again.
+    Leave(u32, Name),
+}

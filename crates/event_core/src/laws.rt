@@ -1,0 +1,46 @@
+//! Laws over the definitions alone: whatever events there were, and of however many workers.
+ghost use Rattle.std.specs.Prelude.{◌≡◌, ℕ, ◌<◌, ◌≤◌, Bool, List, [], length};
+ghost use Rattle.set_cover.specs.Instance.{Instance, of_instance};
+ghost use Rattle.proof_rules.specs.Tree.{Tree};
+ghost use Rattle.proof_rules.specs.Good.{Good};
+ghost use Rattle.event_core.specs.State.{State, HasPart, IsDone, opened};
+ghost use Rattle.event_core.specs.Plays.{Steps};
+ghost use Rattle.event_core.specs.Assembled.{IsAssembled};
+ghost use Rattle.event_core.specs.Sound.{HasKids, IsLeftOver};
+ghost use Rattle.event_core.specs.Laws.{IsAnyCover, IsReached};
+ghost use Rattle.event_core.specs.Kept.{Kept, StepsTo, state_of};
+ghost use Rattle.event_core.specs.declared.event.Event.{Event};
+
+/// Each cover smaller than the best is a cover of a piece that waits or is held.
+pub fn smaller_covers_are_left()
+    ensures { (region : Instance) (events : List Event) (state : State) (places : List ℕ)
+        → IsReached region events state → IsAnyCover region places → length places < length state.best
+        → IsLeftOver state places }
+{}
+
+/// An assembled tree is good at the best's size with nothing chosen or barred.
+pub fn assembled_is_good()
+    ensures { (region : Instance) (events : List Event) (state : State) (tree : Tree) → IsReached region events state
+        → IsAssembled state [] tree → Good (of_instance region) region.cells [] [] (length state.best) tree }
+{}
+
+/// Where no piece waits or is held, no cover is smaller than the best.
+pub fn done_is_best()
+    ensures { (region : Instance) (events : List Event) (state : State) (places : List ℕ)
+        → IsReached region events state → IsDone state → IsAnyCover region places
+        → length state.best ≤ length places }
+{}
+
+/// An opened piece has a kid for each place that lights its cell and isn't barred in it, and no other: the place is
+/// chosen in the kid too, and the places before it barred.
+pub fn opened_has_kids()
+    ensures { (region : Instance) (events : List Event) (state : State) (name chosen barred : List ℕ) (cell : ℕ)
+        → IsReached region events state → HasPart state name chosen barred (opened cell)
+        → HasKids state name chosen barred cell }
+{}
+
+/// What a call of `step` answers and leaves is a step of the state that the core stands for.
+pub fn steps_are_events()
+    ensures { (old : Kept) (event : Event) (new : Kept) (done : Bool) → StepsTo old event new done
+        → Steps (state_of old) event done (state_of new) }
+{}

@@ -1,0 +1,18 @@
+//! The event core: what any number of workers did to close a region, replayed one event after another.
+#![tactic(auto)]
+
+mod assembling;
+mod closing;
+mod event;
+mod kept;
+pub mod laws;
+mod looking;
+mod node;
+mod opening;
+mod putting;
+mod stepping;
+mod taking;
+mod tracing;
+
+pub use event::Event;
+pub use kept::Core;

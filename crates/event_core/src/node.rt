@@ -1,0 +1,74 @@
+//! The pieces that a core knows, as a tree.
+ghost use Rattle.std.specs.Prelude.{◌≡◌};
+ghost use Rattle.event_core.specs.Nodes.{shapes_of};
+
+use proof_tree::{Cells, Proof};
+use std::marker::Model;
+
+/// The kids of an opened piece, in the order of their places.
+#[cycle(node)]
+#[derive(Drop)]
+pub(crate) struct Nodes {
+    items: Vec<Node>,
+}
+
+/// A piece by what became of it. An opened one has the places of its kids, and room for their trees.
+#[cycle(node)]
+#[derive(Drop)]
+pub(crate) enum Node {
+    Waiting,
+    Held(u32),
+    Closed {
+        floor: u64,
+        proof: Proof,
+    },
+    Opened {
+        cell: u32,
+        places: Cells,
+        kids: Nodes,
+        room: Vec<Proof>,
+    },
+}
+
+impl Model for Nodes {
+    ghost use Rattle.event_core.specs.Shape.{Shapes};
+    ghost use Rattle.event_core.specs.Codes.{shapes_coded};
+
+    ghost Value = { Shapes };
+
+    ghost coded = { shapes_coded };
+
+    ghost use Rattle.event_core.specs.Nodes.{shapes_of};
+    ghost use Rattle.event_core.specs.Shape.{shapes_size};
+
+    ghost view = { λ n. shapes_of n.items.items };
+
+    ghost size = { shapes_size };
+
+    ghost use Rattle.event_core.specs.Falls.{kids_fall};
+
+    ghost size_decreases = { λ a h. kids_fall a.items.items };
+}
+
+impl Nodes {
+    /// These nodes, with no new memory.
+    pub(crate) fn of(items: Vec<Node>) -> Nodes
+        ensures { result ≡ shapes_of items.items }
+    {
+        Nodes { items }
+    }
+
+    pub(crate) fn as_slice(&self) -> &[Node]
+        ensures { self.now ≡ shapes_of result.now }
+    {
+        self.items.as_slice()
+    }
+
+    /// The nodes alone, with no new memory.
+    pub(crate) fn into_items(self) -> Vec<Node>
+        ensures { shapes_of result.items ≡ self }
+    {
+        let Nodes { items } = self;
+        items
+    }
+}

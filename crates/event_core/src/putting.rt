@@ -1,0 +1,44 @@
+//! Putting a new node at a name.
+ghost use Rattle.std.specs.Prelude.{◌≡◌};
+ghost use Rattle.event_core.specs.Nodes.{shape_of};
+ghost use Rattle.event_core.specs.Shape.{put_in};
+
+use crate::node::{Node, Nodes};
+use std::mem;
+
+/// The same with the new node at this name, where there is a piece of this name.
+pub(crate) fn put(node: Node, name: &[u32], new: Node) -> Node
+    ensures { shape_of result ≡ put_in (shape_of node) name.now (shape_of new) }
+{
+    let Some((first, rest)) = name.split_first() else {
+        return new;
+    };
+    match node {
+        Node::Opened {
+            cell,
+            places,
+            kids,
+            room,
+        } => {
+            let number = *first as usize;
+            let mut nodes = kids.into_items();
+            if number >= nodes.len() {
+                return Node::Opened {
+                    cell,
+                    places,
+                    kids: Nodes::of(nodes),
+                    room,
+                };
+            }
+            let kid = mem::replace(&mut nodes[number], Node::Waiting);
+            nodes[number] = put(kid, rest, new);
+            Node::Opened {
+                cell,
+                places,
+                kids: Nodes::of(nodes),
+                room,
+            }
+        }
+        other => other,
+    }
+}

@@ -1,0 +1,91 @@
+//! Finding a piece by its name.
+ghost use Rattle.std.specs.Prelude.{◌≡◌, [], ◌∷◌, ◌++◌, IfOk};
+ghost use Rattle.event_core.specs.Nodes.{shape_of};
+ghost use Rattle.event_core.specs.Shape.{status_of};
+ghost use Rattle.event_core.specs.Tracing.{IsTraced, StandsAs};
+
+use crate::node::Node;
+use scan_core::Cell;
+use std::alloc::AllocError;
+
+/// What became of a piece, as far as an event asks.
+#[derive(Clone, Copy)]
+pub(crate) enum Standing {
+    Waiting,
+    Held(u32),
+    /// It is opened or closed.
+    Past,
+}
+
+/// A piece that a name leads to.
+#[derive(Drop)]
+pub(crate) struct Traced {
+    pub(crate) chosen: Vec<Cell>,
+    pub(crate) barred: Vec<Cell>,
+    pub(crate) standing: Standing,
+}
+
+fn standing_of(node: &Node) -> Standing
+    ensures { StandsAs result (status_of (shape_of node.now)) }
+{
+    match node {
+        Node::Waiting => Standing::Waiting,
+        Node::Held(worker) => Standing::Held(*worker),
+        Node::Closed { .. } => Standing::Past,
+        Node::Opened { .. } => Standing::Past,
+    }
+}
+
+/// The piece of this name below a node in which these places are chosen and barred.
+pub(crate) fn trace(
+    node: &Node,
+    name: &[u32],
+    chosen: Vec<Cell>,
+    barred: Vec<Cell>,
+) -> Result<Option<Traced>, AllocError>
+    ensures { IfOk result (IsTraced chosen.items barred.items (shape_of node.now) name.now) }
+{
+    let Some((first, rest)) = name.split_first() else {
+        return Ok(Some(Traced {
+            chosen,
+            barred,
+            standing: standing_of(node),
+        }));
+    };
+    match node {
+        Node::Opened {
+            cell: _,
+            places,
+            kids,
+            room: _,
+        } => {
+            let number = *first as usize;
+            let places = places.as_slice();
+            let nodes = kids.as_slice();
+            if number >= places.len() || number >= nodes.len() {
+                return Ok(None);
+            }
+            let chosen = with_one(chosen, places[number])?;
+            let barred = with_all(barred, &places[..number])?;
+            let traced = trace(&nodes[number], rest, chosen, barred)?;
+            Ok(traced)
+        }
+        _ => Ok(None),
+    }
+}
+
+/// The places with one more.
+fn with_one(mut places: Vec<Cell>, place: Cell) -> Result<Vec<Cell>, AllocError>
+    ensures { IfOk result (λ more. more.items ≡ places.items ++ place ∷ []) }
+{
+    places.push(place)?;
+    Ok(places)
+}
+
+/// The places with these too.
+fn with_all(mut places: Vec<Cell>, others: &[Cell]) -> Result<Vec<Cell>, AllocError>
+    ensures { IfOk result (λ more. more.items ≡ places.items ++ others.now) }
+{
+    places.extend_from_slice(others)?;
+    Ok(places)
+}

@@ -1,0 +1,73 @@
+//! Runs one part of the path from a structure to a plan, so that its time and its memory can be taken from outside.
+//!
+//! `PART FILE [TIMES]`, where PART is `cave`, `light`, `reach`, `places`, `cells`, `coverage` or `split`, prints what
+//! the part counts, after doing it so many times; `plan FILE TURNS [RULE]` plans each region alone and prints for each
+//! its cells, its places, the size of the plan (or the range in which it lies) and the lines of its tree.
+#![tactic(auto)]
+
+mod parts;
+mod regions;
+
+use cave_model::{Rule, World};
+use std::env;
+use std::fs::File;
+use std::io::Read;
+use std::test::Fail;
+
+/// The rule of a version, 1.18 unless it is 1.17, with headroom 2.
+fn rule_of(version: &str) -> Rule {
+    if version == "1.17" {
+        return Rule::new(2, 8);
+    }
+    Rule::new(2, 1)
+}
+
+/// The cave of the structure in the file, by the shipped rows.
+fn cave(rt: &HostRuntime, path: &str, rule: Rule) -> Result<World, Fail> {
+    let mut bytes = Vec::new(rt.alloc());
+    File::open(rt, path)?.read_to_end(&mut bytes)?;
+    Ok(parts::world_of(rt.alloc(), &bytes, rule)?)
+}
+
+/// Plans each region, and prints a line for each.
+fn plan(rt: &HostRuntime, world: &World, turns: u64) -> Result<(), Fail> {
+    for region in regions::shared(rt.alloc(), world)? {
+        let told = regions::planned(rt.alloc(), &region, turns)?;
+        println!(rt; "{told}")?;
+    }
+    Ok(())
+}
+
+fn run(rt: &HostRuntime, part: &str, path: &str, number: u64, rule: &str) -> Result<(), Fail> {
+    if part == "plan" {
+        let world = cave(rt, path, rule_of(rule))?;
+        return plan(rt, &world, number);
+    }
+    let world = cave(rt, path, rule_of(rule))?;
+    let mut found = 0;
+    for _ in 0..number {
+        found = parts::counted(rt.alloc(), &world, part)?;
+    }
+    println!(rt; "{part} {found}")?;
+    Ok(())
+}
+
+fn main(rt: HostRuntime) -> Result<(), Fail> {
+    let words: Vec<String> = env::args(&rt)?.collect(rt.alloc())?;
+    let Some(part) = words.get(1) else {
+        return Ok(());
+    };
+    let path = match words.get(2) {
+        Some(path) => path.as_str(),
+        None => "",
+    };
+    let number = match words.get(3) {
+        Some(word) => word.as_str().parse::<u64>().unwrap_or(1),
+        None => 1,
+    };
+    let rule = match words.get(4) {
+        Some(rule) => rule.as_str(),
+        None => "",
+    };
+    run(&rt, part.as_str(), path, number, rule)
+}

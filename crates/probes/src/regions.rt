@@ -1,0 +1,67 @@
+//! Regions, and what planning one alone finds.
+
+use cave_model::{OutOfMemory, World};
+use cave_regions::{Region, split};
+use cover_rows::{CoverFault, Problem};
+use proof_tree::Proof;
+use search_core::{AloneFault, plan_alone};
+use std::alloc::Global;
+use std::sync::Arc;
+
+/// How many regions the cave has.
+pub fn count(alloc: Global, world: &World) -> Result<usize, CoverFault> {
+    let problem = Problem::new(alloc, world)?;
+    Ok(split(alloc, &problem)?.len())
+}
+
+/// The regions of the cave. The problem that they come from is given back before they are.
+pub fn shared(alloc: Global, world: &World) -> Result<Vec<Arc<Region>>, CoverFault> {
+    let problem = Problem::new(alloc, world)?;
+    let parts = split(alloc, &problem)?;
+    let mut regions = Vec::with_capacity(alloc, parts.len())?;
+    for region in parts {
+        regions.push(Arc::new(alloc, region)?)?;
+    }
+    Ok(regions)
+}
+
+/// What planning a region alone finds, as a line of text.
+pub fn planned(alloc: Global, region: &Arc<Region>, turns: u64) -> Result<String, OutOfMemory> {
+    let cells = region.cells().len();
+    let places = region.places().len();
+    match plan_alone(alloc, region, Some(turns)) {
+        Ok((cover, proof)) => {
+            let lines = lines(alloc, &proof)?;
+            let size = cover.size();
+            format!(in alloc; "{cells} cells, {places} places: {size}, {lines} lines")
+        }
+        Err(AloneFault::Stopped { cover, floor }) => {
+            let size = cover.size();
+            format!(in alloc; "{cells} cells, {places} places: {floor} to {size}")
+        }
+        Err(AloneFault::OutOfMemory) => Err(OutOfMemory),
+    }
+}
+
+/// How many lines a tree has in a certificate.
+fn lines(alloc: Global, tree: &Proof) -> Result<u64, OutOfMemory> {
+    let mut open = Vec::new(alloc);
+    open.push(tree)?;
+    let mut count: u64 = 0;
+    for _ in 0..u64::MAX {
+        let Some(tree) = open.pop() else {
+            break;
+        };
+        count = count.saturating_add(1);
+        match tree {
+            Proof::Leaf(_) => (),
+            Proof::Branch { cell: _, kids } => open.extend(kids.trees())?,
+            Proof::Bar {
+                place: _,
+                by: _,
+                kid,
+            } => open.push(kid.tree())?,
+        }
+    }
+    Ok(count)
+}

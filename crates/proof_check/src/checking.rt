@@ -1,0 +1,99 @@
+ghost use Rattle.std.specs.Prelude.{◌≡◌, ◌≢◌, ◌<◌, length, IfOk, IfErr, IfSome, MatchResult, option_copied};
+ghost use Rattle.cave_model.specs.RuleOf.{rule_of};
+ghost use Rattle.proof_check.specs.Reading.{GivesAtMost};
+ghost use Rattle.proof_check.specs.Tried.{IsTheVerdict};
+ghost use Rattle.proof_check.specs.Verdict.{IsAnswer, IsFaultOfBytes, IsJudged, IsOfReading, IsReadAnswer};
+ghost use Rattle.proof_check.specs.Verdict.{IsReadRefusal, IsRefusal};
+ghost use Rattle.proof_check.specs.declared.fault.CheckFault.{CheckFault};
+ghost use Rattle.proof_check.specs.declared.verdict.Verdict.{Verdict};
+
+use crate::fault::CheckFault;
+use crate::reading::{judge_from, pass_over};
+use crate::trial::Trial;
+use crate::verdict::Verdict;
+use cave_model::{Rule, World, read_cave};
+use std::alloc::{AllocError, Global};
+use std::io::Read;
+
+/// Judges the bytes of a certificate against the cave that the bytes of a structure tell, by the rows of the user's
+/// table, where there is one, before the shipped ones. A fault of the structure goes before one of the table, and that
+/// before an unknown block.
+pub fn check(
+    alloc: Global,
+    structure: &[u8],
+    table: Option<&[u8]>,
+    rule: Rule,
+    certificate: &[u8],
+) -> Result<Verdict, CheckFault>
+    // What is answered is the verdict of that cave.
+    ensures found { IfOk result
+        (IsJudged structure.now (option_copied table.entry) (rule_of rule) certificate.now) }
+    // Such a verdict is answered.
+    ensures only { (verdict : Verdict) → IsJudged structure.now (option_copied table.entry) (rule_of rule)
+        certificate.now verdict → IsAnswer result verdict }
+    // A fault is the first of the structure and the table.
+    ensures fault { IfErr result (λ e. e ≢ CheckFault.OutOfMemory
+        → IsFaultOfBytes structure.now (option_copied table.entry) e) }
+    // Such a fault is answered.
+    ensures refused { (e : CheckFault) → IsFaultOfBytes structure.now (option_copied table.entry) e
+        → IsRefusal result e }
+{
+    let world = read_cave(alloc, structure, table, rule)?;
+    let verdict = judge_slice(alloc, &world, certificate)?;
+    Ok(verdict)
+}
+
+/// The same over what the reader of the certificate has left, which is at most `limit` bytes. It is read to its end
+/// whatever is found on the way, so a failed read and too many bytes go before any fault of the structure or the table
+/// and before any verdict. At most 134,217,728 reads are made. One line of the certificate is kept at a time.
+pub fn check_from<C: Read>(
+    alloc: Global,
+    structure: &[u8],
+    table: Option<&[u8]>,
+    rule: Rule,
+    certificate: &mut C,
+    limit: u64,
+) -> Result<Verdict, CheckFault>
+    // What is answered is the verdict of what the reader had.
+    ensures found { IfOk result (λ v. IfSome (C.remaining certificate.old) (λ bytes.
+        IsJudged structure.now (option_copied table.entry) (rule_of rule) bytes v)) }
+    // Such a verdict is answered.
+    ensures only { IfSome (C.remaining certificate.old) (λ bytes. (verdict : Verdict)
+        → IsJudged structure.now (option_copied table.entry) (rule_of rule) bytes verdict
+        → IsReadAnswer result verdict) }
+    // A fault that isn't in the reader is the first of the structure and the table.
+    ensures fault { IfErr result (λ e. (¬ IsOfReading e)
+        → IsFaultOfBytes structure.now (option_copied table.entry) e) }
+    // Such a fault is answered.
+    ensures refused { (e : CheckFault) → IsFaultOfBytes structure.now (option_copied table.entry) e
+        → IsReadRefusal result e }
+    // Too long is what has more bytes than the limit; it is answered neither with a verdict nor with such a fault.
+    ensures too_long { IfErr result (λ e. e ≡ CheckFault.TooLong
+        → IfSome (C.remaining certificate.old) (λ bytes. limit < length bytes)) }
+    ensures whole { IfSome (C.remaining certificate.old) (λ bytes. limit < length bytes
+        → MatchResult result (λ _. ⊥) IsOfReading) }
+    // A failed read comes before more than the limit was read.
+    ensures before { IfErr result (λ e. e ≡ CheckFault.ReadFailed
+        → GivesAtMost limit (C.remaining certificate.old) (C.remaining certificate.new)) }
+{
+    match read_cave(alloc, structure, table, rule) {
+        Ok(world) => {
+            let verdict = judge_from(alloc, &world, certificate, limit)?;
+            Ok(verdict)
+        }
+        Err(fault) => {
+            pass_over(certificate, limit)?;
+            Err(CheckFault::from(fault))
+        }
+    }
+}
+
+/// The verdict of the bytes of a certificate.
+fn judge_slice(alloc: Global, world: &World, certificate: &[u8]) -> Result<Verdict, AllocError>
+    ensures { IfOk result (IsTheVerdict world.now certificate.now) }
+{
+    let mut trial = Trial::new(alloc, world)?;
+    trial.push(world, certificate)?;
+    let verdict = trial.finish(alloc, world)?;
+    Ok(verdict)
+}

@@ -1,0 +1,90 @@
+//! The desk of a search alone that is after a size below that of its cover: what is proved then is a floor.
+ghost use Rattle.std.specs.Prelude.{◌≡◌, ◌≤◌, IsTrue, length, min};
+
+use crate::alone::AloneDesk;
+use crate::desk::Desk;
+use cave_model::OutOfMemory;
+use cave_regions::Cover;
+
+/// A desk of a search alone, which shows no more than the size that the search is after.
+#[derive(Drop)]
+pub(crate) struct AimedDesk {
+    desk: AloneDesk,
+    aim: u64,
+    shown: u64,
+    ghost kept: { min aim desk.shown ≤ shown },
+}
+
+impl AimedDesk {
+    /// The desk, which shows at most this size.
+    pub(crate) fn new(desk: AloneDesk, aim: u64) -> AimedDesk
+        ensures desk { result.desk ≡ desk }
+    {
+        AimedDesk {
+            desk,
+            aim,
+            shown: aim,
+        }
+    }
+
+    /// From now on it shows at most this size.
+    pub(crate) fn aim_at(&mut self, aim: u64)
+        ensures desk { self.new.desk ≡ self.old.desk }
+    {
+        self.aim = aim;
+        self.shown = aim;
+    }
+
+    /// The size that it showed last.
+    pub(crate) fn shown(&self) -> u64
+        ensures { result ≡ self.now.shown }
+    {
+        self.shown
+    }
+
+    /// Whether its cover has no more places than it showed last.
+    pub(crate) fn is_met(&self) -> bool
+        ensures { IsTrue result → length self.now.desk.cover.places ≤ self.now.shown }
+    {
+        self.desk.size() <= self.shown
+    }
+
+    /// The desk alone.
+    pub(crate) fn into_desk(self) -> AloneDesk
+        ensures { result ≡ self.desk }
+    {
+        let AimedDesk {
+            desk,
+            aim: _,
+            shown: _,
+        } = self;
+        desk
+    }
+}
+
+impl Desk for AimedDesk {
+    ghost shown = { λ d. d.shown };
+
+    ghost accepted = { λ d. d.desk.accepted };
+
+    ghost refused = { λ d. d.desk.refused };
+
+    ghost limited = { λ d. d.desk.limited };
+
+    ghost region = { λ d. d.desk.cover.region };
+
+    fn look(&mut self) -> u64 {
+        let size = self.desk.look();
+        self.shown = if size < self.aim { size } else { self.aim };
+        self.shown
+    }
+
+    fn offer(&mut self, cover: &Cover) -> Result<(), OutOfMemory> {
+        self.desk.offer(cover)?;
+        Ok(())
+    }
+
+    fn enter(&mut self) -> bool {
+        self.desk.enter()
+    }
+}

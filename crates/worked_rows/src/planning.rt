@@ -1,0 +1,126 @@
+//! One run of `plan`, and what is expected of it.
+
+use crate::running::line_of;
+use crate::structure::Structure;
+use std::alloc::{AllocError, Global};
+use std::process::Abort;
+use std::test::Fail;
+use torch_plan::{Outcome, PlanOpts, Rule, run_check, run_plan};
+
+/// How a run ended, or its fault line without `torchplan: `; and what was written to both writers.
+#[derive(Drop)]
+pub struct Planned {
+    pub outcome: Option<Outcome>,
+    pub refusal: Option<String>,
+    pub text: Vec<u8>,
+    pub proof: Vec<u8>,
+}
+
+/// Plans these bytes.
+pub fn plan(
+    alloc: Global,
+    bytes: &[u8],
+    table: Option<&[u8]>,
+    opts: &PlanOpts,
+) -> Result<Planned, AllocError> {
+    let mut reader = bytes;
+    let mut text = Vec::new(alloc);
+    let mut proof = Vec::new(alloc);
+    match run_plan(alloc, &mut reader, table, opts, &mut text, &mut proof) {
+        Ok(outcome) => Ok(Planned {
+            outcome: Some(outcome),
+            refusal: None,
+            text,
+            proof,
+        }),
+        Err(fault) => Ok(Planned {
+            outcome: None,
+            refusal: Some(line_of(alloc, &fault)?),
+            text,
+            proof,
+        }),
+    }
+}
+
+/// With all the turns, under the rule of 1.18.
+pub const FREELY: PlanOpts = PlanOpts {
+    rule: Rule {
+        headroom: 2,
+        need: 1,
+    },
+    turns: None,
+};
+
+/// What a check of the certificate prints, or its fault line.
+pub fn check(
+    alloc: Global,
+    bytes: &[u8],
+    table: Option<&[u8]>,
+    rule: Rule,
+    proof: &[u8],
+) -> Result<Vec<u8>, AllocError> {
+    let mut reader = bytes;
+    let mut certificate = proof;
+    let mut text = Vec::new(alloc);
+    match run_check(alloc, &mut reader, table, rule, &mut certificate, &mut text) {
+        Ok(_) => Ok(text),
+        Err(fault) => Ok(line_of(alloc, &fault)?.into_bytes()),
+    }
+}
+
+/// The certificate of a plan is accepted, at the number of its torches.
+pub fn is_accepted(
+    rt: &impl Abort,
+    alloc: Global,
+    bytes: &[u8],
+    table: Option<&[u8]>,
+    rule: Rule,
+    planned: &Planned,
+) -> Result<(), Fail> {
+    let torches = lines_with(&planned.text, b'T');
+    let accepted = format!(in alloc; "accepted {torches}\n")?;
+    let said = check(alloc, bytes, table, rule, &planned.proof)?;
+    assert_eq!(rt; said.as_slice(), accepted.as_bytes());
+    Ok(())
+}
+
+/// The plan has this text.
+pub fn plans(
+    rt: &impl Abort,
+    alloc: Global,
+    structure: &Structure<'_>,
+    table: Option<&[u8]>,
+    text: &str,
+) -> Result<(), Fail> {
+    let bytes = structure.bytes(alloc)?;
+    let planned = plan(alloc, &bytes, table, &FREELY)?;
+    assert!(rt; planned.outcome == Some(Outcome::Done));
+    assert_eq!(rt; planned.text.as_slice(), text.as_bytes());
+    is_accepted(rt, alloc, &bytes, table, FREELY.rule, &planned)
+}
+
+/// The plan has so many torches and dark cells.
+pub fn plans_so_many(
+    rt: &impl Abort,
+    alloc: Global,
+    structure: &Structure<'_>,
+    table: Option<&[u8]>,
+    numbers: [usize; 2],
+) -> Result<(), Fail> {
+    let bytes = structure.bytes(alloc)?;
+    let planned = plan(alloc, &bytes, table, &FREELY)?;
+    let [torches, dark] = numbers;
+    let head = format!(in alloc; "torches {torches}\ndark {dark}\nT ")?;
+    assert!(rt; planned.outcome == Some(Outcome::Done));
+    assert!(rt; planned.text.starts_with(head.as_bytes()));
+    assert_eq!(rt; lines_with(&planned.text, b'T'), torches);
+    is_accepted(rt, alloc, &bytes, table, FREELY.rule, &planned)
+}
+
+/// How many lines begin with this byte and a space.
+pub fn lines_with(text: &[u8], first: u8) -> usize {
+    let begins = |pair: &[u8]| pair.first() == Some(&first) && pair.get(1) == Some(&b' ');
+    text.split(|byte| *byte == b'\n')
+        .filter(|line| begins(line))
+        .count()
+}
