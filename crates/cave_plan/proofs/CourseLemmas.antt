@@ -1,5 +1,6 @@
 -- Regions planned one after another.
-use Rattle.std.proofs.Common.{◌≡◌, ℕ, ◌+◌, ◌≤◌, Bool, true, false, List, [], ◌∷◌, ◌++◌, length, map, All, refl, sym, ap, subst, ◌∙◌, arith, Option, append_assoc, length-append}
+use Rattle.std.proofs.Common.{◌≡◌, ℕ, ◌+◌, ◌≤◌, Bool, true, false, List, [], ◌∷◌, ◌++◌, length, map, All, refl, sym}
+use Rattle.std.proofs.Common.{ap, subst, ◌∙◌, arith, Option, append_assoc, length-append}
 use Rattle.std.specs.Prelude.{flat_map, IsSome}
 use Rattle.std.proofs.lemmas.Bool.{true≢false}
 use Rattle.std.proofs.lemmas.List.{map-append, append-nil}
@@ -26,15 +27,19 @@ pub total-append : (these those : List Bounded) → total_floor (these ++ those)
 total-append [] those = omega arith
 total-append (p ∷ ps) those = (let rest = total-append ps those in omega (arith, rest))
 
-pub torches-append : (these those : List Bounded) → all_torches (these ++ those) ≡ all_torches these ++ all_torches those
+pub torches-append : (these those : List Bounded) → all_torches (these ++ those) ≡ all_torches these
+    ++ all_torches those
 torches-append [] those = refl
-torches-append (p ∷ ps) those = ap (λ (l : List ℕ). p.torches ++ l) (torches-append ps those) ∙ sym (append_assoc p.torches (all_torches ps) (all_torches those))
+torches-append (p ∷ ps) those = ap (λ (l : List ℕ). p.torches
+    ++ l) (torches-append ps those) ∙ sym (append_assoc p.torches (all_torches ps) (all_torches those))
 
 -- a cover of the region is one of its whole piece
-pub of_piece : (region : Instance) (places : List ℕ) → IsCoverOfRegion region places → IsCoverOfPiece (of_instance region) region.cells [] [] places
+pub of_piece : (region : Instance) (places : List ℕ) → IsCoverOfRegion region places
+    → IsCoverOfPiece (of_instance region) region.cells [] [] places
 of_piece region places cover = record {
   distinct = cover.distinct;
-  legal = all_members ((of_instance region).Place) places (λ p h. (at_member (IsPlaceOf (of_instance region) region.cells) places p cover.of_it h).0);
+  legal = all_members ((of_instance region).Place) places
+      (λ p h. (at_member (IsPlaceOf (of_instance region) region.cells) places p cover.of_it h).0);
   covers = cover.covers;
   holds = All-nil _;
   avoids = All-nil _;
@@ -47,13 +52,15 @@ floor_within part is = is.none_below part.torches (of_piece part.region part.tor
 pub total_within : (parts : List Bounded) → All IsBounded parts → total_floor parts ≤ length (all_torches parts)
 total_within [] all = omega arith
 total_within (p ∷ ps) all =
-    let first = floor_within p (All-head IsBounded p ps all) in let rest = total_within ps (All-tail IsBounded p ps all) in
+    let first = floor_within p (All-head IsBounded p ps all) in let rest = total_within ps
+        (All-tail IsBounded p ps all) in
     omega (arith, first, rest, length-append p.torches (all_torches ps))
 
 -- ---- one region more
 
 -- a part more, where a plan is added with it or the turns were spent
-pub part_more : (regions : List Instance) (turns : Option ℕ) (old : Course) (part : Bounded) (floor : ℕ) (stopped : Bool) (plans : List Plan)
+pub part_more : (regions : List Instance) (turns : Option ℕ) (old : Course) (part : Bounded) (floor : ℕ)
+    (stopped : Bool) (plans : List Plan)
     → IsCourse regions turns old → IsBounded part
     → (old.floor + part.floor ≤ length (old.torches ++ part.torches) → floor ≡ old.floor + part.floor)
     → (stopped ≡ false → AreProved (regions ++ part.region ∷ []) (old.torches ++ part.torches) plans)
@@ -63,13 +70,18 @@ part_more regions turns old part floor stopped plans c is sum proved limited =
     let parts = c.parts ++ part ∷ [] in
     let all : All IsBounded parts = All-append IsBounded c.parts (part ∷ []) c.each (one IsBounded part is) in
     let torches : all_torches parts ≡ old.torches ++ part.torches =
-    torches-append c.parts (part ∷ []) ∙ ap (λ (l : List ℕ). all_torches c.parts ++ l) (append-nil part.torches) ∙ ap (λ (l : List ℕ). l ++ part.torches) c.whole in
-    let total : total_floor parts ≡ old.floor + part.floor = (let t = total-append c.parts (part ∷ []) in let o = c.total in omega (arith, t, o)) in
+    torches-append c.parts (part ∷ []) ∙ ap (λ (l : List ℕ). all_torches c.parts
+        ++ l) (append-nil part.torches) ∙ ap (λ (l : List ℕ). l ++ part.torches) c.whole in
+    let total : total_floor parts ≡ old.floor + part.floor =
+        (let t = total-append c.parts (part ∷ []) in let o = c.total in omega (arith, t, o)) in
     let within : old.floor + part.floor ≤ length (old.torches ++ part.torches) =
-    subst (λ (n : ℕ). n ≤ length (old.torches ++ part.torches)) total (subst (λ (l : List ℕ). total_floor parts ≤ length l) torches (total_within parts all)) in
+    subst (λ (n : ℕ). n ≤ length (old.torches
+        ++ part.torches)) total (subst (λ (l : List ℕ). total_floor parts ≤ length l) torches
+            (total_within parts all)) in
     record {
       parts = parts;
-      of_them = map-append (λ (p : Bounded). p.region) c.parts (part ∷ []) ∙ ap (λ (l : List Instance). l ++ part.region ∷ []) c.of_them;
+      of_them = map-append (λ (p : Bounded). p.region) c.parts (part ∷ []) ∙ ap (λ (l : List Instance). l
+          ++ part.region ∷ []) c.of_them;
       each = all;
       whole = torches;
       total = total ∙ sym (sum within);
@@ -85,20 +97,25 @@ pub best_bounded : (region : Instance) (cover : Covering) (tree : Tree) → IsBe
     → IsBounded (record { region = region; torches = cover.places; floor = length cover.places })
 best_bounded region cover tree best kept = record {
   cover = subst (λ (r : Instance). IsCoverOfRegion r cover.places) best.of_it kept;
-  none_below = λ places is. bounds (of_instance region) region.cells [] [] tree (length cover.places) places distinct_nil best.proved
+  none_below = λ places is. bounds (of_instance region) region.cells [] [] tree (length cover.places) places
+      distinct_nil best.proved
       (piece_serves (of_instance region) region.cells [] [] places is);
 }
 
-proved_more : (regions : List Instance) (torches : List ℕ) (plans : List Plan) (plan : Plan) → AreProved regions torches plans → IsProved plan
+proved_more : (regions : List Instance) (torches : List ℕ) (plans : List Plan) (plan : Plan)
+    → AreProved regions torches plans → IsProved plan
     → AreProved (regions ++ plan.region ∷ []) (torches ++ plan.torches) (plans ++ plan ∷ [])
 proved_more regions torches plans plan are is = record {
-  of_them = map-append (λ (p : Plan). p.region) plans (plan ∷ []) ∙ ap (λ (l : List Instance). l ++ plan.region ∷ []) are.of_them;
+  of_them = map-append (λ (p : Plan). p.region) plans (plan ∷ []) ∙ ap (λ (l : List Instance). l
+      ++ plan.region ∷ []) are.of_them;
   each = All-append IsProved plans (plan ∷ []) are.each (one IsProved plan is);
-  whole = flat_map-append (λ (p : Plan). p.torches) plans (plan ∷ []) ∙ ap (λ (l : List ℕ). flat_map (λ (p : Plan). p.torches) plans ++ l) (append-nil plan.torches)
+  whole = flat_map-append (λ (p : Plan). p.torches) plans (plan ∷ []) ∙ ap
+      (λ (l : List ℕ). flat_map (λ (p : Plan). p.torches) plans ++ l) (append-nil plan.torches)
       ∙ ap (λ (l : List ℕ). l ++ plan.torches) are.whole;
 }
 
-pub best_more : (turns : Option ℕ) (region : Instance) (cover : Covering) (tree : Tree) (old : Course) (floor : ℕ) → IsBest region cover tree → IsCover cover
+pub best_more : (turns : Option ℕ) (region : Instance) (cover : Covering) (tree : Tree) (old : Course) (floor : ℕ)
+    → IsBest region cover tree → IsCover cover
     → AddsUp (old.torches ++ cover.places) old.floor (length cover.places) floor
     → GoesOn turns region old (course (old.torches ++ cover.places) floor old.stopped
     (old.plans ++ record { region = region; torches = cover.places; tree = tree } ∷ []))
@@ -108,20 +125,24 @@ best_more turns region cover tree old floor best kept sum =
     let bounded : IsBounded part = best_bounded region cover tree best kept in
     record {
       each = λ regions c. part_more regions turns old part floor old.stopped (old.plans ++ plan ∷ []) c bounded sum
-          (λ e. proved_more regions old.torches old.plans plan (c.proved e) (record { cover = bounded.cover; good = best.proved })) c.limited;
+          (λ e. proved_more regions old.torches old.plans plan (c.proved e)
+              (record { cover = bounded.cover; good = best.proved })) c.limited;
     }
 
-pub stopped_more : (turns : Option ℕ) (cover : Covering) (least : ℕ) (old : Course) (floor : ℕ) → IsStopped cover.region turns cover least → IsCover cover
+pub stopped_more : (turns : Option ℕ) (cover : Covering) (least : ℕ) (old : Course) (floor : ℕ)
+    → IsStopped cover.region turns cover least → IsCover cover
     → AddsUp (old.torches ++ cover.places) old.floor least floor
     → GoesOn turns cover.region old (course (old.torches ++ cover.places) floor true old.plans)
 stopped_more turns cover least old floor stops kept sum =
     let part : Bounded = record { region = cover.region; torches = cover.places; floor = least } in
     record {
-      each = λ regions c. part_more regions turns old part floor true old.plans c (record { cover = kept; none_below = stops.none_below }) sum
+      each = λ regions c. part_more regions turns old part floor true old.plans c
+          (record { cover = kept; none_below = stops.none_below }) sum
           (λ e. absurd (true≢false e)) (λ e. stops.limited);
     }
 
-pub none_planned : (turns : Option ℕ) (c : Course) → c.torches ≡ [] → c.floor ≡ 0 → c.stopped ≡ false → c.plans ≡ [] → IsCourse [] turns c
+pub none_planned : (turns : Option ℕ) (c : Course) → c.torches ≡ [] → c.floor ≡ 0 → c.stopped ≡ false → c.plans ≡ []
+    → IsCourse [] turns c
 none_planned turns c t f s p = record {
   parts = [];
   of_them = refl;
@@ -138,18 +159,23 @@ none_planned turns c t f s p = record {
 
 -- ---- the same of what the code has
 
-pub best_added : (turns : Option ℕ) (region : Instance) (cover : Covering) (tree : Tree) (old : Course) (torches : List ℕ) (floor : ℕ) (plans : List Plan) → IsBest region cover tree → IsCover cover
+pub best_added : (turns : Option ℕ) (region : Instance) (cover : Covering) (tree : Tree) (old : Course)
+    (torches : List ℕ) (floor : ℕ) (plans : List Plan) → IsBest region cover tree → IsCover cover
     → torches ≡ old.torches ++ cover.places → AddsUp torches old.floor (length cover.places) floor
     → plans ≡ old.plans ++ record { region = region; torches = cover.places; tree = tree } ∷ []
     → GoesOn turns region old (course torches floor old.stopped plans)
 best_added turns region cover tree old torches floor plans best kept grown sum added =
     subst (λ (ts : List ℕ). GoesOn turns region old (course ts floor old.stopped plans)) (sym grown)
-    (subst (λ (ps : List Plan). GoesOn turns region old (course (old.torches ++ cover.places) floor old.stopped ps)) (sym added)
-    (best_more turns region cover tree old floor best kept (subst (λ (ts : List ℕ). AddsUp ts old.floor (length cover.places) floor) grown sum)))
+    (subst (λ (ps : List Plan). GoesOn turns region old (course (old.torches
+        ++ cover.places) floor old.stopped ps)) (sym added)
+    (best_more turns region cover tree old floor best kept
+        (subst (λ (ts : List ℕ). AddsUp ts old.floor (length cover.places) floor) grown sum)))
 
-pub stopped_added : (turns : Option ℕ) (cover : Covering) (least : ℕ) (old : Course) (torches : List ℕ) (floor : ℕ) → IsStopped cover.region turns cover least → IsCover cover
+pub stopped_added : (turns : Option ℕ) (cover : Covering) (least : ℕ) (old : Course) (torches : List ℕ) (floor : ℕ)
+    → IsStopped cover.region turns cover least → IsCover cover
     → torches ≡ old.torches ++ cover.places → AddsUp torches old.floor least floor
     → GoesOn turns cover.region old (course torches floor true old.plans)
 stopped_added turns cover least old torches floor stops kept grown sum =
     subst (λ (ts : List ℕ). GoesOn turns cover.region old (course ts floor true old.plans)) (sym grown)
-    (stopped_more turns cover least old floor stops kept (subst (λ (ts : List ℕ). AddsUp ts old.floor least floor) grown sum))
+    (stopped_more turns cover least old floor stops kept
+        (subst (λ (ts : List ℕ). AddsUp ts old.floor least floor) grown sum))

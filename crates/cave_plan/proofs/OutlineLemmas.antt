@@ -1,7 +1,9 @@
 -- The plan of a cave, from those of its regions.
-use Rattle.std.proofs.Common.{◌≡◌, ℕ, ◌<◌, ◌≤◌, Bool, true, false, List, [], ◌∷◌, ◌++◌, length, map, All, Contains, refl, sym, ap, subst, ◌∙◌, Option, Some, None, inl, inr}
+use Rattle.std.proofs.Common.{◌≡◌, ℕ, ◌<◌, ◌≤◌, Bool, true, false, List, [], ◌∷◌, ◌++◌, length, map, All, Contains}
+use Rattle.std.proofs.Common.{refl, sym, ap, subst, ◌∙◌, Option, Some, None, inl, inr}
 use Rattle.std.specs.Prelude.{flat_map, IsSome}
-use Rattle.std.proofs.lemmas.List.Elements.{All-head, All-tail, All-cons, All-nil, Contains-append_cases, Contains-append_left, Contains-append_right}
+use Rattle.std.proofs.lemmas.List.Elements.{All-head, All-tail, All-cons, All-nil, Contains-append_cases}
+use Rattle.std.proofs.lemmas.List.Elements.{Contains-append_left, Contains-append_right}
 use Rattle.scan_core.specs.Box.{cell_count}
 use Rattle.cave_model.specs.Cave.{Cave, IsSound, IsWorld}
 use Rattle.cave_model.specs.Plan.{Torch, IsSafe}
@@ -19,7 +21,8 @@ use Rattle.proof_tree.specs.Order.{in_order}
 use Rattle.proof_tree.specs.Planned.{Plan, section_of, IsBestOf, AreBestOf}
 use Rattle.proof_tree.proofs.OrderLemmas.{has_ordered, ordered_has}
 use Rattle.plan_laws.specs.Best.{AreTorchesOf}
-use Rattle.plan_laws.specs.Bounded.{Bounded, IsBoundedIn, AreBoundedIn, AreInOrder, IsPlanWithin, all_torches, total_floor}
+use Rattle.plan_laws.specs.Bounded.{Bounded, IsBoundedIn, AreBoundedIn, AreInOrder, IsPlanWithin, all_torches}
+use Rattle.plan_laws.specs.Bounded.{total_floor}
 use Rattle.plan_laws.proofs.PartLemmas.{torches_are, are_apart, plan_within, legal_places}
 use Rattle.plan_laws.proofs.AcceptedLemmas.{fewest, place_inside}
 use Rattle.cave_plan.specs.Course.{Course, IsBounded, IsProved, AreProved, IsCourse, floor_if}
@@ -34,25 +37,32 @@ cells_by : {X : Type 0} (f : X → Instance) (xs : List X) → cells_of_each (ma
 cells_by f [] = refl
 cells_by f (x ∷ xs) = ap (λ (l : List (List ℕ)). (f x).cells ∷ l) (cells_by f xs)
 
-regions_by : {X : Type 0} (cave : Cave) (regions : List Instance) (f : X → Instance) (xs : List X) → map f xs ≡ regions → AreRegions cave (cells_of_each regions)
+regions_by : {X : Type 0} (cave : Cave) (regions : List Instance) (f : X → Instance) (xs : List X)
+    → map f xs ≡ regions → AreRegions cave (cells_of_each regions)
     → AreRegions cave (map (λ x. (f x).cells) xs)
-regions_by cave regions f xs e are = subst (AreRegions cave) (cells_by f xs) (subst (λ (l : List Instance). AreRegions cave (cells_of_each l)) (sym e) are)
+regions_by cave regions f xs e are = subst (AreRegions cave) (cells_by f xs)
+    (subst (λ (l : List Instance). AreRegions cave (cells_of_each l)) (sym e) are)
 
-each_bounded : (cave : Cave) (parts : List Bounded) → All IsBounded parts → All (AgreesIn cave) (map (λ part. part.region) parts) → All (IsBoundedIn cave) parts
+each_bounded : (cave : Cave) (parts : List Bounded) → All IsBounded parts
+    → All (AgreesIn cave) (map (λ part. part.region) parts) → All (IsBoundedIn cave) parts
 each_bounded cave [] all agree = All-nil (IsBoundedIn cave)
 each_bounded cave (p ∷ ps) all agree =
     let rest = map (λ (part : Bounded). part.region) ps in
     let is = All-head IsBounded p ps all in
-    All-cons (IsBoundedIn cave) p ps (record { agrees = All-head (AgreesIn cave) p.region rest agree; cover = is.cover; none_below = is.none_below })
+    All-cons (IsBoundedIn cave) p ps (record { agrees = All-head (AgreesIn cave) p.region rest agree; cover =
+        is.cover; none_below = is.none_below })
     (each_bounded cave ps (All-tail IsBounded p ps all) (All-tail (AgreesIn cave) p.region rest agree))
 
-each_best : (cave : Cave) (plans : List Plan) → All IsProved plans → All IsRegion (map (λ plan. plan.region) plans) → All (AgreesIn cave) (map (λ plan. plan.region) plans) → All (IsBestOf cave) plans
+each_best : (cave : Cave) (plans : List Plan) → All IsProved plans → All IsRegion (map (λ plan. plan.region) plans)
+    → All (AgreesIn cave) (map (λ plan. plan.region) plans) → All (IsBestOf cave) plans
 each_best cave [] all kept agree = All-nil (IsBestOf cave)
 each_best cave (p ∷ ps) all kept agree =
     let rest = map (λ (plan : Plan). plan.region) ps in
     let is = All-head IsProved p ps all in
-    All-cons (IsBestOf cave) p ps (record { kept = All-head IsRegion p.region rest kept; agrees = All-head (AgreesIn cave) p.region rest agree; cover = is.cover; good = is.good })
-    (each_best cave ps (All-tail IsProved p ps all) (All-tail IsRegion p.region rest kept) (All-tail (AgreesIn cave) p.region rest agree))
+    All-cons (IsBestOf cave) p ps (record { kept = All-head IsRegion p.region rest kept; agrees = All-head
+        (AgreesIn cave) p.region rest agree; cover = is.cover; good = is.good })
+    (each_best cave ps (All-tail IsProved p ps all) (All-tail IsRegion p.region rest kept)
+        (All-tail (AgreesIn cave) p.region rest agree))
 
 -- ---- torches, in order or not
 
@@ -76,7 +86,8 @@ to_loose (p ∷ ps) x h = elim (Contains-append_cases (in_order p.torches) (orde
   | inr h ↦ Contains-append_right p.torches (loose ps) x (to_loose ps x h)
 ]
 
-of_plans : (plans : List Plan) (torches cells : List ℕ) → loose plans ≡ torches → Lists (Contains torches) cells → AreTorchesOf plans cells
+of_plans : (plans : List Plan) (torches cells : List ℕ) → loose plans ≡ torches → Lists (Contains torches) cells
+    → AreTorchesOf plans cells
 of_plans plans torches cells e order = record {
   ascending = order.ascending;
   exact = λ x. (
@@ -87,7 +98,8 @@ of_plans plans torches cells e order = record {
 
 -- ---- the plan
 
-module _ (cave : Cave) (turns : Option ℕ) (regions : List Instance) (c : Course) (world : IsWorld cave) (are : AreRegionsIn cave regions) (is : IsCourse regions turns c)
+module _ (cave : Cave) (turns : Option ℕ) (regions : List Instance) (c : Course) (world : IsWorld cave)
+    (are : AreRegionsIn cave regions) (is : IsCourse regions turns c)
     (cells : List ℕ) (order : Lists (Contains c.torches) cells) where
   bounded : AreBoundedIn cave is.parts
   bounded = record {
@@ -101,7 +113,8 @@ module _ (cave : Cave) (turns : Option ℕ) (regions : List Instance) (c : Cours
   pub inside : All (λ cell. cell < cell_count cave.size) cells
   inside =
       let torches = torches_are cave is.parts bounded.each (are_apart cave is.parts bounded.regions.apart) in
-      all_members (λ cell. cell < cell_count cave.size) cells (λ p h. place_inside cave p world.sound (torches.legal p ((in_parts.exact p).0 h)))
+      all_members (λ cell. cell < cell_count cave.size) cells
+          (λ p h. place_inside cave p world.sound (torches.legal p ((in_parts.exact p).0 h)))
 
   stopped_at : (text : List ℕ) → c.stopped ≡ true → Prints cave cells (Some c.floor) text → IsStoppedAt cave turns text
   stopped_at text e prints = record {
@@ -117,18 +130,22 @@ module _ (cave : Cave) (turns : Option ℕ) (regions : List Instance) (c : Cours
       let proved = is.proved e in
       let best : AreBestOf cave c.plans = record {
         regions = regions_by cave regions (λ (plan : Plan). plan.region) c.plans proved.of_them are.parts;
-        each = each_best cave c.plans proved.each (subst (All IsRegion) (sym proved.of_them) are.each) (subst (All (AgreesIn cave)) (sym proved.of_them) are.agree);
+        each = each_best cave c.plans proved.each (subst (All IsRegion) (sym proved.of_them) are.each)
+            (subst (All (AgreesIn cave)) (sym proved.of_them) are.agree);
       } in
       let of_them = of_plans c.plans c.torches cells proved.whole order in
-      record { world = world; torches = cells; best = fewest cave c.plans world best cells of_them; prints = prints; plans_are = best; of_plans = of_them }
+      record { world = world; torches = cells; best = fewest cave c.plans world best cells of_them; prints = prints;
+          plans_are = best; of_plans = of_them }
 
-  pub outlines : (stopped : Bool) (text : List ℕ) → c.stopped ≡ stopped → Prints cave cells (floor_if stopped c.floor) text → IsOutlineOf cave turns text stopped c.plans
+  pub outlines : (stopped : Bool) (text : List ℕ) → c.stopped ≡ stopped
+      → Prints cave cells (floor_if stopped c.floor) text → IsOutlineOf cave turns text stopped c.plans
   outlines true text e prints = stopped_at text e prints
   outlines false text e prints = planned_to_end text e prints
 
 -- ---- no plan
 
-pub none_safe : (cave : Cave) (cell : ℕ) (torches : List Torch) → IsSound cave → IsUnlightable cave cell → IsSafe cave torches → ⊥
+pub none_safe : (cave : Cave) (cell : ℕ) (torches : List Torch) → IsSound cave → IsUnlightable cave cell
+    → IsSafe cave torches → ⊥
 none_safe cave cell torches sound is safe =
     let cover = safe_covers cave torches sound safe in
     let by = cover.covered cell is.dark in

@@ -1,5 +1,6 @@
 -- The plans of regions, as far as they go. This is this project's own.
-use Rattle.std.specs.Prelude.{◌≡◌, ℕ, Bool, true, false, List, [], ◌∷◌, ◌++◌, length, map, flat_map, All, Option, Some, None, IsSome, if◌then◌else◌}
+use Rattle.std.specs.Prelude.{◌≡◌, ℕ, Bool, true, false, List, [], ◌∷◌, ◌++◌, length, map, flat_map, All, Option}
+use Rattle.std.specs.Prelude.{Some, None, IsSome, if◌then◌else◌}
 use Rattle.set_cover.specs.Instance.{Instance, of_instance}
 use Rattle.proof_rules.specs.Good.{Good}
 use Rattle.cave_regions.specs.Cover.{IsCoverOfRegion}

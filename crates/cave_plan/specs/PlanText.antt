@@ -1,6 +1,7 @@
 -- What is printed of a plan: how many torches and dark cells there are, a line a torch, and each layer with a torch.
 -- The text is this project's own.
-use Rattle.std.specs.Prelude.{ℕ, zero, suc, Bool, nat_eq, nat_lt, if◌then◌else◌, List, [], ◌++◌, length, codes, Option, Some, None, unwrap_or}
+use Rattle.std.specs.Prelude.{ℕ, zero, suc, Bool, nat_eq, nat_lt, if◌then◌else◌, List, [], ◌++◌, length, codes}
+use Rattle.std.specs.Prelude.{Option, Some, None, unwrap_or}
 use Rattle.std.specs.Fmt.{decimal}
 use Rattle.std.specs.List.{flat_map, list_any}
 use Rattle.scan_core.specs.Box.{coordinates, number}
@@ -37,7 +38,8 @@ block_mark class = if nat_lt 0 class.emission then codes "*" else (if class.free
 
 -- a new torch by its hang, else what the cell holds
 abbrev pub mark_at : Cave → List ℕ → ℕ → List ℕ
-mark_at cave torches cell = if is_torch torches cell then hang_mark (hang_at cave cell) else block_mark (class_at cave cell)
+mark_at cave torches cell = if is_torch torches cell then hang_mark (hang_at cave cell)
+    else block_mark (class_at cave cell)
 
 -- the texts of the first so many, one after another
 unfoldable pub up_to : (ℕ → List ℕ) → ℕ → List ℕ
@@ -46,7 +48,8 @@ up_to text (suc n) = up_to text n ++ text n
 
 -- the cells of a row, and a line feed
 abbrev pub row_text : Cave → List ℕ → ℕ → ℕ → List ℕ
-row_text cave torches y z = up_to (λ x. mark_at cave torches (number cave.size (record { x = x; y = y; z = z }))) cave.size.x ++ codes "\n"
+row_text cave torches y z =
+    up_to (λ x. mark_at cave torches (number cave.size (record { x = x; y = y; z = z }))) cave.size.x ++ codes "\n"
 
 -- a torch stands in the layer
 abbrev pub has_torch : Cave → List ℕ → ℕ → Bool
@@ -62,15 +65,19 @@ layer_if cave torches y = if has_torch cave torches y then layer_text cave torch
 
 -- a torch on a line of its own
 abbrev pub torch_line : Cave → ℕ → List ℕ
-torch_line cave cell = codes "T " ++ (decimal (coordinates cave.size cell).x ++ (codes " " ++ (decimal (coordinates cave.size cell).y
-    ++ (codes " " ++ (decimal (coordinates cave.size cell).z ++ (codes " " ++ (hang_word (hang_at cave cell) ++ codes "\n")))))))
+torch_line cave cell = codes "T " ++ (decimal (coordinates cave.size cell).x
+    ++ (codes " " ++ (decimal (coordinates cave.size cell).y
+    ++ (codes " " ++ (decimal (coordinates cave.size cell).z
+        ++ (codes " " ++ (hang_word (hang_at cave cell) ++ codes "\n")))))))
 
 -- how many torches and dark cells; of a stopped plan also the number that no safe torches are fewer than
 abbrev pub head_text : ℕ → ℕ → Option ℕ → List ℕ
 head_text torches dark None = codes "torches " ++ (decimal torches ++ (codes "\ndark " ++ (decimal dark ++ codes "\n")))
 head_text torches dark (Some floor) =
-    codes "torches " ++ (decimal torches ++ (codes " at-least " ++ (decimal floor ++ (codes "\ndark " ++ (decimal dark ++ codes "\n")))))
+    codes "torches " ++ (decimal torches ++ (codes " at-least "
+        ++ (decimal floor ++ (codes "\ndark " ++ (decimal dark ++ codes "\n")))))
 
 -- the text of these torches, in the order of their cells, of a cave with so many dark cells
 abbrev pub plan_text : Cave → List ℕ → ℕ → Option ℕ → List ℕ
-plan_text cave torches dark floor = head_text (length torches) dark floor ++ (flat_map (torch_line cave) torches ++ up_to (layer_if cave torches) cave.size.y)
+plan_text cave torches dark floor = head_text (length torches) dark floor
+    ++ (flat_map (torch_line cave) torches ++ up_to (layer_if cave torches) cave.size.y)

@@ -1,5 +1,6 @@
 -- What a check answers, from what its parts do.
-use Rattle.std.proofs.Common.{◌≡◌, ◌≢◌, ℕ, ◌<◌, ◌≤◌, List, length, Option, Some, None, Result, Ok, Err, refl, sym, ap, subst, ◌∙◌, ◌⊎◌, inl, inr}
+use Rattle.std.proofs.Common.{◌≡◌, ◌≢◌, ℕ, ◌<◌, ◌≤◌, List, length, Option, Some, None, Result, Ok, Err, refl, sym, ap}
+use Rattle.std.proofs.Common.{subst, ◌∙◌, ◌⊎◌, inl, inr}
 use Rattle.std.specs.Prelude.{IfSome, MatchResult}
 use Rattle.cave_model.specs.Bytes as caves
 use Rattle.cave_model.specs.Rule.{Rule}
@@ -24,12 +25,14 @@ use Rattle.cave_runs.proofs.RunLemmas.{input_fault}
 -- ---- verdicts
 
 -- an excuse does for any verdict
-pub excused : (r : Result Verdict RunFault) (e : RunFault) (structure table : Option (List ℕ)) (rule : Rule) (certificate : Option (List ℕ)) → r ≡ Err e → IsExcuse e → SaysIt structure table rule certificate r
+pub excused : (r : Result Verdict RunFault) (e : RunFault) (structure table : Option (List ℕ)) (rule : Rule)
+    (certificate : Option (List ℕ)) → r ≡ Err e → IsExcuse e → SaysIt structure table rule certificate r
 excused r e None table rule certificate is excuse = tt
 excused r e (Some bytes) table rule None is excuse = tt
 excused r e (Some bytes) table rule (Some text) is excuse = λ verdict judged. rw is excuse
 
-pub reading_excuse : (e : RunFault) (input : Input) → (e ≡ faults.ReadFailed) ⊎ (e ≡ faults.TooLong input) ⊎ (e ≡ faults.OutOfMemory) → IsExcuse e
+pub reading_excuse : (e : RunFault) (input : Input) → (e ≡ faults.ReadFailed) ⊎ (e ≡ faults.TooLong input)
+    ⊎ (e ≡ faults.OutOfMemory) → IsExcuse e
 reading_excuse e input (inl failed) = inl failed
 reading_excuse e input (inr (inl long)) = inr (inr (inr (input, long)))
 reading_excuse e input (inr (inr none)) = inr (inr (inl none))
@@ -40,15 +43,20 @@ check_excuse e (inr (inl long)) = inr (inr (inr (ProofInput, ap of_check long)))
 check_excuse e (inr (inr none)) = inr (inr (inl (ap of_check none)))
 
 -- what is answered of the bytes that were read, said of those that the reader had
-pub said : (inner : Result Verdict CheckFault) (r : Result Verdict RunFault) (structure : Option (List ℕ)) (bytes : List ℕ) (table : Option (List ℕ)) (rule : Rule) (certificate : Option (List ℕ)) → IfSome structure (λ b. bytes ≡ b)
-    → IfSome certificate (λ text. (verdict : Verdict) → IsJudged bytes table rule text verdict → IsReadAnswer inner verdict)
+pub said : (inner : Result Verdict CheckFault) (r : Result Verdict RunFault) (structure : Option (List ℕ))
+    (bytes : List ℕ) (table : Option (List ℕ)) (rule : Rule) (certificate : Option (List ℕ))
+        → IfSome structure (λ b. bytes ≡ b)
+    → IfSome certificate (λ text. (verdict : Verdict) → IsJudged bytes table rule text verdict
+        → IsReadAnswer inner verdict)
     → ((verdict : Verdict) → IsReadAnswer inner verdict → IsSaid r verdict) → SaysIt structure table rule certificate r
 said inner r None bytes table rule certificate same only lifted = tt
 said inner r (Some b) bytes table rule None same only lifted = tt
 said inner r (Some b) bytes table rule (Some text) same only lifted =
-    λ verdict judged. lifted verdict (only verdict (subst (λ (x : List ℕ). IsJudged x table rule text verdict) (sym same) judged))
+    λ verdict judged. lifted verdict (only verdict (subst (λ (x : List ℕ). IsJudged x table rule text verdict)
+        (sym same) judged))
 
-pub said_err : (e : CheckFault) (f : RunFault) (r : Result Verdict RunFault) → r ≡ Err f → f ≡ of_check e → (verdict : Verdict) → IsReadAnswer (Err e) verdict → IsSaid r verdict
+pub said_err : (e : CheckFault) (f : RunFault) (r : Result Verdict RunFault) → r ≡ Err f → f ≡ of_check e
+    → (verdict : Verdict) → IsReadAnswer (Err e) verdict → IsSaid r verdict
 said_err e f r is same verdict answer = rw is (subst IsExcuse (sym same) (check_excuse e answer))
 
 -- ---- faults
@@ -59,28 +67,39 @@ of_both e (cave.Table f) is = ap of_check is
 of_both e (cave.Build f) is = ap of_check is
 of_both e cave.OutOfMemory is = ap of_check is
 
-told_fault : (bytes : List ℕ) (table : Option (List ℕ)) (e : CheckFault) → verdicts.IsFaultOfBytes bytes table e → IsFaultOfBytes bytes table (of_check e)
+told_fault : (bytes : List ℕ) (table : Option (List ℕ)) (e : CheckFault) → verdicts.IsFaultOfBytes bytes table e
+    → IsFaultOfBytes bytes table (of_check e)
 told_fault bytes table e (inner, is, same) = (inner, is, of_both e inner same)
 
-pub no_verdict : (e : CheckFault) (structure : Option (List ℕ)) (bytes : List ℕ) (table certificate : Option (List ℕ)) → IfSome structure (λ b. bytes ≡ b) → length bytes ≤ structure_limit
-    → ((¬ IsOfReading e) → verdicts.IsFaultOfBytes bytes table e) → (e ≡ check.TooLong → IfSome certificate (λ text. proof_limit < length text))
+pub no_verdict : (e : CheckFault) (structure : Option (List ℕ)) (bytes : List ℕ)
+    (table certificate : Option (List ℕ)) → IfSome structure (λ b. bytes ≡ b) → length bytes ≤ structure_limit
+    → ((¬ IsOfReading e) → verdicts.IsFaultOfBytes bytes table e)
+        → (e ≡ check.TooLong → IfSome certificate (λ text. proof_limit < length text))
     → IsOfInput (of_check e) → IsNoVerdict structure table certificate (of_check e)
 no_verdict e structure bytes table certificate same within told long of_input = by e told long of_input
   where
-    of_cave : (e : CheckFault) → verdicts.IsFaultOfBytes bytes table e → IsNoVerdict structure table certificate (of_check e)
+    of_cave : (e : CheckFault) → verdicts.IsFaultOfBytes bytes table e
+        → IsNoVerdict structure table certificate (of_check e)
     of_cave e is = inl (input_fault structure bytes table (of_check e) same within (told_fault bytes table e is))
 
-    by : (e : CheckFault) → ((¬ IsOfReading e) → verdicts.IsFaultOfBytes bytes table e) → (e ≡ check.TooLong → IfSome certificate (λ text. proof_limit < length text)) → IsOfInput (of_check e) → IsNoVerdict structure table certificate (of_check e)
-    by (check.Scan f) told long of_input = of_cave (check.Scan f) (told (λ r. elim r [ inl e ↦ cc | inr r ↦ elim r [ inl e ↦ cc | inr e ↦ cc ] ]))
-    by (check.Table f) told long of_input = of_cave (check.Table f) (told (λ r. elim r [ inl e ↦ cc | inr r ↦ elim r [ inl e ↦ cc | inr e ↦ cc ] ]))
-    by (check.Build f) told long of_input = of_cave (check.Build f) (told (λ r. elim r [ inl e ↦ cc | inr r ↦ elim r [ inl e ↦ cc | inr e ↦ cc ] ]))
+    by : (e : CheckFault) → ((¬ IsOfReading e) → verdicts.IsFaultOfBytes bytes table e)
+        → (e ≡ check.TooLong → IfSome certificate (λ text. proof_limit < length text)) → IsOfInput (of_check e)
+            → IsNoVerdict structure table certificate (of_check e)
+    by (check.Scan f) told long of_input = of_cave (check.Scan f)
+        (told (λ r. elim r [ inl e ↦ cc | inr r ↦ elim r [ inl e ↦ cc | inr e ↦ cc ] ]))
+    by (check.Table f) told long of_input = of_cave (check.Table f)
+        (told (λ r. elim r [ inl e ↦ cc | inr r ↦ elim r [ inl e ↦ cc | inr e ↦ cc ] ]))
+    by (check.Build f) told long of_input = of_cave (check.Build f)
+        (told (λ r. elim r [ inl e ↦ cc | inr r ↦ elim r [ inl e ↦ cc | inr e ↦ cc ] ]))
     by check.ReadFailed told long of_input = absurd (of_input.0 refl)
     by check.TooLong told long of_input = inr (refl, long refl)
     by check.OutOfMemory told long of_input = absurd (of_input.2 refl)
 
 -- a fault of the bytes is answered as that of the check, or another one is in the way
-pub unsaid : (bytes : List ℕ) (table : Option (List ℕ)) (e : CheckFault) → ((f : CheckFault) → verdicts.IsFaultOfBytes bytes table f → (e ≡ f) ⊎ IsOfReading e)
-    → (due : RunFault) → IsFaultOfBytes bytes table due → (of_check e ≡ due) ⊎ (of_check e ≡ faults.ReadFailed) ⊎ (of_check e ≡ faults.TooLong ProofInput) ⊎ (of_check e ≡ faults.OutOfMemory)
+pub unsaid : (bytes : List ℕ) (table : Option (List ℕ)) (e : CheckFault)
+    → ((f : CheckFault) → verdicts.IsFaultOfBytes bytes table f → (e ≡ f) ⊎ IsOfReading e)
+    → (due : RunFault) → IsFaultOfBytes bytes table due → (of_check e ≡ due) ⊎ (of_check e ≡ faults.ReadFailed)
+        ⊎ (of_check e ≡ faults.TooLong ProofInput) ⊎ (of_check e ≡ faults.OutOfMemory)
 unsaid bytes table e refused due (inner, is, same) = elim (refused (check_faults.of_cave inner) (inner, is, refl)) [
   | inl e ↦ inl (ap of_check e ∙ of_both (check_faults.of_cave inner) inner refl ∙ sym same)
   | inr r ↦ inr (elim r [
@@ -93,5 +112,7 @@ unsaid bytes table e refused due (inner, is, same) = elim (refused (check_faults
 ]
 
 -- where there is a verdict, no fault is due
-pub none_due : (bytes : List ℕ) (table : Option (List ℕ)) → ((f : CheckFault) → verdicts.IsFaultOfBytes bytes table f → ⊥) → (due : RunFault) → IsFaultOfBytes bytes table due → ⊥
+pub none_due : (bytes : List ℕ) (table : Option (List ℕ))
+    → ((f : CheckFault) → verdicts.IsFaultOfBytes bytes table f → ⊥) → (due : RunFault)
+        → IsFaultOfBytes bytes table due → ⊥
 none_due bytes table clean due (inner, is, same) = clean (check_faults.of_cave inner) (inner, is, refl)

@@ -1,5 +1,6 @@
 -- What a plan writes, and what its faults leave.
-use Rattle.std.proofs.Common.{◌≡◌, ◌≢◌, ℕ, ◌≤◌, Bool, true, false, List, [], ◌++◌, length, map, Contains, Option, Some, None, Result, Ok, Err, refl, sym, ap, subst, ◌∙◌, ◌⊎◌, inl, inr, arith}
+use Rattle.std.proofs.Common.{◌≡◌, ◌≢◌, ℕ, ◌≤◌, Bool, true, false, List, [], ◌++◌, length, map, Contains, Option}
+use Rattle.std.proofs.Common.{Some, None, Result, Ok, Err, refl, sym, ap, subst, ◌∙◌, ◌⊎◌, inl, inr, arith}
 use Rattle.std.specs.Prelude.{IfErr, IfSome, OnErr, OnOk, MatchResult}
 use Rattle.std.specs.Io.KnownBytes.{Appends, Keeps}
 use Rattle.std.proofs.KnownBytes.{Keeps-refl}
@@ -28,7 +29,8 @@ use Rattle.plan_laws.proofs.PartLemmas.{same_number}
 use Rattle.cave_plan.specs.Outline.{IsPlanned, IsStoppedAt, IsOutlineOf}
 use Rattle.cave_runs.specs.Faults.{of_cave, of_write}
 use Rattle.cave_runs.specs.Limits.{structure_limit}
-use Rattle.cave_runs.specs.PlanRuns.{WritesBest, WritesFloor, EndsIn, Plans, AreTextsOf, Begins, BeginsPlan, Leaves, LeavesIn, LeavesProved, IsUnlit, IsNoPlan, IsNoPlanOfInput}
+use Rattle.cave_runs.specs.PlanRuns.{WritesBest, WritesFloor, EndsIn, Plans, AreTextsOf, Begins, BeginsPlan, Leaves}
+use Rattle.cave_runs.specs.PlanRuns.{LeavesIn, LeavesProved, IsUnlit, IsNoPlan, IsNoPlanOfInput}
 use Rattle.cave_runs.specs.Runs.{IsFaultOfBytes, IsRefusal, IsRefusedRun}
 use Rattle.cave_runs.proofs.RunLemmas.{cave_refused, cave_clean}
 use Rattle.cave_runs.specs.declared.fault.RunFault.{RunFault}
@@ -38,8 +40,10 @@ use Rattle.cave_runs.specs.declared.plan.Outcome.TheVariants.{Done, Stopped}
 
 -- ---- what is written
 
-pub writes_best : (cave : Cave) (text : List ℕ) (plans : List Plan) (old new proof_old proof_new : Option (List ℕ)) → IsPlanned cave text plans
-    → Appends old new text → Appends proof_old proof_new (certificate_text cave plans) → WritesBest cave old new proof_old proof_new
+pub writes_best : (cave : Cave) (text : List ℕ) (plans : List Plan) (old new proof_old proof_new : Option (List ℕ))
+    → IsPlanned cave text plans
+    → Appends old new text → Appends proof_old proof_new (certificate_text cave plans)
+        → WritesBest cave old new proof_old proof_new
 writes_best cave text plans old new proof_old proof_new is written proved = record {
   torches = is.torches;
   best = is.best;
@@ -51,11 +55,13 @@ writes_best cave text plans old new proof_old proof_new is written proved = reco
   accepted = accepted cave plans is.world is.plans_are;
   same = is.of_plans.exact;
   number = same_number cave (map part_of plans) is.torches (best_are_bounded cave plans is.plans_are)
-      (subst (λ (l : List ℕ). Lists (Contains l) is.torches) (sym (section_torches plans)) is.of_plans) ∙ ap length (section_torches plans);
+      (subst (λ (l : List ℕ). Lists (Contains l) is.torches) (sym (section_torches plans)) is.of_plans) ∙ ap length
+          (section_torches plans);
   proved = proved;
 }
 
-pub writes_floor : (cave : Cave) (turns : Option ℕ) (text : List ℕ) (old new proof : Option (List ℕ)) → IsStoppedAt cave turns text → Appends old new text
+pub writes_floor : (cave : Cave) (turns : Option ℕ) (text : List ℕ) (old new proof : Option (List ℕ))
+    → IsStoppedAt cave turns text → Appends old new text
     → WritesFloor cave turns old new proof proof
 writes_floor cave turns text old new proof is written = record {
   limited = is.limited;
@@ -77,44 +83,59 @@ all_is_part : (old new : Option (List ℕ)) (text : List ℕ) → Appends old ne
 all_is_part old new text taken = (text, [], sym (append-nil text), taken)
 
 -- the certificate wasn't written whole
-pub certificate_failed : (fault : WriteFault) (cave : Cave) (text : List ℕ) (plans : List Plan) (same proof_old proof_new : Option (List ℕ)) → IsPlanned cave text plans
-    → AppendsPart proof_old proof_new (certificate_text cave plans) → LeavesProved (of_write fault) cave same same proof_old proof_new
-certificate_failed fault cave text plans same proof_old proof_new is part = record { each = λ turns. by fault (begun turns) }
+pub certificate_failed : (fault : WriteFault) (cave : Cave) (text : List ℕ) (plans : List Plan)
+    (same proof_old proof_new : Option (List ℕ)) → IsPlanned cave text plans
+    → AppendsPart proof_old proof_new (certificate_text cave plans)
+        → LeavesProved (of_write fault) cave same same proof_old proof_new
+certificate_failed fault cave text plans same proof_old proof_new is part = record
+    { each = λ turns. by fault (begun turns) }
   where
     begun : (turns : Option ℕ) → Begins cave turns same same proof_old proof_new
-    begun turns = record { text = text; proof = certificate_text cave plans; are = inl (plans, is, refl); written = part_none same text; proved = part }
+    begun turns = record { text = text; proof = certificate_text cave plans; are = inl (plans, is, refl); written =
+        part_none same text; proved = part }
 
-    by : (fault : WriteFault) {turns : Option ℕ} → Begins cave turns same same proof_old proof_new → LeavesIn (of_write fault) cave turns same same proof_old proof_new
+    by : (fault : WriteFault) {turns : Option ℕ} → Begins cave turns same same proof_old proof_new
+        → LeavesIn (of_write fault) cave turns same same proof_old proof_new
     by writing.WriteFailed b = b
     by writing.OutOfMemory b = (Keeps-refl same, b)
 
 -- the text wasn't written whole
-pub text_failed : (fault : RunFault) (cave : Cave) (text : List ℕ) (plans : List Plan) (old new proof_old proof_new : Option (List ℕ)) → fault ≡ faults.WriteFailed → IsPlanned cave text plans
-    → AppendsFront old new text → Appends proof_old proof_new (certificate_text cave plans) → LeavesProved fault cave old new proof_old proof_new
+pub text_failed : (fault : RunFault) (cave : Cave) (text : List ℕ) (plans : List Plan)
+    (old new proof_old proof_new : Option (List ℕ)) → fault ≡ faults.WriteFailed → IsPlanned cave text plans
+    → AppendsFront old new text → Appends proof_old proof_new (certificate_text cave plans)
+        → LeavesProved fault cave old new proof_old proof_new
 text_failed fault cave text plans old new proof_old proof_new failed is front proved = record {
   each = λ turns. subst (λ (f : RunFault). LeavesIn f cave turns old new proof_old proof_new) (sym failed)
-      (record { text = text; proof = certificate_text cave plans; are = inl (plans, is, refl); written = front_is_part old new text front; proved = all_is_part proof_old proof_new (certificate_text cave plans) proved });
+      (record { text = text; proof = certificate_text cave plans; are = inl (plans, is, refl); written =
+          front_is_part old new text front; proved = all_is_part proof_old proof_new (certificate_text cave plans)
+              proved });
 }
 
-pub stop_failed : (fault : RunFault) (cave : Cave) (turns : Option ℕ) (text : List ℕ) (old new proof : Option (List ℕ)) → fault ≡ faults.WriteFailed → IsStoppedAt cave turns text
+pub stop_failed : (fault : RunFault) (cave : Cave) (turns : Option ℕ) (text : List ℕ)
+    (old new proof : Option (List ℕ)) → fault ≡ faults.WriteFailed → IsStoppedAt cave turns text
     → AppendsFront old new text → LeavesIn fault cave turns old new proof proof
 stop_failed fault cave turns text old new proof failed is front =
     subst (λ (f : RunFault). LeavesIn f cave turns old new proof proof) (sym failed)
-    (record { text = text; proof = []; are = inr (is, refl); written = front_is_part old new text front; proved = part_none proof [] })
+    (record { text = text; proof = []; are = inr (is, refl); written = front_is_part old new text front; proved =
+        part_none proof [] })
 
 -- ---- the whole run
 
-pub leaves : (fault : RunFault) (known : Option (List ℕ)) (bytes : List ℕ) (table : Option (List ℕ)) (rule : Rule) (turns : Option ℕ) (cave : Cave) (old new proof_old proof_new : Option (List ℕ))
-    → IfSome known (λ b. bytes ≡ b) → IsCaveOfBytes bytes table rule cave → LeavesIn fault cave turns old new proof_old proof_new
+pub leaves : (fault : RunFault) (known : Option (List ℕ)) (bytes : List ℕ) (table : Option (List ℕ)) (rule : Rule)
+    (turns : Option ℕ) (cave : Cave) (old new proof_old proof_new : Option (List ℕ))
+    → IfSome known (λ b. bytes ≡ b) → IsCaveOfBytes bytes table rule cave
+        → LeavesIn fault cave turns old new proof_old proof_new
     → Leaves fault known table rule turns old new proof_old proof_new
 leaves fault known bytes table rule turns cave old new proof_old proof_new same told left = by fault left
   where
     begins : (k : Option (List ℕ)) → IfSome k (λ b. bytes ≡ b) → Begins cave turns old new proof_old proof_new
         → IfSome k (λ b. BeginsPlan b table rule turns old new proof_old proof_new)
     begins None e b = tt
-    begins (Some k) e b = record { cave = cave; told = subst (λ (x : List ℕ). IsCaveOfBytes x table rule cave) e told; begins = b }
+    begins (Some k) e b = record { cave = cave; told = subst (λ (x : List ℕ). IsCaveOfBytes x table rule cave) e
+        told; begins = b }
 
-    by : (f : RunFault) → LeavesIn f cave turns old new proof_old proof_new → Leaves f known table rule turns old new proof_old proof_new
+    by : (f : RunFault) → LeavesIn f cave turns old new proof_old proof_new
+        → Leaves f known table rule turns old new proof_old proof_new
     by faults.WriteFailed b = begins known same b
     by faults.OutOfMemory b = (b.0, inr (begins known same b.1))
     by faults.ReadFailed b = absurd b
@@ -126,7 +147,8 @@ leaves fault known bytes table rule turns cave old new proof_old proof_new same 
     by faults.NoThread b = absurd b
 
 -- a fault that isn't one of writing leaves all as it was
-pub leaves_all : (fault : RunFault) (known : Option (List ℕ)) (table : Option (List ℕ)) (rule : Rule) (turns : Option ℕ) (w v : Option (List ℕ)) → fault ≢ faults.WriteFailed
+pub leaves_all : (fault : RunFault) (known : Option (List ℕ)) (table : Option (List ℕ)) (rule : Rule)
+    (turns : Option ℕ) (w v : Option (List ℕ)) → fault ≢ faults.WriteFailed
     → Leaves fault known table rule turns w w v v
 leaves_all faults.WriteFailed known table rule turns w v other = absurd (other refl)
 leaves_all faults.OutOfMemory known table rule turns w v other = (Keeps-refl w, inl (Keeps-refl v))
@@ -138,8 +160,10 @@ leaves_all (faults.Build f) known table rule turns w v other = (Keeps-refl w, Ke
 leaves_all (faults.Unlightable x y z) known table rule turns w v other = (Keeps-refl w, Keeps-refl v)
 leaves_all faults.NoThread known table rule turns w v other = (Keeps-refl w, Keeps-refl v)
 
-pub plans : (known : Option (List ℕ)) (bytes : List ℕ) (table : Option (List ℕ)) (rule : Rule) (turns : Option ℕ) (cave : Cave) (outcome : Outcome) (old new proof_old proof_new : Option (List ℕ))
-    → IfSome known (λ b. bytes ≡ b) → IsCaveOfBytes bytes table rule cave → EndsIn outcome cave turns old new proof_old proof_new
+pub plans : (known : Option (List ℕ)) (bytes : List ℕ) (table : Option (List ℕ)) (rule : Rule) (turns : Option ℕ)
+    (cave : Cave) (outcome : Outcome) (old new proof_old proof_new : Option (List ℕ))
+    → IfSome known (λ b. bytes ≡ b) → IsCaveOfBytes bytes table rule cave
+        → EndsIn outcome cave turns old new proof_old proof_new
     → IfSome known (λ b. Plans b table rule turns outcome old new proof_old proof_new)
 plans None bytes table rule turns cave outcome old new proof_old proof_new same told ends = tt
 plans (Some b) bytes table rule turns cave outcome old new proof_old proof_new same told ends =
@@ -148,8 +172,10 @@ plans (Some b) bytes table rule turns cave outcome old new proof_old proof_new s
 -- ---- why there is no plan
 
 -- no fault of writing is one of the input
-pub no_plan_unwritten : (bytes : List ℕ) (table : Option (List ℕ)) (rule : Rule) (fault : RunFault) → (fault ≢ faults.OutOfMemory → IsNoPlan bytes table rule fault) → fault ≢ faults.WriteFailed
-no_plan_unwritten bytes table rule fault told failed = elim (told (λ e. (let both : faults.WriteFailed ≡ faults.OutOfMemory = sym failed ∙ e in cc))) [
+pub no_plan_unwritten : (bytes : List ℕ) (table : Option (List ℕ)) (rule : Rule) (fault : RunFault)
+    → (fault ≢ faults.OutOfMemory → IsNoPlan bytes table rule fault) → fault ≢ faults.WriteFailed
+no_plan_unwritten bytes table rule fault told failed = elim
+    (told (λ e. (let both : faults.WriteFailed ≡ faults.OutOfMemory = sym failed ∙ e in cc))) [
   | inl f ↦ of_cave_unwritten f.0 (sym failed ∙ f.2)
   | inr u ↦ (let both = sym failed ∙ u.2.named in absurd (apart _ _ _ both))
 ]
@@ -163,77 +189,102 @@ no_plan_unwritten bytes table rule fault told failed = elim (told (λ e. (let bo
     apart : (x y z : ℕ) → faults.WriteFailed ≡ faults.Unlightable x y z → ⊥
     apart x y z e = cc
 
-pub no_plan_input : (known : Option (List ℕ)) (bytes : List ℕ) (table : Option (List ℕ)) (rule : Rule) (fault : RunFault) → IfSome known (λ b. bytes ≡ b) → length bytes ≤ structure_limit
+pub no_plan_input : (known : Option (List ℕ)) (bytes : List ℕ) (table : Option (List ℕ)) (rule : Rule)
+    (fault : RunFault) → IfSome known (λ b. bytes ≡ b) → length bytes ≤ structure_limit
     → IsNoPlan bytes table rule fault → IfSome known (λ b. IsNoPlanOfInput b table rule fault)
 no_plan_input None bytes table rule fault same within is = tt
 no_plan_input (Some b) bytes table rule fault same within is =
-    inr (subst (λ (x : List ℕ). length x ≤ structure_limit) same within, subst (λ (x : List ℕ). IsNoPlan x table rule fault) same is)
+    inr (subst (λ (x : List ℕ). length x ≤ structure_limit) same within, subst
+        (λ (x : List ℕ). IsNoPlan x table rule fault) same is)
 
-no_plan_within : (bytes : List ℕ) (table : Option (List ℕ)) (rule : Rule) (due : RunFault) → length bytes ≤ structure_limit → IsNoPlanOfInput bytes table rule due → IsNoPlan bytes table rule due
+no_plan_within : (bytes : List ℕ) (table : Option (List ℕ)) (rule : Rule) (due : RunFault)
+    → length bytes ≤ structure_limit → IsNoPlanOfInput bytes table rule due → IsNoPlan bytes table rule due
 no_plan_within bytes table rule due within (inl long) = absurd (omega (arith, long.0))
 no_plan_within bytes table rule due within (inr fault) = fault.1
 
-pub no_plan_refused : (known : Option (List ℕ)) (bytes : List ℕ) (table : Option (List ℕ)) (rule : Rule) (Met : RunFault → Type 0) → IfSome known (λ b. bytes ≡ b) → length bytes ≤ structure_limit
-    → ((due : RunFault) → IsNoPlan bytes table rule due → Met due) → IfSome known (λ b. (due : RunFault) → IsNoPlanOfInput b table rule due → Met due)
+pub no_plan_refused : (known : Option (List ℕ)) (bytes : List ℕ) (table : Option (List ℕ)) (rule : Rule)
+    (Met : RunFault → Type 0) → IfSome known (λ b. bytes ≡ b) → length bytes ≤ structure_limit
+    → ((due : RunFault) → IsNoPlan bytes table rule due → Met due)
+        → IfSome known (λ b. (due : RunFault) → IsNoPlanOfInput b table rule due → Met due)
 no_plan_refused None bytes table rule Met same within met = tt
 no_plan_refused (Some b) bytes table rule Met same within met =
-    λ due fault. met due (no_plan_within bytes table rule due within (subst (λ (x : List ℕ). IsNoPlanOfInput x table rule due) (sym same) fault))
+    λ due fault. met due (no_plan_within bytes table rule due within
+        (subst (λ (x : List ℕ). IsNoPlanOfInput x table rule due) (sym same) fault))
 
 -- a dark cell that no place lights, as it is told by a run
-pub unlit_named : (cave : Cave) (cell : ℕ) (size result : List ℕ) → point size ≡ cave.size → point result ≡ coordinates (point size) cell
-    → IsUnlightableFault cave (cover.Unlightable cell) → IsUnlit cave (faults.Unlightable (point result).x (point result).y (point result).z)
+pub unlit_named : (cave : Cave) (cell : ℕ) (size result : List ℕ) → point size ≡ cave.size
+    → point result ≡ coordinates (point size) cell
+    → IsUnlightableFault cave (cover.Unlightable cell)
+        → IsUnlit cave (faults.Unlightable (point result).x (point result).y (point result).z)
 unlit_named cave cell size result sized at (other, is, least, same) =
     let e : cell ≡ other = inside same in
     record {
       cell = other;
       unlightable = is;
       least = least;
-      named = ap (λ (p : Point). faults.Unlightable p.x p.y p.z) (at ∙ ap (λ (s : Point). coordinates s cell) sized ∙ ap (coordinates cave.size) e);
+      named = ap (λ (p : Point). faults.Unlightable p.x p.y p.z)
+          (at ∙ ap (λ (s : Point). coordinates s cell) sized ∙ ap (coordinates cave.size) e);
     }
   where
     inside : {a b : ℕ} → cover.Unlightable a ≡ cover.Unlightable b → a ≡ b
     inside e = cc
 
 -- the least such cell is one
-pub unlit_fault : (cave : Cave) (due : RunFault) → (u : IsUnlit cave due) → IsUnlightableFault cave (cover.Unlightable u.cell)
+pub unlit_fault : (cave : Cave) (due : RunFault) → (u : IsUnlit cave due)
+    → IsUnlightableFault cave (cover.Unlightable u.cell)
 unlit_fault cave due u = (u.cell, u.unlightable, u.least, refl)
 
-pub unlit_same : (cave : Cave) (cell : ℕ) (size result : List ℕ) (due : RunFault) → point size ≡ cave.size → point result ≡ coordinates (point size) cell → (u : IsUnlit cave due) → cell ≡ u.cell
+pub unlit_same : (cave : Cave) (cell : ℕ) (size result : List ℕ) (due : RunFault) → point size ≡ cave.size
+    → point result ≡ coordinates (point size) cell → (u : IsUnlit cave due) → cell ≡ u.cell
     → faults.Unlightable (point result).x (point result).y (point result).z ≡ due
 unlit_same cave cell size result due sized at u e =
-    ap (λ (p : Point). faults.Unlightable p.x p.y p.z) (at ∙ ap (λ (s : Point). coordinates s cell) sized ∙ ap (coordinates cave.size) e) ∙ sym u.named
+    ap (λ (p : Point). faults.Unlightable p.x p.y p.z)
+        (at ∙ ap (λ (s : Point). coordinates s cell) sized ∙ ap (coordinates cave.size) e) ∙ sym u.named
 
-pub same_cell : (fault : CoverFault) (a b : ℕ) → fault ≡ cover.Unlightable a → (fault ≡ cover.Unlightable b) ⊎ (fault ≡ cover.OutOfMemory) → a ≡ b
+pub same_cell : (fault : CoverFault) (a b : ℕ) → fault ≡ cover.Unlightable a → (fault ≡ cover.Unlightable b)
+    ⊎ (fault ≡ cover.OutOfMemory) → a ≡ b
 same_cell fault a b is (inl e) = (let both : cover.Unlightable a ≡ cover.Unlightable b = sym is ∙ e in cc)
 same_cell fault a b is (inr e) = (let both : cover.Unlightable a ≡ cover.OutOfMemory = sym is ∙ e in cc)
 
 -- where the cave is refused, a plan is too
-pub cave_unplanned : (bytes : List ℕ) (table : Option (List ℕ)) (rule : Rule) (e : CaveFault) → ((f : CaveFault) → caves.IsFaultOfBytes bytes table f → (e ≡ f) ⊎ (e ≡ cave_faults.OutOfMemory))
+pub cave_unplanned : (bytes : List ℕ) (table : Option (List ℕ)) (rule : Rule) (e : CaveFault)
+    → ((f : CaveFault) → caves.IsFaultOfBytes bytes table f → (e ≡ f) ⊎ (e ≡ cave_faults.OutOfMemory))
     → ((cave : Cave) → IsCaveOfBytes bytes table rule cave → e ≡ cave_faults.OutOfMemory)
     → (due : RunFault) → IsNoPlan bytes table rule due → (of_cave e ≡ due) ⊎ (of_cave e ≡ faults.OutOfMemory)
 cave_unplanned bytes table rule e refused only due (inl fault) = cave_refused bytes table e refused due fault
 cave_unplanned bytes table rule e refused only due (inr (cave, told, unlit)) = inr (ap of_cave (only cave told))
 
 -- where there is a cave, only what is unlit in it is a fault
-pub unplanned_here : (bytes : List ℕ) (table : Option (List ℕ)) (rule : Rule) (world : Cave) → ((f : CaveFault) → caves.IsFaultOfBytes bytes table f → ⊥)
+pub unplanned_here : (bytes : List ℕ) (table : Option (List ℕ)) (rule : Rule) (world : Cave)
+    → ((f : CaveFault) → caves.IsFaultOfBytes bytes table f → ⊥)
     → ((cave : Cave) → IsCaveOfBytes bytes table rule cave → world ≡ cave)
     → (due : RunFault) → IsNoPlan bytes table rule due → IsUnlit world due
 unplanned_here bytes table rule world clean only due (inl fault) = absurd (cave_clean bytes table clean due fault)
-unplanned_here bytes table rule world clean only due (inr (cave, told, unlit)) = subst (λ (w : Cave). IsUnlit w due) (sym (only cave told)) unlit
+unplanned_here bytes table rule world clean only due (inr (cave, told, unlit)) = subst (λ (w : Cave). IsUnlit w due)
+    (sym (only cave told)) unlit
 
 -- ---- the last write
 
-pub written_in : {X : Type 0} (r : Result X RunFault) (cave : Cave) (text : List ℕ) (plans : List Plan) (old new proof_old proof_new : Option (List ℕ)) → IsPlanned cave text plans
-    → OnOk r (Appends old new text) → Appends proof_old proof_new (certificate_text cave plans) → OnOk r (WritesBest cave old new proof_old proof_new)
-written_in (Ok x) cave text plans old new proof_old proof_new is written proved = writes_best cave text plans old new proof_old proof_new is written proved
+pub written_in : {X : Type 0} (r : Result X RunFault) (cave : Cave) (text : List ℕ) (plans : List Plan)
+    (old new proof_old proof_new : Option (List ℕ)) → IsPlanned cave text plans
+    → OnOk r (Appends old new text) → Appends proof_old proof_new (certificate_text cave plans)
+        → OnOk r (WritesBest cave old new proof_old proof_new)
+written_in (Ok x) cave text plans old new proof_old proof_new is written proved = writes_best cave text plans old
+    new proof_old proof_new is written proved
 written_in (Err e) cave text plans old new proof_old proof_new is written proved = tt
 
-pub text_failed_in : {X : Type 0} (r : Result X RunFault) (cave : Cave) (text : List ℕ) (plans : List Plan) (old new proof_old proof_new : Option (List ℕ)) → IsPlanned cave text plans
-    → IfErr r (λ e. e ≡ faults.WriteFailed) → OnErr r (AppendsFront old new text) → Appends proof_old proof_new (certificate_text cave plans)
+pub text_failed_in : {X : Type 0} (r : Result X RunFault) (cave : Cave) (text : List ℕ) (plans : List Plan)
+    (old new proof_old proof_new : Option (List ℕ)) → IsPlanned cave text plans
+    → IfErr r (λ e. e ≡ faults.WriteFailed) → OnErr r (AppendsFront old new text)
+        → Appends proof_old proof_new (certificate_text cave plans)
     → IfErr r (λ e. LeavesProved e cave old new proof_old proof_new)
 text_failed_in (Ok x) cave text plans old new proof_old proof_new is kind front proved = tt
-text_failed_in (Err e) cave text plans old new proof_old proof_new is kind front proved = text_failed e cave text plans old new proof_old proof_new kind is front proved
+text_failed_in (Err e) cave text plans old new proof_old proof_new is kind front proved = text_failed e cave text
+    plans old new proof_old proof_new kind is front proved
 
-pub ended_in : {X : Type 0} (fault : RunFault) (r : Result X RunFault) (cave : Cave) (turns : Option ℕ) (text : List ℕ) (old new proof : Option (List ℕ)) → r ≡ Err fault → fault ≡ faults.WriteFailed → IsStoppedAt cave turns text
+pub ended_in : {X : Type 0} (fault : RunFault) (r : Result X RunFault) (cave : Cave) (turns : Option ℕ)
+    (text : List ℕ) (old new proof : Option (List ℕ)) → r ≡ Err fault → fault ≡ faults.WriteFailed
+        → IsStoppedAt cave turns text
     → AppendsFront old new text → IfErr r (λ e. LeavesIn e cave turns old new proof proof)
-ended_in fault r cave turns text old new proof is failed stopped front = rw is (stop_failed fault cave turns text old new proof failed stopped front)
+ended_in fault r cave turns text old new proof is failed stopped front = rw is
+    (stop_failed fault cave turns text old new proof failed stopped front)

@@ -19,15 +19,18 @@ verdict_line verdict = verdict_text verdict ++ codes "\n"
 
 -- the verdict of what both readers had, where it is known
 abbrev pub Judges : Option (List ℕ) → Option (List ℕ) → Rule → Option (List ℕ) → Verdict → Type 0
-Judges structure table rule certificate verdict = IfSome structure (λ bytes. IfSome certificate (λ text. IsJudged bytes table rule text verdict))
+Judges structure table rule certificate verdict = IfSome structure
+    (λ bytes. IfSome certificate (λ text. IsJudged bytes table rule text verdict))
 
 -- the verdict's line was written, and nothing else
-pub record WritesVerdict (structure table : Option (List ℕ)) (rule : Rule) (certificate old new : Option (List ℕ)) (verdict : Verdict) : Type 0 where
+pub record WritesVerdict (structure table : Option (List ℕ)) (rule : Rule) (certificate old new : Option (List ℕ))
+    (verdict : Verdict) : Type 0 where
   pub judges : Judges structure table rule certificate verdict
   pub written : Appends old new (verdict_line verdict)
 
 -- a failed write leaves a beginning of the line, any other fault nothing
-abbrev pub LeavesLine : RunFault → Option (List ℕ) → Option (List ℕ) → Rule → Option (List ℕ) → Option (List ℕ) → Option (List ℕ) → Type 0
+abbrev pub LeavesLine : RunFault → Option (List ℕ) → Option (List ℕ) → Rule → Option (List ℕ) → Option (List ℕ)
+    → Option (List ℕ) → Type 0
 LeavesLine faults.WriteFailed structure table rule certificate old new =
     (verdict : Verdict) × Judges structure table rule certificate verdict × AppendsFront old new (verdict_line verdict)
 LeavesLine other structure table rule certificate old new = Keeps old new
@@ -53,4 +56,5 @@ SaysIt structure table rule certificate r = IfSome structure (λ bytes. IfSome c
 
 -- the fault, unless a read failed, the certificate is too long or memory ran out
 abbrev pub IsUnsaid : Result Verdict RunFault → RunFault → Type 0
-IsUnsaid r fault = MatchResult r (λ _. ⊥) (λ e. (e ≡ fault) ⊎ (e ≡ faults.ReadFailed) ⊎ (e ≡ faults.TooLong ProofInput) ⊎ (e ≡ faults.OutOfMemory))
+IsUnsaid r fault = MatchResult r (λ _. ⊥) (λ e. (e ≡ fault) ⊎ (e ≡ faults.ReadFailed)
+    ⊎ (e ≡ faults.TooLong ProofInput) ⊎ (e ≡ faults.OutOfMemory))

@@ -7,7 +7,8 @@ use Rattle.proof_check.specs.declared.fault.CheckFault.{CheckFault}
 use Rattle.proof_check.specs.declared.fault.CheckFault.TheVariants as check
 use Rattle.cave_runs.specs.declared.fault.Input.TheVariants.{ProofInput}
 use Rattle.cave_runs.specs.declared.fault.RunFault.{RunFault}
-use Rattle.cave_runs.specs.declared.fault.RunFault.TheVariants.{ReadFailed, TooLong, WriteFailed, Scan, Table, Build, OutOfMemory}
+use Rattle.cave_runs.specs.declared.fault.RunFault.TheVariants.{ReadFailed, TooLong, WriteFailed, Scan, Table, Build}
+use Rattle.cave_runs.specs.declared.fault.RunFault.TheVariants.{OutOfMemory}
 
 abbrev pub of_cave : CaveFault → RunFault
 of_cave (cave.Scan fault) = Scan fault

@@ -1,5 +1,6 @@
 -- What a plan writes of the bytes that are read, or why they have no plan. This is this project's own.
-use Rattle.std.specs.Prelude.{◌≡◌, ◌<◌, ◌≤◌, ◌⊎◌, ◌↔◌, ℕ, Bool, List, [], length, Contains, Option, Some, None, IsSome, IfSome}
+use Rattle.std.specs.Prelude.{◌≡◌, ◌<◌, ◌≤◌, ◌⊎◌, ◌↔◌, ℕ, Bool, List, [], length, Contains, Option, Some, None}
+use Rattle.std.specs.Prelude.{IsSome, IfSome}
 use Rattle.std.specs.Io.KnownBytes.{Appends, Keeps}
 use Rattle.scan_core.specs.Box.{coordinates}
 use Rattle.cave_model.specs.Bytes.{IsCaveOfBytes}
@@ -47,12 +48,14 @@ pub record WritesFloor (cave : Cave) (turns : Option ℕ) (old new proof_old pro
   pub written : Appends old new text
   pub unproved : Keeps proof_old proof_new
 
-abbrev pub EndsIn : Outcome → Cave → Option ℕ → Option (List ℕ) → Option (List ℕ) → Option (List ℕ) → Option (List ℕ) → Type 0
+abbrev pub EndsIn : Outcome → Cave → Option ℕ → Option (List ℕ) → Option (List ℕ) → Option (List ℕ)
+    → Option (List ℕ) → Type 0
 EndsIn Done cave turns old new proof_old proof_new = WritesBest cave old new proof_old proof_new
 EndsIn Stopped cave turns old new proof_old proof_new = WritesFloor cave turns old new proof_old proof_new
 
 -- this was written of the cave that the bytes tell
-pub record Plans (bytes : List ℕ) (table : Option (List ℕ)) (rule : Rule) (turns : Option ℕ) (outcome : Outcome) (old new proof_old proof_new : Option (List ℕ)) : Type 0 where
+pub record Plans (bytes : List ℕ) (table : Option (List ℕ)) (rule : Rule) (turns : Option ℕ) (outcome : Outcome)
+    (old new proof_old proof_new : Option (List ℕ)) : Type 0 where
   pub cave : Cave
   pub told : IsCaveOfBytes bytes table rule cave
   pub ends : EndsIn outcome cave turns old new proof_old proof_new
@@ -61,7 +64,8 @@ pub record Plans (bytes : List ℕ) (table : Option (List ℕ)) (rule : Rule) (t
 
 -- the text of a plan, and of its certificate
 abbrev pub AreTextsOf : Cave → Option ℕ → List ℕ → List ℕ → Type 0
-AreTextsOf cave turns text proof = ((plans : List Plan) × IsPlanned cave text plans × (proof ≡ certificate_text cave plans))
+AreTextsOf cave turns text proof = ((plans : List Plan) × IsPlanned cave text plans
+    × (proof ≡ certificate_text cave plans))
     ⊎ (IsStoppedAt cave turns text × (proof ≡ []))
 
 -- of each a beginning was written, or all of it
@@ -72,23 +76,29 @@ pub record Begins (cave : Cave) (turns : Option ℕ) (old new proof_old proof_ne
   pub written : AppendsPart old new text
   pub proved : AppendsPart proof_old proof_new proof
 
-pub record BeginsPlan (bytes : List ℕ) (table : Option (List ℕ)) (rule : Rule) (turns : Option ℕ) (old new proof_old proof_new : Option (List ℕ)) : Type 0 where
+pub record BeginsPlan (bytes : List ℕ) (table : Option (List ℕ)) (rule : Rule) (turns : Option ℕ)
+    (old new proof_old proof_new : Option (List ℕ)) : Type 0 where
   pub cave : Cave
   pub told : IsCaveOfBytes bytes table rule cave
   pub begins : Begins cave turns old new proof_old proof_new
 
 -- a failed write leaves a beginning of each; want of memory one of the certificate alone; any other fault nothing
-abbrev pub Leaves : RunFault → Option (List ℕ) → Option (List ℕ) → Rule → Option ℕ → Option (List ℕ) → Option (List ℕ) → Option (List ℕ) → Option (List ℕ) → Type 0
+abbrev pub Leaves : RunFault → Option (List ℕ) → Option (List ℕ) → Rule → Option ℕ → Option (List ℕ)
+    → Option (List ℕ) → Option (List ℕ) → Option (List ℕ) → Type 0
 Leaves faults.WriteFailed known table rule turns old new proof_old proof_new =
     IfSome known (λ bytes. BeginsPlan bytes table rule turns old new proof_old proof_new)
 Leaves faults.OutOfMemory known table rule turns old new proof_old proof_new =
-    Keeps old new × (Keeps proof_old proof_new ⊎ IfSome known (λ bytes. BeginsPlan bytes table rule turns old new proof_old proof_new))
+    Keeps old new
+        × (Keeps proof_old proof_new
+            ⊎ IfSome known (λ bytes. BeginsPlan bytes table rule turns old new proof_old proof_new))
 Leaves other known table rule turns old new proof_old proof_new = Keeps old new × Keeps proof_old proof_new
 
 -- what a fault of writing leaves of this cave's plan
-abbrev pub LeavesIn : RunFault → Cave → Option ℕ → Option (List ℕ) → Option (List ℕ) → Option (List ℕ) → Option (List ℕ) → Type 0
+abbrev pub LeavesIn : RunFault → Cave → Option ℕ → Option (List ℕ) → Option (List ℕ) → Option (List ℕ)
+    → Option (List ℕ) → Type 0
 LeavesIn faults.WriteFailed cave turns old new proof_old proof_new = Begins cave turns old new proof_old proof_new
-LeavesIn faults.OutOfMemory cave turns old new proof_old proof_new = Keeps old new × Begins cave turns old new proof_old proof_new
+LeavesIn faults.OutOfMemory cave turns old new proof_old proof_new = Keeps old new
+    × Begins cave turns old new proof_old proof_new
 LeavesIn other cave turns old new proof_old proof_new = ⊥
 
 -- the same whatever the turns are
@@ -102,7 +112,8 @@ pub record IsUnlit (cave : Cave) (fault : RunFault) : Type 0 where
   pub cell : ℕ
   pub unlightable : IsUnlightable cave cell
   pub least : (other : ℕ) → IsUnlightable cave other → cell ≤ other
-  pub named : fault ≡ faults.Unlightable (coordinates cave.size cell).x (coordinates cave.size cell).y (coordinates cave.size cell).z
+  pub named : fault ≡ faults.Unlightable (coordinates cave.size cell).x (coordinates cave.size cell).y
+      (coordinates cave.size cell).z
 
 -- the bytes tell no cave, or one that can't be lit
 abbrev pub IsNoPlan : List ℕ → Option (List ℕ) → Rule → RunFault → Type 0
@@ -116,4 +127,5 @@ IsNoPlanOfInput bytes table rule fault = ((structure_limit < length bytes) × (f
 
 -- the cave of the bytes, with its outline
 abbrev pub Tells : List ℕ → Option (List ℕ) → Rule → Option ℕ → Cave → List ℕ → Bool → List Plan → Type 0
-Tells bytes table rule turns cave text stopped plans = IsCaveOfBytes bytes table rule cave × IsOutlineOf cave turns text stopped plans
+Tells bytes table rule turns cave text stopped plans = IsCaveOfBytes bytes table rule cave
+    × IsOutlineOf cave turns text stopped plans

@@ -20,7 +20,8 @@ IsDarkTextOf bytes table rule text = (cave : Cave) × IsCaveOfBytes bytes table 
 
 -- why the bytes tell no cave, as a run answers it
 abbrev pub IsFaultOfBytes : List ℕ → Option (List ℕ) → RunFault → Type 0
-IsFaultOfBytes bytes table fault = (inner : CaveFault) × caves.IsFaultOfBytes bytes table inner × (fault ≡ of_cave inner)
+IsFaultOfBytes bytes table fault = (inner : CaveFault) × caves.IsFaultOfBytes bytes table inner
+    × (fault ≡ of_cave inner)
 
 -- why an input is refused: it is too long, or tells no cave
 abbrev pub IsFaultOfInput : List ℕ → Option (List ℕ) → RunFault → Type 0

@@ -18,7 +18,8 @@ pub record Bounded : Type 0 where
 pub record IsBoundedIn (cave : Cave) (part : Bounded) : Type 0 where
   pub agrees : Agrees (of_instance part.region) (of_cave cave) part.region.cells
   pub cover : IsCoverOfRegion part.region part.torches
-  pub none_below : (places : List ℕ) → IsCoverOfPiece (of_instance part.region) part.region.cells [] [] places → part.floor ≤ length places
+  pub none_below : (places : List ℕ) → IsCoverOfPiece (of_instance part.region) part.region.cells [] [] places
+      → part.floor ≤ length places
 
 -- such a part for each of the cave's regions
 pub record AreBoundedIn (cave : Cave) (parts : List Bounded) : Type 0 where

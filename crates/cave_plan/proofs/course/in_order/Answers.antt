@@ -14,8 +14,10 @@ returns c =
     record {
       ascending = rw is (IsStrictlyIncreasing-dedup sorted c.sort_unstable.ensures.sorted);
       exact = λ x. (
-        (λ h. Contains-permutation sorted c.args.cells.items x (IsPermutation-sym c.args.cells.items sorted c.sort_unstable.ensures.permutation)
+        (λ h. Contains-permutation sorted c.args.cells.items x
+            (IsPermutation-sym c.args.cells.items sorted c.sort_unstable.ensures.permutation)
             (Contains-from_dedup eqb sorted x (subst (λ l. Contains l x) is h))),
-        (λ h. subst (λ l. Contains l x) (sym is) (Contains-dedup_nat sorted x (Contains-permutation c.args.cells.items sorted x c.sort_unstable.ensures.permutation h))),
+        (λ h. subst (λ l. Contains l x) (sym is) (Contains-dedup_nat sorted x
+            (Contains-permutation c.args.cells.items sorted x c.sort_unstable.ensures.permutation h))),
       );
     }

@@ -7,4 +7,5 @@ use Rattle.cave_runs.proofs.text.dark_text.Given as goal
 
 -- the text so far, and the lines of the cells that are left
 abbrev pub invariant-loop-cell : goal.invariant-loop-cell
-invariant-loop-cell l = string_bytes l.out ++ flat_map (cell_line (point l.size)) (drop l.cell-index l.cells) ≡ texts.dark_text (point l.size) l.cells
+invariant-loop-cell l = string_bytes l.out
+    ++ flat_map (cell_line (point l.size)) (drop l.cell-index l.cells) ≡ texts.dark_text (point l.size) l.cells
