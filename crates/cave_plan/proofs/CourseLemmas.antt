@@ -9,12 +9,12 @@ use Rattle.std.proofs.lemmas.Grind.{flat_map-append}
 use Rattle.set_cover.specs.Instance.{Instance, of_instance}
 use Rattle.cave_model.specs.Coverage.{IsPlaceOf}
 use Rattle.proof_rules.specs.Tree.{Tree}
-use Rattle.proof_rules.specs.Good.{Good, IsCoverOfPiece}
-use Rattle.proof_rules.proofs.ListLemmas.{all_members, at_member, no_member, distinct_nil}
+use Rattle.proof_rules.specs.Good.{IsCoverOfPiece}
+use Rattle.proof_rules.proofs.ListLemmas.{all_members, at_member, distinct_nil}
 use Rattle.proof_rules.proofs.BoundLemmas.{bounds, piece_serves}
 use Rattle.cave_regions.specs.Cover.{Covering, IsCover, IsCoverOfRegion}
 use Rattle.proof_tree.specs.Planned.{Plan}
-use Rattle.search_core.specs.Planned.{IsBest, IsStopped, NoneBelow}
+use Rattle.search_core.specs.Planned.{IsBest, IsStopped}
 use Rattle.plan_laws.specs.Bounded.{Bounded, all_torches, total_floor}
 use Rattle.cave_plan.specs.Course.{Course, course, IsBounded, IsProved, AreProved, IsCourse, GoesOn}
 
@@ -53,7 +53,7 @@ pub total_within : (parts : List Bounded) → All IsBounded parts → total_floo
 total_within [] all = omega arith
 total_within (p ∷ ps) all =
     let first = floor_within p (All-head IsBounded p ps all) in let rest = total_within ps
-        (All-tail IsBounded p ps all) in
+    (All-tail IsBounded p ps all) in
     omega (arith, first, rest, length-append p.torches (all_torches ps))
 
 -- ---- one region more
@@ -71,13 +71,13 @@ part_more regions turns old part floor stopped plans c is sum proved limited =
     let all : All IsBounded parts = All-append IsBounded c.parts (part ∷ []) c.each (one IsBounded part is) in
     let torches : all_torches parts ≡ old.torches ++ part.torches =
     torches-append c.parts (part ∷ []) ∙ ap (λ (l : List ℕ). all_torches c.parts
-        ++ l) (append-nil part.torches) ∙ ap (λ (l : List ℕ). l ++ part.torches) c.whole in
+    ++ l) (append-nil part.torches) ∙ ap (λ (l : List ℕ). l ++ part.torches) c.whole in
     let total : total_floor parts ≡ old.floor + part.floor =
-        (let t = total-append c.parts (part ∷ []) in let o = c.total in omega (arith, t, o)) in
+    (let t = total-append c.parts (part ∷ []) in let o = c.total in omega (arith, t, o)) in
     let within : old.floor + part.floor ≤ length (old.torches ++ part.torches) =
     subst (λ (n : ℕ). n ≤ length (old.torches
-        ++ part.torches)) total (subst (λ (l : List ℕ). total_floor parts ≤ length l) torches
-            (total_within parts all)) in
+    ++ part.torches)) total (subst (λ (l : List ℕ). total_floor parts ≤ length l) torches
+    (total_within parts all)) in
     record {
       parts = parts;
       of_them = map-append (λ (p : Bounded). p.region) c.parts (part ∷ []) ∙ ap (λ (l : List Instance). l
@@ -126,7 +126,7 @@ best_more turns region cover tree old floor best kept sum =
     record {
       each = λ regions c. part_more regions turns old part floor old.stopped (old.plans ++ plan ∷ []) c bounded sum
           (λ e. proved_more regions old.torches old.plans plan (c.proved e)
-              (record { cover = bounded.cover; good = best.proved })) c.limited;
+          (record { cover = bounded.cover; good = best.proved })) c.limited;
     }
 
 pub stopped_more : (turns : Option ℕ) (cover : Covering) (least : ℕ) (old : Course) (floor : ℕ)
@@ -167,9 +167,9 @@ pub best_added : (turns : Option ℕ) (region : Instance) (cover : Covering) (tr
 best_added turns region cover tree old torches floor plans best kept grown sum added =
     subst (λ (ts : List ℕ). GoesOn turns region old (course ts floor old.stopped plans)) (sym grown)
     (subst (λ (ps : List Plan). GoesOn turns region old (course (old.torches
-        ++ cover.places) floor old.stopped ps)) (sym added)
+    ++ cover.places) floor old.stopped ps)) (sym added)
     (best_more turns region cover tree old floor best kept
-        (subst (λ (ts : List ℕ). AddsUp ts old.floor (length cover.places) floor) grown sum)))
+    (subst (λ (ts : List ℕ). AddsUp ts old.floor (length cover.places) floor) grown sum)))
 
 pub stopped_added : (turns : Option ℕ) (cover : Covering) (least : ℕ) (old : Course) (torches : List ℕ) (floor : ℕ)
     → IsStopped cover.region turns cover least → IsCover cover
@@ -178,4 +178,4 @@ pub stopped_added : (turns : Option ℕ) (cover : Covering) (least : ℕ) (old :
 stopped_added turns cover least old torches floor stops kept grown sum =
     subst (λ (ts : List ℕ). GoesOn turns cover.region old (course ts floor true old.plans)) (sym grown)
     (stopped_more turns cover least old floor stops kept
-        (subst (λ (ts : List ℕ). AddsUp ts old.floor least floor) grown sum))
+    (subst (λ (ts : List ℕ). AddsUp ts old.floor least floor) grown sum))

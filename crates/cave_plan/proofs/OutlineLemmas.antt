@@ -1,7 +1,7 @@
 -- The plan of a cave, from those of its regions.
-use Rattle.std.proofs.Common.{◌≡◌, ℕ, ◌<◌, ◌≤◌, Bool, true, false, List, [], ◌∷◌, ◌++◌, length, map, All, Contains}
-use Rattle.std.proofs.Common.{refl, sym, ap, subst, ◌∙◌, Option, Some, None, inl, inr}
-use Rattle.std.specs.Prelude.{flat_map, IsSome}
+use Rattle.std.proofs.Common.{◌≡◌, ℕ, ◌<◌, Bool, true, false, List, [], ◌∷◌, map, All, Contains}
+use Rattle.std.proofs.Common.{refl, sym, ap, subst, Option, Some, None, inl, inr}
+use Rattle.std.specs.Prelude.{flat_map}
 use Rattle.std.proofs.lemmas.List.Elements.{All-head, All-tail, All-cons, All-nil, Contains-append_cases}
 use Rattle.std.proofs.lemmas.List.Elements.{Contains-append_left, Contains-append_right}
 use Rattle.scan_core.specs.Box.{cell_count}
@@ -15,17 +15,16 @@ use Rattle.cave_model.specs.Regions.{AreRegions}
 use Rattle.set_cover.specs.Instance.{Instance, of_instance}
 use Rattle.cave_regions.specs.Region.{IsRegion}
 use Rattle.cave_regions.specs.Splitting.{cells_of_each}
-use Rattle.proof_rules.specs.Certificate.{Section, torches_of}
+use Rattle.proof_rules.specs.Certificate.{torches_of}
 use Rattle.proof_rules.proofs.ListLemmas.{all_members}
 use Rattle.proof_tree.specs.Order.{in_order}
 use Rattle.proof_tree.specs.Planned.{Plan, section_of, IsBestOf, AreBestOf}
 use Rattle.proof_tree.proofs.OrderLemmas.{has_ordered, ordered_has}
 use Rattle.plan_laws.specs.Best.{AreTorchesOf}
-use Rattle.plan_laws.specs.Bounded.{Bounded, IsBoundedIn, AreBoundedIn, AreInOrder, IsPlanWithin, all_torches}
-use Rattle.plan_laws.specs.Bounded.{total_floor}
+use Rattle.plan_laws.specs.Bounded.{Bounded, IsBoundedIn, AreBoundedIn, AreInOrder, IsPlanWithin}
 use Rattle.plan_laws.proofs.PartLemmas.{torches_are, are_apart, plan_within, legal_places}
 use Rattle.plan_laws.proofs.AcceptedLemmas.{fewest, place_inside}
-use Rattle.cave_plan.specs.Course.{Course, IsBounded, IsProved, AreProved, IsCourse, floor_if}
+use Rattle.cave_plan.specs.Course.{Course, IsBounded, IsProved, IsCourse, floor_if}
 use Rattle.cave_plan.specs.Outline.{AreRegionsIn, IsPlanned, IsStoppedAt, IsOutlineOf, Prints}
 
 abbrev AgreesIn : Cave → Instance → Type 0
@@ -49,8 +48,12 @@ each_bounded cave [] all agree = All-nil (IsBoundedIn cave)
 each_bounded cave (p ∷ ps) all agree =
     let rest = map (λ (part : Bounded). part.region) ps in
     let is = All-head IsBounded p ps all in
-    All-cons (IsBoundedIn cave) p ps (record { agrees = All-head (AgreesIn cave) p.region rest agree; cover =
-        is.cover; none_below = is.none_below })
+    All-cons (IsBoundedIn cave) p ps (record {
+      agrees = All-head (AgreesIn cave) p.region rest agree;
+      cover =
+          is.cover;
+      none_below = is.none_below;
+    })
     (each_bounded cave ps (All-tail IsBounded p ps all) (All-tail (AgreesIn cave) p.region rest agree))
 
 each_best : (cave : Cave) (plans : List Plan) → All IsProved plans → All IsRegion (map (λ plan. plan.region) plans)
@@ -59,10 +62,15 @@ each_best cave [] all kept agree = All-nil (IsBestOf cave)
 each_best cave (p ∷ ps) all kept agree =
     let rest = map (λ (plan : Plan). plan.region) ps in
     let is = All-head IsProved p ps all in
-    All-cons (IsBestOf cave) p ps (record { kept = All-head IsRegion p.region rest kept; agrees = All-head
-        (AgreesIn cave) p.region rest agree; cover = is.cover; good = is.good })
+    All-cons (IsBestOf cave) p ps (record {
+      kept = All-head IsRegion p.region rest kept;
+      agrees = All-head
+          (AgreesIn cave) p.region rest agree;
+      cover = is.cover;
+      good = is.good;
+    })
     (each_best cave ps (All-tail IsProved p ps all) (All-tail IsRegion p.region rest kept)
-        (All-tail (AgreesIn cave) p.region rest agree))
+    (All-tail (AgreesIn cave) p.region rest agree))
 
 -- ---- torches, in order or not
 
@@ -114,7 +122,7 @@ module _ (cave : Cave) (turns : Option ℕ) (regions : List Instance) (c : Cours
   inside =
       let torches = torches_are cave is.parts bounded.each (are_apart cave is.parts bounded.regions.apart) in
       all_members (λ cell. cell < cell_count cave.size) cells
-          (λ p h. place_inside cave p world.sound (torches.legal p ((in_parts.exact p).0 h)))
+      (λ p h. place_inside cave p world.sound (torches.legal p ((in_parts.exact p).0 h)))
 
   stopped_at : (text : List ℕ) → c.stopped ≡ true → Prints cave cells (Some c.floor) text → IsStoppedAt cave turns text
   stopped_at text e prints = record {
@@ -134,8 +142,14 @@ module _ (cave : Cave) (turns : Option ℕ) (regions : List Instance) (c : Cours
             (subst (All (AgreesIn cave)) (sym proved.of_them) are.agree);
       } in
       let of_them = of_plans c.plans c.torches cells proved.whole order in
-      record { world = world; torches = cells; best = fewest cave c.plans world best cells of_them; prints = prints;
-          plans_are = best; of_plans = of_them }
+      record {
+        world = world;
+        torches = cells;
+        best = fewest cave c.plans world best cells of_them;
+        prints = prints;
+        plans_are = best;
+        of_plans = of_them;
+      }
 
   pub outlines : (stopped : Bool) (text : List ℕ) → c.stopped ≡ stopped
       → Prints cave cells (floor_if stopped c.floor) text → IsOutlineOf cave turns text stopped c.plans

@@ -22,7 +22,7 @@ pub put_next : (text : ℕ → List ℕ) (n : ℕ) (front old put new : List ℕ
     ++ up_to text n → put ≡ text n → new ≡ front ++ up_to text (n + 1)
 put_next text n front old put new is so_far next =
     is ∙ ap (λ (l : List ℕ). l ++ put) so_far ∙ append_assoc front (up_to text n) put ∙ ap (λ (l : List ℕ). front
-        ++ (up_to text n ++ l)) next ∙ ap (λ (l : List ℕ). front ++ l) (sym (up_to_more text n))
+    ++ (up_to text n ++ l)) next ∙ ap (λ (l : List ℕ). front ++ l) (sym (up_to_more text n))
 
 pub layer_start : (rows : ℕ → List ℕ) (y : ℕ) (out : List ℕ) → out ≡ codes "layer " ++ (decimal y ++ codes "\n")
     → out ≡ codes "layer " ++ (decimal y ++ (codes "\n" ++ up_to rows 0))
@@ -33,16 +33,16 @@ grouped : (y : ℕ) (rest : List ℕ) → codes "layer " ++ (decimal y ++ (codes
     ++ (decimal y ++ codes "\n")) ++ rest
 grouped y rest = ap (λ (l : List ℕ). codes "layer "
     ++ l) (sym (append_assoc (decimal y) (codes "\n") rest)) ∙ sym (append_assoc (codes "layer ") (decimal y
-        ++ codes "\n") rest)
+    ++ codes "\n") rest)
 
 pub layer_next : (rows : ℕ → List ℕ) (y z : ℕ) (old put new : List ℕ) → new ≡ old ++ put → old ≡ codes "layer "
     ++ (decimal y ++ (codes "\n" ++ up_to rows z)) → put ≡ rows z
     → new ≡ codes "layer " ++ (decimal y ++ (codes "\n" ++ up_to rows (z + 1)))
 layer_next rows y z old put new is so_far next =
     put_next rows z (codes "layer "
-        ++ (decimal y
-            ++ codes "\n")) old put new is (so_far ∙ grouped y (up_to rows z)) next ∙ sym
-                (grouped y (up_to rows (z + 1)))
+    ++ (decimal y
+    ++ codes "\n")) old put new is (so_far ∙ grouped y (up_to rows z)) next ∙ sym
+    (grouped y (up_to rows (z + 1)))
 
 -- ---- whether a torch is listed
 
@@ -61,7 +61,7 @@ none_here : (xs : List ℕ) (x : ℕ) → (Contains xs x → ⊥) → is_torch x
 none_here [] x absent = refl
 none_here (y ∷ ys) x absent =
     let other : nat_eq y x ≡ false = (let ne : y ≢ x = λ e. absent (subst (Contains (y ∷ ys)) e (here y ys)) in
-        grind (arith, nat_tests, ne)) in
+    grind (arith, nat_tests, ne)) in
     ap (λ (b : Bool). b || is_torch ys x) other ∙ none_here ys x (λ h. absent (later y ys x h))
 
 pub found_is : (xs : List ℕ) (x : ℕ) (o : Option ℕ)

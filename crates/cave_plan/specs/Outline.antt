@@ -1,5 +1,5 @@
 -- What a plan of a cave shows: its text, and where no turns were spent the regions' trees. This is this project's own.
-use Rattle.std.specs.Prelude.{◌≡◌, ℕ, Bool, true, false, List, length, All, Option, Some, None, IsSome, MatchBool}
+use Rattle.std.specs.Prelude.{◌≡◌, ℕ, Bool, List, length, All, Option, Some, None, IsSome, MatchBool}
 use Rattle.cave_model.specs.Cave.{Cave, IsWorld}
 use Rattle.cave_model.specs.Coverage.{of_cave, Agrees}
 use Rattle.cave_model.specs.Regions.{AreRegions}

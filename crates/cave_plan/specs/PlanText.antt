@@ -68,14 +68,14 @@ abbrev pub torch_line : Cave → ℕ → List ℕ
 torch_line cave cell = codes "T " ++ (decimal (coordinates cave.size cell).x
     ++ (codes " " ++ (decimal (coordinates cave.size cell).y
     ++ (codes " " ++ (decimal (coordinates cave.size cell).z
-        ++ (codes " " ++ (hang_word (hang_at cave cell) ++ codes "\n")))))))
+    ++ (codes " " ++ (hang_word (hang_at cave cell) ++ codes "\n")))))))
 
 -- how many torches and dark cells; of a stopped plan also the number that no safe torches are fewer than
 abbrev pub head_text : ℕ → ℕ → Option ℕ → List ℕ
 head_text torches dark None = codes "torches " ++ (decimal torches ++ (codes "\ndark " ++ (decimal dark ++ codes "\n")))
 head_text torches dark (Some floor) =
     codes "torches " ++ (decimal torches ++ (codes " at-least "
-        ++ (decimal floor ++ (codes "\ndark " ++ (decimal dark ++ codes "\n")))))
+    ++ (decimal floor ++ (codes "\ndark " ++ (decimal dark ++ codes "\n")))))
 
 -- the text of these torches, in the order of their cells, of a cave with so many dark cells
 abbrev pub plan_text : Cave → List ℕ → ℕ → Option ℕ → List ℕ

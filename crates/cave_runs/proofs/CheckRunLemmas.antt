@@ -1,8 +1,7 @@
 -- What a check answers, from what its parts do.
-use Rattle.std.proofs.Common.{◌≡◌, ◌≢◌, ℕ, ◌<◌, ◌≤◌, List, length, Option, Some, None, Result, Ok, Err, refl, sym, ap}
+use Rattle.std.proofs.Common.{◌≡◌, ℕ, ◌<◌, ◌≤◌, List, length, Option, Some, None, Result, Err, refl, sym, ap}
 use Rattle.std.proofs.Common.{subst, ◌∙◌, ◌⊎◌, inl, inr}
-use Rattle.std.specs.Prelude.{IfSome, MatchResult}
-use Rattle.cave_model.specs.Bytes as caves
+use Rattle.std.specs.Prelude.{IfSome}
 use Rattle.cave_model.specs.Rule.{Rule}
 use Rattle.cave_model.specs.declared.cave_fault.CaveFault.{CaveFault}
 use Rattle.cave_model.specs.declared.cave_fault.CaveFault.TheVariants as cave
@@ -12,12 +11,12 @@ use Rattle.proof_check.specs.Verdict.{IsJudged, IsOfReading, IsReadAnswer}
 use Rattle.proof_check.specs.declared.fault.CheckFault.{CheckFault}
 use Rattle.proof_check.specs.declared.fault.CheckFault.TheVariants as check
 use Rattle.proof_check.specs.declared.verdict.Verdict.{Verdict}
-use Rattle.cave_runs.specs.CheckRuns.{IsExcuse, IsSaid, SaysIt, IsNoVerdict, IsUnsaid}
+use Rattle.cave_runs.specs.CheckRuns.{IsExcuse, IsSaid, SaysIt, IsNoVerdict}
 use Rattle.cave_runs.specs.Faults.{of_cave, of_check}
 use Rattle.cave_runs.specs.Limits.{structure_limit, proof_limit}
-use Rattle.cave_runs.specs.Runs.{IsFaultOfBytes, IsFaultOfInput, IsOfInput}
+use Rattle.cave_runs.specs.Runs.{IsFaultOfBytes, IsOfInput}
 use Rattle.cave_runs.specs.declared.fault.Input.{Input}
-use Rattle.cave_runs.specs.declared.fault.Input.TheVariants.{StructureInput, ProofInput}
+use Rattle.cave_runs.specs.declared.fault.Input.TheVariants.{ProofInput}
 use Rattle.cave_runs.specs.declared.fault.RunFault.{RunFault}
 use Rattle.cave_runs.specs.declared.fault.RunFault.TheVariants as faults
 use Rattle.cave_runs.proofs.RunLemmas.{input_fault}
@@ -45,15 +44,15 @@ check_excuse e (inr (inr none)) = inr (inr (inl (ap of_check none)))
 -- what is answered of the bytes that were read, said of those that the reader had
 pub said : (inner : Result Verdict CheckFault) (r : Result Verdict RunFault) (structure : Option (List ℕ))
     (bytes : List ℕ) (table : Option (List ℕ)) (rule : Rule) (certificate : Option (List ℕ))
-        → IfSome structure (λ b. bytes ≡ b)
+    → IfSome structure (λ b. bytes ≡ b)
     → IfSome certificate (λ text. (verdict : Verdict) → IsJudged bytes table rule text verdict
-        → IsReadAnswer inner verdict)
+    → IsReadAnswer inner verdict)
     → ((verdict : Verdict) → IsReadAnswer inner verdict → IsSaid r verdict) → SaysIt structure table rule certificate r
 said inner r None bytes table rule certificate same only lifted = tt
 said inner r (Some b) bytes table rule None same only lifted = tt
 said inner r (Some b) bytes table rule (Some text) same only lifted =
     λ verdict judged. lifted verdict (only verdict (subst (λ (x : List ℕ). IsJudged x table rule text verdict)
-        (sym same) judged))
+    (sym same) judged))
 
 pub said_err : (e : CheckFault) (f : RunFault) (r : Result Verdict RunFault) → r ≡ Err f → f ≡ of_check e
     → (verdict : Verdict) → IsReadAnswer (Err e) verdict → IsSaid r verdict
@@ -74,7 +73,7 @@ told_fault bytes table e (inner, is, same) = (inner, is, of_both e inner same)
 pub no_verdict : (e : CheckFault) (structure : Option (List ℕ)) (bytes : List ℕ)
     (table certificate : Option (List ℕ)) → IfSome structure (λ b. bytes ≡ b) → length bytes ≤ structure_limit
     → ((¬ IsOfReading e) → verdicts.IsFaultOfBytes bytes table e)
-        → (e ≡ check.TooLong → IfSome certificate (λ text. proof_limit < length text))
+    → (e ≡ check.TooLong → IfSome certificate (λ text. proof_limit < length text))
     → IsOfInput (of_check e) → IsNoVerdict structure table certificate (of_check e)
 no_verdict e structure bytes table certificate same within told long of_input = by e told long of_input
   where
@@ -84,7 +83,7 @@ no_verdict e structure bytes table certificate same within told long of_input = 
 
     by : (e : CheckFault) → ((¬ IsOfReading e) → verdicts.IsFaultOfBytes bytes table e)
         → (e ≡ check.TooLong → IfSome certificate (λ text. proof_limit < length text)) → IsOfInput (of_check e)
-            → IsNoVerdict structure table certificate (of_check e)
+        → IsNoVerdict structure table certificate (of_check e)
     by (check.Scan f) told long of_input = of_cave (check.Scan f)
         (told (λ r. elim r [ inl e ↦ cc | inr r ↦ elim r [ inl e ↦ cc | inr e ↦ cc ] ]))
     by (check.Table f) told long of_input = of_cave (check.Table f)
@@ -99,7 +98,7 @@ no_verdict e structure bytes table certificate same within told long of_input = 
 pub unsaid : (bytes : List ℕ) (table : Option (List ℕ)) (e : CheckFault)
     → ((f : CheckFault) → verdicts.IsFaultOfBytes bytes table f → (e ≡ f) ⊎ IsOfReading e)
     → (due : RunFault) → IsFaultOfBytes bytes table due → (of_check e ≡ due) ⊎ (of_check e ≡ faults.ReadFailed)
-        ⊎ (of_check e ≡ faults.TooLong ProofInput) ⊎ (of_check e ≡ faults.OutOfMemory)
+    ⊎ (of_check e ≡ faults.TooLong ProofInput) ⊎ (of_check e ≡ faults.OutOfMemory)
 unsaid bytes table e refused due (inner, is, same) = elim (refused (check_faults.of_cave inner) (inner, is, refl)) [
   | inl e ↦ inl (ap of_check e ∙ of_both (check_faults.of_cave inner) inner refl ∙ sym same)
   | inr r ↦ inr (elim r [
@@ -114,5 +113,5 @@ unsaid bytes table e refused due (inner, is, same) = elim (refused (check_faults
 -- where there is a verdict, no fault is due
 pub none_due : (bytes : List ℕ) (table : Option (List ℕ))
     → ((f : CheckFault) → verdicts.IsFaultOfBytes bytes table f → ⊥) → (due : RunFault)
-        → IsFaultOfBytes bytes table due → ⊥
+    → IsFaultOfBytes bytes table due → ⊥
 none_due bytes table clean due (inner, is, same) = clean (check_faults.of_cave inner) (inner, is, refl)

@@ -1,49 +1,44 @@
 -- What a plan writes, and what its faults leave.
-use Rattle.std.proofs.Common.{◌≡◌, ◌≢◌, ℕ, ◌≤◌, Bool, true, false, List, [], ◌++◌, length, map, Contains, Option}
+use Rattle.std.proofs.Common.{◌≡◌, ◌≢◌, ℕ, ◌≤◌, List, [], length, map, Contains, Option}
 use Rattle.std.proofs.Common.{Some, None, Result, Ok, Err, refl, sym, ap, subst, ◌∙◌, ◌⊎◌, inl, inr, arith}
-use Rattle.std.specs.Prelude.{IfErr, IfSome, OnErr, OnOk, MatchResult}
-use Rattle.std.specs.Io.KnownBytes.{Appends, Keeps}
+use Rattle.std.specs.Prelude.{IfErr, IfSome, OnErr, OnOk}
+use Rattle.std.specs.Io.KnownBytes.{Appends}
 use Rattle.std.proofs.KnownBytes.{Keeps-refl}
 use Rattle.std.proofs.lemmas.List.{append-nil}
 use Rattle.scan_core.specs.Box.{Point, point, coordinates}
 use Rattle.cave_model.specs.Bytes as caves
 use Rattle.cave_model.specs.Bytes.{IsCaveOfBytes, IsCaveAnswer}
-use Rattle.cave_model.specs.Cave.{Cave, IsWorld}
+use Rattle.cave_model.specs.Cave.{Cave}
 use Rattle.cave_model.specs.Listing.{Lists}
 use Rattle.cave_model.specs.Rule.{Rule}
 use Rattle.cave_model.specs.declared.cave_fault.CaveFault.{CaveFault}
 use Rattle.cave_model.specs.declared.cave_fault.CaveFault.TheVariants as cave_faults
-use Rattle.cover_rows.specs.Coverage.{IsUnlightable, IsUnlightableFault}
+use Rattle.cover_rows.specs.Coverage.{IsUnlightableFault}
 use Rattle.cover_rows.specs.declared.fault.CoverFault.{CoverFault}
 use Rattle.cover_rows.specs.declared.fault.CoverFault.TheVariants as cover
-use Rattle.proof_rules.specs.Certificate.{torches_of}
-use Rattle.proof_tree.specs.Planned.{Plan, section_of, certificate_of, certificate_text}
+use Rattle.proof_tree.specs.Planned.{Plan, certificate_of, certificate_text}
 use Rattle.proof_tree.specs.Writing.{AppendsFront, AppendsPart}
 use Rattle.proof_tree.specs.declared.fault.WriteFault.{WriteFault}
 use Rattle.proof_tree.specs.declared.fault.WriteFault.TheVariants as writing
 use Rattle.proof_tree.proofs.SentLemmas.{part_none}
-use Rattle.plan_laws.specs.Best.{AreTorchesOf}
-use Rattle.plan_laws.specs.Bounded.{AreInOrder}
 use Rattle.plan_laws.proofs.AcceptedLemmas.{accepted, best_are_bounded, part_of, section_torches}
 use Rattle.plan_laws.proofs.PartLemmas.{same_number}
-use Rattle.cave_plan.specs.Outline.{IsPlanned, IsStoppedAt, IsOutlineOf}
+use Rattle.cave_plan.specs.Outline.{IsPlanned, IsStoppedAt}
 use Rattle.cave_runs.specs.Faults.{of_cave, of_write}
 use Rattle.cave_runs.specs.Limits.{structure_limit}
-use Rattle.cave_runs.specs.PlanRuns.{WritesBest, WritesFloor, EndsIn, Plans, AreTextsOf, Begins, BeginsPlan, Leaves}
+use Rattle.cave_runs.specs.PlanRuns.{WritesBest, WritesFloor, EndsIn, Plans, Begins, BeginsPlan, Leaves}
 use Rattle.cave_runs.specs.PlanRuns.{LeavesIn, LeavesProved, IsUnlit, IsNoPlan, IsNoPlanOfInput}
-use Rattle.cave_runs.specs.Runs.{IsFaultOfBytes, IsRefusal, IsRefusedRun}
 use Rattle.cave_runs.proofs.RunLemmas.{cave_refused, cave_clean}
 use Rattle.cave_runs.specs.declared.fault.RunFault.{RunFault}
 use Rattle.cave_runs.specs.declared.fault.RunFault.TheVariants as faults
 use Rattle.cave_runs.specs.declared.plan.Outcome.{Outcome}
-use Rattle.cave_runs.specs.declared.plan.Outcome.TheVariants.{Done, Stopped}
 
 -- ---- what is written
 
 pub writes_best : (cave : Cave) (text : List ℕ) (plans : List Plan) (old new proof_old proof_new : Option (List ℕ))
     → IsPlanned cave text plans
     → Appends old new text → Appends proof_old proof_new (certificate_text cave plans)
-        → WritesBest cave old new proof_old proof_new
+    → WritesBest cave old new proof_old proof_new
 writes_best cave text plans old new proof_old proof_new is written proved = record {
   torches = is.torches;
   best = is.best;
@@ -56,7 +51,7 @@ writes_best cave text plans old new proof_old proof_new is written proved = reco
   same = is.of_plans.exact;
   number = same_number cave (map part_of plans) is.torches (best_are_bounded cave plans is.plans_are)
       (subst (λ (l : List ℕ). Lists (Contains l) is.torches) (sym (section_torches plans)) is.of_plans) ∙ ap length
-          (section_torches plans);
+      (section_torches plans);
   proved = proved;
 }
 
@@ -86,13 +81,19 @@ all_is_part old new text taken = (text, [], sym (append-nil text), taken)
 pub certificate_failed : (fault : WriteFault) (cave : Cave) (text : List ℕ) (plans : List Plan)
     (same proof_old proof_new : Option (List ℕ)) → IsPlanned cave text plans
     → AppendsPart proof_old proof_new (certificate_text cave plans)
-        → LeavesProved (of_write fault) cave same same proof_old proof_new
+    → LeavesProved (of_write fault) cave same same proof_old proof_new
 certificate_failed fault cave text plans same proof_old proof_new is part = record
     { each = λ turns. by fault (begun turns) }
   where
     begun : (turns : Option ℕ) → Begins cave turns same same proof_old proof_new
-    begun turns = record { text = text; proof = certificate_text cave plans; are = inl (plans, is, refl); written =
-        part_none same text; proved = part }
+    begun turns = record {
+      text = text;
+      proof = certificate_text cave plans;
+      are = inl (plans, is, refl);
+      written =
+          part_none same text;
+      proved = part;
+    }
 
     by : (fault : WriteFault) {turns : Option ℕ} → Begins cave turns same same proof_old proof_new
         → LeavesIn (of_write fault) cave turns same same proof_old proof_new
@@ -103,12 +104,18 @@ certificate_failed fault cave text plans same proof_old proof_new is part = reco
 pub text_failed : (fault : RunFault) (cave : Cave) (text : List ℕ) (plans : List Plan)
     (old new proof_old proof_new : Option (List ℕ)) → fault ≡ faults.WriteFailed → IsPlanned cave text plans
     → AppendsFront old new text → Appends proof_old proof_new (certificate_text cave plans)
-        → LeavesProved fault cave old new proof_old proof_new
+    → LeavesProved fault cave old new proof_old proof_new
 text_failed fault cave text plans old new proof_old proof_new failed is front proved = record {
   each = λ turns. subst (λ (f : RunFault). LeavesIn f cave turns old new proof_old proof_new) (sym failed)
-      (record { text = text; proof = certificate_text cave plans; are = inl (plans, is, refl); written =
-          front_is_part old new text front; proved = all_is_part proof_old proof_new (certificate_text cave plans)
-              proved });
+      (record {
+        text = text;
+        proof = certificate_text cave plans;
+        are = inl (plans, is, refl);
+        written =
+            front_is_part old new text front;
+        proved = all_is_part proof_old proof_new (certificate_text cave plans)
+            proved;
+      });
 }
 
 pub stop_failed : (fault : RunFault) (cave : Cave) (turns : Option ℕ) (text : List ℕ)
@@ -116,23 +123,33 @@ pub stop_failed : (fault : RunFault) (cave : Cave) (turns : Option ℕ) (text : 
     → AppendsFront old new text → LeavesIn fault cave turns old new proof proof
 stop_failed fault cave turns text old new proof failed is front =
     subst (λ (f : RunFault). LeavesIn f cave turns old new proof proof) (sym failed)
-    (record { text = text; proof = []; are = inr (is, refl); written = front_is_part old new text front; proved =
-        part_none proof [] })
+    (record {
+      text = text;
+      proof = [];
+      are = inr (is, refl);
+      written = front_is_part old new text front;
+      proved =
+          part_none proof [];
+    })
 
 -- ---- the whole run
 
 pub leaves : (fault : RunFault) (known : Option (List ℕ)) (bytes : List ℕ) (table : Option (List ℕ)) (rule : Rule)
     (turns : Option ℕ) (cave : Cave) (old new proof_old proof_new : Option (List ℕ))
     → IfSome known (λ b. bytes ≡ b) → IsCaveOfBytes bytes table rule cave
-        → LeavesIn fault cave turns old new proof_old proof_new
+    → LeavesIn fault cave turns old new proof_old proof_new
     → Leaves fault known table rule turns old new proof_old proof_new
 leaves fault known bytes table rule turns cave old new proof_old proof_new same told left = by fault left
   where
     begins : (k : Option (List ℕ)) → IfSome k (λ b. bytes ≡ b) → Begins cave turns old new proof_old proof_new
         → IfSome k (λ b. BeginsPlan b table rule turns old new proof_old proof_new)
     begins None e b = tt
-    begins (Some k) e b = record { cave = cave; told = subst (λ (x : List ℕ). IsCaveOfBytes x table rule cave) e
-        told; begins = b }
+    begins (Some k) e b = record {
+      cave = cave;
+      told = subst (λ (x : List ℕ). IsCaveOfBytes x table rule cave) e
+          told;
+      begins = b;
+    }
 
     by : (f : RunFault) → LeavesIn f cave turns old new proof_old proof_new
         → Leaves f known table rule turns old new proof_old proof_new
@@ -163,7 +180,7 @@ leaves_all faults.NoThread known table rule turns w v other = (Keeps-refl w, Kee
 pub plans : (known : Option (List ℕ)) (bytes : List ℕ) (table : Option (List ℕ)) (rule : Rule) (turns : Option ℕ)
     (cave : Cave) (outcome : Outcome) (old new proof_old proof_new : Option (List ℕ))
     → IfSome known (λ b. bytes ≡ b) → IsCaveOfBytes bytes table rule cave
-        → EndsIn outcome cave turns old new proof_old proof_new
+    → EndsIn outcome cave turns old new proof_old proof_new
     → IfSome known (λ b. Plans b table rule turns outcome old new proof_old proof_new)
 plans None bytes table rule turns cave outcome old new proof_old proof_new same told ends = tt
 plans (Some b) bytes table rule turns cave outcome old new proof_old proof_new same told ends =
@@ -176,9 +193,9 @@ pub no_plan_unwritten : (bytes : List ℕ) (table : Option (List ℕ)) (rule : R
     → (fault ≢ faults.OutOfMemory → IsNoPlan bytes table rule fault) → fault ≢ faults.WriteFailed
 no_plan_unwritten bytes table rule fault told failed = elim
     (told (λ e. (let both : faults.WriteFailed ≡ faults.OutOfMemory = sym failed ∙ e in cc))) [
-  | inl f ↦ of_cave_unwritten f.0 (sym failed ∙ f.2)
-  | inr u ↦ (let both = sym failed ∙ u.2.named in absurd (apart _ _ _ both))
-]
+      | inl f ↦ of_cave_unwritten f.0 (sym failed ∙ f.2)
+      | inr u ↦ (let both = sym failed ∙ u.2.named in absurd (apart _ _ _ both))
+    ]
   where
     of_cave_unwritten : (f : CaveFault) → faults.WriteFailed ≡ of_cave f → ⊥
     of_cave_unwritten (cave_faults.Scan f) e = cc
@@ -194,8 +211,11 @@ pub no_plan_input : (known : Option (List ℕ)) (bytes : List ℕ) (table : Opti
     → IsNoPlan bytes table rule fault → IfSome known (λ b. IsNoPlanOfInput b table rule fault)
 no_plan_input None bytes table rule fault same within is = tt
 no_plan_input (Some b) bytes table rule fault same within is =
-    inr (subst (λ (x : List ℕ). length x ≤ structure_limit) same within, subst
-        (λ (x : List ℕ). IsNoPlan x table rule fault) same is)
+    inr (
+      subst (λ (x : List ℕ). length x ≤ structure_limit) same within,
+      subst
+          (λ (x : List ℕ). IsNoPlan x table rule fault) same is,
+    )
 
 no_plan_within : (bytes : List ℕ) (table : Option (List ℕ)) (rule : Rule) (due : RunFault)
     → length bytes ≤ structure_limit → IsNoPlanOfInput bytes table rule due → IsNoPlan bytes table rule due
@@ -205,17 +225,17 @@ no_plan_within bytes table rule due within (inr fault) = fault.1
 pub no_plan_refused : (known : Option (List ℕ)) (bytes : List ℕ) (table : Option (List ℕ)) (rule : Rule)
     (Met : RunFault → Type 0) → IfSome known (λ b. bytes ≡ b) → length bytes ≤ structure_limit
     → ((due : RunFault) → IsNoPlan bytes table rule due → Met due)
-        → IfSome known (λ b. (due : RunFault) → IsNoPlanOfInput b table rule due → Met due)
+    → IfSome known (λ b. (due : RunFault) → IsNoPlanOfInput b table rule due → Met due)
 no_plan_refused None bytes table rule Met same within met = tt
 no_plan_refused (Some b) bytes table rule Met same within met =
     λ due fault. met due (no_plan_within bytes table rule due within
-        (subst (λ (x : List ℕ). IsNoPlanOfInput x table rule due) (sym same) fault))
+    (subst (λ (x : List ℕ). IsNoPlanOfInput x table rule due) (sym same) fault))
 
 -- a dark cell that no place lights, as it is told by a run
 pub unlit_named : (cave : Cave) (cell : ℕ) (size result : List ℕ) → point size ≡ cave.size
     → point result ≡ coordinates (point size) cell
     → IsUnlightableFault cave (cover.Unlightable cell)
-        → IsUnlit cave (faults.Unlightable (point result).x (point result).y (point result).z)
+    → IsUnlit cave (faults.Unlightable (point result).x (point result).y (point result).z)
 unlit_named cave cell size result sized at (other, is, least, same) =
     let e : cell ≡ other = inside same in
     record {
@@ -239,7 +259,7 @@ pub unlit_same : (cave : Cave) (cell : ℕ) (size result : List ℕ) (due : RunF
     → faults.Unlightable (point result).x (point result).y (point result).z ≡ due
 unlit_same cave cell size result due sized at u e =
     ap (λ (p : Point). faults.Unlightable p.x p.y p.z)
-        (at ∙ ap (λ (s : Point). coordinates s cell) sized ∙ ap (coordinates cave.size) e) ∙ sym u.named
+    (at ∙ ap (λ (s : Point). coordinates s cell) sized ∙ ap (coordinates cave.size) e) ∙ sym u.named
 
 pub same_cell : (fault : CoverFault) (a b : ℕ) → fault ≡ cover.Unlightable a → (fault ≡ cover.Unlightable b)
     ⊎ (fault ≡ cover.OutOfMemory) → a ≡ b
@@ -268,7 +288,7 @@ unplanned_here bytes table rule world clean only due (inr (cave, told, unlit)) =
 pub written_in : {X : Type 0} (r : Result X RunFault) (cave : Cave) (text : List ℕ) (plans : List Plan)
     (old new proof_old proof_new : Option (List ℕ)) → IsPlanned cave text plans
     → OnOk r (Appends old new text) → Appends proof_old proof_new (certificate_text cave plans)
-        → OnOk r (WritesBest cave old new proof_old proof_new)
+    → OnOk r (WritesBest cave old new proof_old proof_new)
 written_in (Ok x) cave text plans old new proof_old proof_new is written proved = writes_best cave text plans old
     new proof_old proof_new is written proved
 written_in (Err e) cave text plans old new proof_old proof_new is written proved = tt
@@ -276,7 +296,7 @@ written_in (Err e) cave text plans old new proof_old proof_new is written proved
 pub text_failed_in : {X : Type 0} (r : Result X RunFault) (cave : Cave) (text : List ℕ) (plans : List Plan)
     (old new proof_old proof_new : Option (List ℕ)) → IsPlanned cave text plans
     → IfErr r (λ e. e ≡ faults.WriteFailed) → OnErr r (AppendsFront old new text)
-        → Appends proof_old proof_new (certificate_text cave plans)
+    → Appends proof_old proof_new (certificate_text cave plans)
     → IfErr r (λ e. LeavesProved e cave old new proof_old proof_new)
 text_failed_in (Ok x) cave text plans old new proof_old proof_new is kind front proved = tt
 text_failed_in (Err e) cave text plans old new proof_old proof_new is kind front proved = text_failed e cave text
@@ -284,7 +304,7 @@ text_failed_in (Err e) cave text plans old new proof_old proof_new is kind front
 
 pub ended_in : {X : Type 0} (fault : RunFault) (r : Result X RunFault) (cave : Cave) (turns : Option ℕ)
     (text : List ℕ) (old new proof : Option (List ℕ)) → r ≡ Err fault → fault ≡ faults.WriteFailed
-        → IsStoppedAt cave turns text
+    → IsStoppedAt cave turns text
     → AppendsFront old new text → IfErr r (λ e. LeavesIn e cave turns old new proof proof)
 ended_in fault r cave turns text old new proof is failed stopped front = rw is
     (stop_failed fault cave turns text old new proof failed stopped front)

@@ -16,7 +16,7 @@ use Rattle.cave_runs.specs.declared.fault.RunFault.TheVariants as faults
 -- a fault of the cave is one of the bytes
 pub cave_fault : (bytes : List ℕ) (table : Option (List ℕ)) (e : CaveFault)
     → (e ≢ cave.OutOfMemory → caves.IsFaultOfBytes bytes table e) → of_cave e ≢ faults.OutOfMemory
-        → IsFaultOfBytes bytes table (of_cave e)
+    → IsFaultOfBytes bytes table (of_cave e)
 cave_fault bytes table cave.OutOfMemory told other = absurd (other refl)
 cave_fault bytes table (cave.Scan f) told other = (cave.Scan f, told (λ same. cc), refl)
 cave_fault bytes table (cave.Table f) told other = (cave.Table f, told (λ same. cc), refl)
@@ -39,11 +39,14 @@ cave_clean bytes table clean due (inner, is, same) = clean inner is
 -- what is said of the bytes that were read, said of those that the reader had
 pub input_fault : (known : Option (List ℕ)) (bytes : List ℕ) (table : Option (List ℕ)) (e : RunFault)
     → IfSome known (λ b. bytes ≡ b) → length bytes ≤ structure_limit → IsFaultOfBytes bytes table e
-        → IfSome known (λ b. IsFaultOfInput b table e)
+    → IfSome known (λ b. IsFaultOfInput b table e)
 input_fault None bytes table e same within fault = tt
 input_fault (Some b) bytes table e same within fault =
-    inr (subst (λ (x : List ℕ). length x ≤ structure_limit) same within, subst
-        (λ (x : List ℕ). IsFaultOfBytes x table e) same fault)
+    inr (
+      subst (λ (x : List ℕ). length x ≤ structure_limit) same within,
+      subst
+          (λ (x : List ℕ). IsFaultOfBytes x table e) same fault,
+    )
 
 -- a fault that is due to an input within the limit is one of its bytes
 pub within_limit : (bytes : List ℕ) (table : Option (List ℕ)) (due : RunFault) → length bytes ≤ structure_limit
@@ -54,12 +57,12 @@ within_limit bytes table due within (inr fault) = fault.1
 -- what the bytes' faults meet, those of the input meet
 pub input_refused : (known : Option (List ℕ)) (bytes : List ℕ) (table : Option (List ℕ)) (Met : RunFault → Type 0)
     → IfSome known (λ b. bytes ≡ b) → length bytes ≤ structure_limit
-        → ((due : RunFault) → IsFaultOfBytes bytes table due → Met due)
-            → IfSome known (λ b. (due : RunFault) → IsFaultOfInput b table due → Met due)
+    → ((due : RunFault) → IsFaultOfBytes bytes table due → Met due)
+    → IfSome known (λ b. (due : RunFault) → IsFaultOfInput b table due → Met due)
 input_refused None bytes table Met same within met = tt
 input_refused (Some b) bytes table Met same within met =
     λ due fault. met due (within_limit bytes table due within
-        (subst (λ (x : List ℕ). IsFaultOfInput x table due) (sym same) fault))
+    (subst (λ (x : List ℕ). IsFaultOfInput x table due) (sym same) fault))
 
 -- a refusal without streams is one with them
 pub widened : {X : Type 0} (r : Result X RunFault) (e due : RunFault) → r ≡ Err e → (e ≡ due)
@@ -70,7 +73,7 @@ widened r e due is (inr none) = rw is (inr (inr none))
 -- what a failed write leaves of the text of the bytes that were read
 pub begun_text : {X : Type 0} (r : Result X RunFault) (known : Option (List ℕ)) (bytes : List ℕ)
     (table : Option (List ℕ)) (rule : Rule) (text : List ℕ) (old new : Option (List ℕ))
-        → IfSome known (λ b. bytes ≡ b) → IsDarkTextOf bytes table rule text → OnErr r (AppendsFront old new text)
+    → IfSome known (λ b. bytes ≡ b) → IsDarkTextOf bytes table rule text → OnErr r (AppendsFront old new text)
     → IfErr r (λ e. e ≡ faults.WriteFailed → IfSome known (λ b. BeginsDark b table rule old new))
 begun_text (Ok x) known bytes table rule text old new same dark begun = tt
 begun_text (Err e) None bytes table rule text old new same dark begun = λ is. tt

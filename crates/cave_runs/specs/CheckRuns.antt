@@ -1,5 +1,5 @@
 -- What a check writes of the bytes that are read, or why there is no verdict. This is this project's own.
-use Rattle.std.specs.Prelude.{◌≡◌, ◌≢◌, ◌<◌, ◌⊎◌, ◌++◌, ℕ, List, length, codes, Option, Result, MatchResult, IfSome}
+use Rattle.std.specs.Prelude.{◌≡◌, ◌<◌, ◌⊎◌, ◌++◌, ℕ, List, length, codes, Option, Result, MatchResult, IfSome}
 use Rattle.std.specs.Io.KnownBytes.{Appends, Keeps}
 use Rattle.cave_model.specs.Rule.{Rule}
 use Rattle.proof_tree.specs.Writing.{AppendsFront}

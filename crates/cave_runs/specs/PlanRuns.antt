@@ -89,8 +89,8 @@ Leaves faults.WriteFailed known table rule turns old new proof_old proof_new =
     IfSome known (λ bytes. BeginsPlan bytes table rule turns old new proof_old proof_new)
 Leaves faults.OutOfMemory known table rule turns old new proof_old proof_new =
     Keeps old new
-        × (Keeps proof_old proof_new
-            ⊎ IfSome known (λ bytes. BeginsPlan bytes table rule turns old new proof_old proof_new))
+    × (Keeps proof_old proof_new
+    ⊎ IfSome known (λ bytes. BeginsPlan bytes table rule turns old new proof_old proof_new))
 Leaves other known table rule turns old new proof_old proof_new = Keeps old new × Keeps proof_old proof_new
 
 -- what a fault of writing leaves of this cave's plan

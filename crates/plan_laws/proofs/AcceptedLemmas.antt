@@ -1,5 +1,5 @@
 -- The certificate of best plans of all regions is accepted.
-use Rattle.std.proofs.Common.{◌≡◌, ◌≢◌, ℕ, zero, suc, ◌+◌, ◌<◌, ◌≤◌, Bool, true, false, ◌||◌, ◌&&◌, not, nat_eq, IsTrue, List, [], ◌∷◌, ◌++◌, length, get_or, All, Contains, map, refl, sym, ap, subst, ◌∙◌, arith, ◌⊎◌, inl, inr, length-append}
+use Rattle.std.proofs.Common.{◌≡◌, ℕ, zero, suc, ◌<◌, ◌≤◌, Bool, true, false, ◌||◌, ◌&&◌, not, nat_eq, IsTrue, List, [], ◌∷◌, ◌++◌, length, get_or, All, Contains, map, refl, sym, ap, subst, ◌∙◌, arith, ◌⊎◌, inl, inr, length-append}
 use Rattle.std.specs.Prelude.{if◌then◌else◌}
 use Rattle.std.proofs.lemmas.Bool.{cases_lt, true≢false}
 use Rattle.std.proofs.lemmas.Bool.Decides.{nat_tests}
@@ -9,27 +9,26 @@ use Rattle.scan_core.specs.Box.{cell_count}
 use Rattle.block_rows.specs.declared.class.Class.{Class}
 use Rattle.block_rows.specs.Class.{void}
 use Rattle.cave_model.specs.Cave.{Cave, class_at, IsSound, IsWorld}
-use Rattle.cave_model.specs.Coverage.{of_cave, Agrees, IsLitBy, IsPlaceOf}
-use Rattle.cave_model.specs.Rule.{IsRule, is_headroom, is_need}
+use Rattle.cave_model.specs.Coverage.{of_cave, IsLitBy, IsPlaceOf}
+use Rattle.cave_model.specs.Rule.{is_need}
 use Rattle.cave_model.specs.Spawn.{IsDark}
-use Rattle.cave_model.specs.Torches.{IsPlace, Lights}
+use Rattle.cave_model.specs.Torches.{IsPlace}
 use Rattle.cave_model.specs.Plan.{AreDistinct}
 use Rattle.cave_model.specs.Listing.{Lists}
 use Rattle.cave_model.specs.Regions.{all_cells, AreRegions}
 use Rattle.proof_check.proofs.FewestLemmas.{length-cells}
 use Rattle.cave_model.proofs.TorchLemmas.{spawnable_inside}
-use Rattle.set_cover.specs.Instance.{Instance, of_instance}
+use Rattle.set_cover.specs.Instance.{of_instance}
 use Rattle.proof_rules.specs.Tree.{Tree, Forest, leaf, branch, bar, none, more}
-use Rattle.proof_rules.specs.Good.{Good, IsCoverOfPiece}
-use Rattle.proof_rules.specs.Certificate.{Section, Version, first, second, Certificate, need_of, HasNoBar, HaveNoBar, IsVersionOf, IsSectionIn, IsInRange, IsTreeIn, AreListed, regions_of, torches_of}
-use Rattle.proof_rules.specs.Text.{IsTextOf}
+use Rattle.proof_rules.specs.Good.{Good}
+use Rattle.proof_rules.specs.Certificate.{Section, first, second, need_of, HasNoBar, HaveNoBar, IsVersionOf, IsSectionIn, IsInRange, torches_of}
 use Rattle.proof_rules.proofs.ListLemmas.{no_member, all_members, at_member, distinct_nil}
 use Rattle.proof_rules.proofs.CarryLemmas.{carries}
 use Rattle.proof_rules.proofs.BoundLemmas.{bounds, piece_serves}
 use Rattle.proof_tree.specs.Order.{in_order, ordered_tree, ordered_trees}
-use Rattle.proof_tree.specs.Planned.{Plan, has_bar, have_bar, any_bar, is_second, version_of, section_of, certificate_of, certificate_text, IsBestOf, AreBestOf}
+use Rattle.proof_tree.specs.Planned.{Plan, has_bar, have_bar, any_bar, is_second, section_of, certificate_of, certificate_text, IsBestOf, AreBestOf}
 use Rattle.proof_tree.proofs.OrderLemmas.{has_ordered, ordered_has, length_ordered}
-use Rattle.proof_check.specs.Accepted.{IsOfCave, AreDistinctPlaces, LeaveNoneDark, AreProved, Proves, Accepts, IsBestPlan}
+use Rattle.proof_check.specs.Accepted.{AreProved, Proves, Accepts, IsBestPlan}
 use Rattle.plan_laws.specs.Best.{AreTorchesOf}
 use Rattle.plan_laws.specs.Bounded.{Bounded, IsBoundedIn, AreBoundedIn, AreInOrder, all_torches, total_floor}
 use Rattle.plan_laws.proofs.OrderedLemmas.{order_distinct, good_in_order, tree_in_range, listed_in_order, no_more_than}

@@ -1,17 +1,17 @@
 -- A good tree with its leaves in order is as good, and lies in range.
-use Rattle.std.proofs.Common.{◌≡◌, ◌≢◌, ℕ, zero, suc, ◌+◌, ◌<◌, ◌≤◌, List, [], ◌∷◌, ◌++◌, length, All, Contains, refl, sym, ap, subst, ◌∙◌, arith, inl, inr, length-append}
+use Rattle.std.proofs.Common.{◌≡◌, ℕ, zero, suc, ◌<◌, ◌≤◌, List, [], ◌∷◌, ◌++◌, length, Contains, refl, sym, subst, arith, inl, inr, length-append}
 use Rattle.std.specs.List.Sorted.{IsStrictlyIncreasing}
 use Rattle.std.proofs.lemmas.Bool.{cases_eq}
-use Rattle.std.proofs.lemmas.List.Elements.{Contains-append_left, Contains-append_right, Contains-push}
+use Rattle.std.proofs.lemmas.List.Elements.{Contains-append_left, Contains-push}
 use Rattle.std.proofs.lemmas.List.Kept.{AllPairs-from_increasing}
 use Rattle.cave_model.specs.Coverage.{Coverage}
 use Rattle.cave_model.specs.Plan.{AreDistinct}
 use Rattle.proof_rules.specs.Tree.{Tree, Forest, leaf, branch, bar, none, more, tree_count}
-use Rattle.proof_rules.specs.Good.{Good, AreGood, AreScattered, IsUnlit, AreOpen}
+use Rattle.proof_rules.specs.Good.{Good, AreGood, AreScattered, IsUnlit}
 use Rattle.proof_rules.specs.Certificate.{AreListed, IsTreeIn, AreTreesIn}
 use Rattle.proof_rules.proofs.ListLemmas.{all_members, at_member, no_more}
 use Rattle.proof_tree.specs.Order.{in_order, ordered_tree, ordered_trees}
-use Rattle.proof_tree.proofs.OrderLemmas.{has_ordered, ordered_has, order_rises, from_rises, length_ordered}
+use Rattle.proof_tree.proofs.OrderLemmas.{has_ordered, order_rises, from_rises, length_ordered}
 
 pub rising_distinct : (cells : List ℕ) → IsStrictlyIncreasing cells → AreDistinct cells
 rising_distinct cells up = λ i j d lt h e. (let less = AllPairs-from_increasing cells up i j d lt h in omega (arith, less, e))

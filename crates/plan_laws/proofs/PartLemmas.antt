@@ -1,18 +1,17 @@
 -- Covers of all regions together, and what bounds them.
-use Rattle.std.proofs.Common.{◌≡◌, ◌≢◌, ℕ, suc, ◌+◌, ◌<◌, ◌≤◌, IsTrue, List, [], ◌∷◌, ◌++◌, length, All, Contains, map, refl, sym, ap, subst, ◌∙◌, arith, inl, inr, length-append}
+use Rattle.std.proofs.Common.{◌≡◌, ℕ, suc, ◌≤◌, IsTrue, List, [], ◌∷◌, ◌++◌, length, All, Contains, map, sym, subst, arith, inl, inr, length-append}
 use Rattle.std.specs.Prelude.{slice_index_or}
 use Rattle.std.specs.List.Sorted.{IsStrictlyIncreasing}
 use Rattle.std.proofs.lemmas.List.Elements.{All-head, All-tail, Contains-append_cases, Contains-append_left, Contains-append_right}
 use Rattle.std.proofs.lemmas.List.Kept.{AllPairs-from_increasing}
 use Rattle.cave_model.specs.Cave.{Cave, IsSound}
-use Rattle.cave_model.specs.Coverage.{of_cave, Agrees, IsLitBy, IsPlaceOf}
-use Rattle.cave_model.specs.Spawn.{IsDark}
+use Rattle.cave_model.specs.Coverage.{of_cave, IsLitBy, IsPlaceOf}
 use Rattle.cave_model.specs.Torches.{is_legal, IsPlace, Lights}
-use Rattle.cave_model.specs.Plan.{Torch, cells_of, AreDistinct, AreLegal, IsSafe}
-use Rattle.cave_model.specs.Regions.{all_cells, AreRegions}
+use Rattle.cave_model.specs.Plan.{Torch, cells_of, AreDistinct, AreLegal}
+use Rattle.cave_model.specs.Regions.{all_cells}
 use Rattle.cave_model.proofs.TorchLemmas.{safe_covers, cover_is_safe}
-use Rattle.set_cover.specs.Instance.{Instance, of_instance}
-use Rattle.proof_rules.proofs.ListLemmas.{no_member, cons_cases, later, here, all_members, at_member, distinct_nil, distinct_append, no_more}
+use Rattle.set_cover.specs.Instance.{of_instance}
+use Rattle.proof_rules.proofs.ListLemmas.{no_member, cons_cases, all_members, at_member, distinct_nil, distinct_append, no_more}
 use Rattle.proof_check.proofs.FewestLemmas.{hung, pick, length-cells}
 use Rattle.plan_laws.specs.Bounded.{Bounded, IsBoundedIn, AreBoundedIn, AreInOrder, IsPlanWithin, all_torches, total_floor}
 

@@ -1,6 +1,4 @@
-use Rattle.std.proofs.Common.{eqb, sym, subst, ap, Contains}
-use Rattle.std.specs.List.{dedup}
-use Rattle.std.specs.List.Sorted.{IsStrictlyIncreasing}
+use Rattle.std.proofs.Common.{eqb, sym, subst, Contains}
 use Rattle.std.proofs.lemmas.List.Filters.{dedup_is}
 use Rattle.std.proofs.lemmas.List.Kept.{Contains-dedup_nat, Contains-from_dedup}
 use Rattle.std.proofs.lemmas.List.Sorted.{Contains-permutation, IsPermutation-sym}

@@ -10,6 +10,6 @@ loop-z-init c = layer_start (row_text c.args.world.now c.args.torches.now c.args
 pub loop-z-preserved : goal.loop-z-preserved
 loop-z-preserved c =
     layer_next (row_text c.args.world.now c.args.torches.now c.args.y) c.args.y c.loop-z.z
-        (string_bytes c.loop-z.out) (string_bytes c.in_ok-row.row) (string_bytes c.push_str.new.self)
+    (string_bytes c.loop-z.out) (string_bytes c.in_ok-row.row) (string_bytes c.push_str.new.self)
     (c.in_ok-push_str.ensures.bytes ∙ ap (λ (l : List ℕ). string_bytes c.loop-z.out
-        ++ l) c.as_str.ensures.value) c.loop-z.invariant c.in_ok-row.ensures
+    ++ l) c.as_str.ensures.value) c.loop-z.invariant c.in_ok-row.ensures

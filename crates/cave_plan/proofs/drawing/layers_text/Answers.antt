@@ -9,6 +9,6 @@ loop-y-init c = c.new-out.ensures.bytes ∙ sym (up_to_none (layer_if c.args.wor
 pub loop-y-preserved : goal.loop-y-preserved
 loop-y-preserved c =
     put_next (layer_if c.args.world.now c.args.torches.now) c.loop-y.y [] (string_bytes c.loop-y.out)
-        (string_bytes c.in_ok-layer.layer) (string_bytes c.push_str.new.self)
+    (string_bytes c.in_ok-layer.layer) (string_bytes c.push_str.new.self)
     (c.in_ok-push_str.ensures.bytes ∙ ap (λ (l : List ℕ). string_bytes c.loop-y.out
-        ++ l) c.as_str.ensures.value) c.loop-y.invariant c.in_ok-layer.ensures
+    ++ l) c.as_str.ensures.value) c.loop-y.invariant c.in_ok-layer.ensures

@@ -12,15 +12,15 @@ pub returns-in_err-bytes-clause-only : goal.returns-in_err-bytes-clause-only
 returns-in_err-bytes-clause-only g c =
     let p = err_from_is_err_and c.from_residual.result c.from_residual.ensures.1 in
     excused c.from_residual.result p.0 (g.R.Read.remaining c.args.reader.now) (option_copied c.args.table)
-        (rule_of c.args.rule) (g.C.Read.remaining c.args.certificate.now) p.1
+    (rule_of c.args.rule) (g.C.Read.remaining c.args.certificate.now) p.1
     (rw p.2 (reading_excuse c.in_err-bytes.field-0.0 StructureInput c.in_err-bytes.ensures.kinds))
 
 pub returns-in_err-verdict-clause-only : goal.returns-in_err-verdict-clause-only
 returns-in_err-verdict-clause-only g c =
     let p = err_from_is_err_and c.from_residual-in_err-verdict.result c.from_residual-in_err-verdict.ensures.1 in
     said c.check_from.result c.from_residual-in_err-verdict.result (g.R.Read.remaining c.args.reader.now)
-        c.in_ok-bytes.bytes.items (option_copied c.args.table) (rule_of c.args.rule)
-            (g.C.Read.remaining c.args.certificate.now)
+    c.in_ok-bytes.bytes.items (option_copied c.args.table) (rule_of c.args.rule)
+    (g.C.Read.remaining c.args.certificate.now)
     c.in_ok-bytes.ensures.all (rw c.deref.ensures.value at c.check_from.ensures.only)
     (rw c.in_err-verdict.was (said_err c.in_err-verdict.field-0.0 p.0 c.from_residual-in_err-verdict.result p.1 p.2))
 
@@ -28,38 +28,38 @@ pub returns-in_err-verdict-clause-fault : goal.returns-in_err-verdict-clause-fau
 returns-in_err-verdict-clause-fault g c =
     let p = err_from_is_err_and c.from_residual-in_err-verdict.result c.from_residual-in_err-verdict.ensures.1 in
     rw (p.1, p.2) (no_verdict c.in_err-verdict.field-0.0 (g.R.Read.remaining c.args.reader.now)
-        c.in_ok-bytes.bytes.items (option_copied c.args.table) (g.C.Read.remaining c.args.certificate.now)
+    c.in_ok-bytes.bytes.items (option_copied c.args.table) (g.C.Read.remaining c.args.certificate.now)
     c.in_ok-bytes.ensures.all c.in_ok-bytes.ensures.within
-        (rw c.deref.ensures.value at c.in_err-verdict.ensures.fault) c.in_err-verdict.ensures.too_long)
+    (rw c.deref.ensures.value at c.in_err-verdict.ensures.fault) c.in_err-verdict.ensures.too_long)
 
 pub returns-in_err-verdict-clause-refused : goal.returns-in_err-verdict-clause-refused
 returns-in_err-verdict-clause-refused g c =
     let p = err_from_is_err_and c.from_residual-in_err-verdict.result c.from_residual-in_err-verdict.ensures.1 in
     input_refused (g.R.Read.remaining c.args.reader.now) c.in_ok-bytes.bytes.items (option_copied c.args.table)
-        (IsUnsaid c.from_residual-in_err-verdict.result)
+    (IsUnsaid c.from_residual-in_err-verdict.result)
     c.in_ok-bytes.ensures.all c.in_ok-bytes.ensures.within
     (λ due fault. rw (p.1, p.2) (unsaid c.in_ok-bytes.bytes.items (option_copied c.args.table)
-        c.in_err-verdict.field-0.0 (rw c.deref.ensures.value at c.in_err-verdict.ensures.refused) due fault))
+    c.in_err-verdict.field-0.0 (rw c.deref.ensures.value at c.in_err-verdict.ensures.refused) due fault))
 
 pub returns-in_err-put_all-clause-refused : goal.returns-in_err-put_all-clause-refused
 returns-in_err-put_all-clause-refused g c =
     input_refused (g.R.Read.remaining c.args.reader.now) c.in_ok-bytes.bytes.items (option_copied c.args.table)
-        (IsUnsaid c.from_residual-in_err-put_all.result)
+    (IsUnsaid c.from_residual-in_err-put_all.result)
     c.in_ok-bytes.ensures.all c.in_ok-bytes.ensures.within
     (λ due fault. absurd (none_due c.in_ok-bytes.bytes.items (option_copied c.args.table)
-        (rw c.deref.ensures.value at c.in_ok-verdict.ensures.refused) due fault))
+    (rw c.deref.ensures.value at c.in_ok-verdict.ensures.refused) due fault))
 
 pub returns-clause-only : goal.returns-clause-only
 returns-clause-only g c =
     said c.check_from.result (Ok c.in_ok-verdict.verdict) (g.R.Read.remaining c.args.reader.now)
-        c.in_ok-bytes.bytes.items (option_copied c.args.table) (rule_of c.args.rule)
-            (g.C.Read.remaining c.args.certificate.now)
+    c.in_ok-bytes.bytes.items (option_copied c.args.table) (rule_of c.args.rule)
+    (g.C.Read.remaining c.args.certificate.now)
     c.in_ok-bytes.ensures.all (rw c.deref.ensures.value at c.check_from.ensures.only)
-        (rw c.in_ok-verdict.was (λ verdict same. same))
+    (rw c.in_ok-verdict.was (λ verdict same. same))
 
 pub returns-clause-refused : goal.returns-clause-refused
 returns-clause-refused g c =
     input_refused (g.R.Read.remaining c.args.reader.now) c.in_ok-bytes.bytes.items (option_copied c.args.table) (λ _. ⊥)
     c.in_ok-bytes.ensures.all c.in_ok-bytes.ensures.within
     (λ due fault. none_due c.in_ok-bytes.bytes.items (option_copied c.args.table)
-        (rw c.deref.ensures.value at c.in_ok-verdict.ensures.refused) due fault)
+    (rw c.deref.ensures.value at c.in_ok-verdict.ensures.refused) due fault)

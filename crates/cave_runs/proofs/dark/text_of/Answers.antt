@@ -7,13 +7,13 @@ pub returns-in_err-world-clause-fault : goal.returns-in_err-world-clause-fault
 returns-in_err-world-clause-fault c =
     let p = err_from_is_err_and c.from_residual.result c.from_residual.ensures.1 in
     rw (p.1, p.2) (cave_fault c.args.bytes.now (option_copied c.args.table) c.in_err-world.field-0.0
-        c.in_err-world.ensures.fault)
+    c.in_err-world.ensures.fault)
 
 pub returns-in_err-world-clause-refused : goal.returns-in_err-world-clause-refused
 returns-in_err-world-clause-refused c =
     let p = err_from_is_err_and c.from_residual.result c.from_residual.ensures.1 in
     rw (p.1, p.2) (cave_refused c.args.bytes.now (option_copied c.args.table) c.in_err-world.field-0.0
-        c.in_err-world.ensures.refused)
+    c.in_err-world.ensures.refused)
 
 pub returns-clause-refused : goal.returns-clause-refused
 returns-clause-refused c = λ e due. absurd (cave_clean c.args.bytes.now (option_copied c.args.table)

@@ -1,4 +1,4 @@
-use Rattle.std.proofs.Common.{ap, sym, subst, ◌≡◌, ◌∙◌, inl, inr}
+use Rattle.std.proofs.Common.{inl}
 use Rattle.cover_rows.specs.declared.fault.CoverFault.TheVariants as cover
 use Rattle.cave_runs.proofs.PlanRunLemmas.{unlit_fault, unlit_same, same_cell}
 use Rattle.cave_runs.proofs.plan.outline_of.Goals as goal
@@ -10,6 +10,6 @@ returns-in-Ok-clause-refused c = λ due u. c.in-Ok.ensures.refused (cover.Unligh
 pub returns-in-Err-Unlightable-clause-refused : goal.returns-in-Err-Unlightable-clause-refused
 returns-in-Err-Unlightable-clause-refused c = λ due u. inl
     (unlit_same c.args.world.now c.in-Err-Unlightable.cell c.size.result c.coordinates.result due
-        c.size.ensures.size c.coordinates.ensures.coordinates u
+    c.size.ensures.size c.coordinates.ensures.coordinates u
     (same_cell c.in-Err-Unlightable.field-0 c.in-Err-Unlightable.cell u.cell c.in-Err-Unlightable.field-0-is
     (c.in-Err-Unlightable.ensures.refused (cover.Unlightable u.cell) (unlit_fault c.args.world.now due u))))

@@ -1,4 +1,3 @@
-use Rattle.std.proofs.Common.{sym, subst}
 use Rattle.std.specs.Prelude.{option_copied}
 use Rattle.std.proofs.lemmas.Result.{err_from_is_err_and}
 use Rattle.cave_model.specs.RuleOf.{rule_of}
@@ -9,7 +8,7 @@ pub returns-in_err-world-clause-refused : goal.returns-in_err-world-clause-refus
 returns-in_err-world-clause-refused c =
     let p = err_from_is_err_and c.from_residual.result c.from_residual.ensures.1 in
     rw (p.1, p.2) (cave_unplanned c.args.bytes.now (option_copied c.args.table) (rule_of c.args.opts.now.rule)
-        c.in_err-world.field-0.0
+    c.in_err-world.field-0.0
     c.in_err-world.ensures.refused c.in_err-world.ensures.only)
 
 pub returns-in_err-outline-clause-refused : goal.returns-in_err-outline-clause-refused
@@ -17,9 +16,9 @@ returns-in_err-outline-clause-refused c =
     let p = err_from_is_err_and c.from_residual-in_err-outline.result c.from_residual-in_err-outline.ensures.1 in
     rw (p.1, p.2) (λ due no. c.in_err-outline.ensures.refused due
     (unplanned_here c.args.bytes.now (option_copied c.args.table) (rule_of c.args.opts.now.rule) c.in_ok-world.world
-        c.in_ok-world.ensures.refused c.in_ok-world.ensures.only due no))
+    c.in_ok-world.ensures.refused c.in_ok-world.ensures.only due no))
 
 pub returns-clause-refused : goal.returns-clause-refused
 returns-clause-refused c = λ due no. c.in_ok-outline.ensures.refused due
     (unplanned_here c.args.bytes.now (option_copied c.args.table) (rule_of c.args.opts.now.rule) c.in_ok-world.world
-        c.in_ok-world.ensures.refused c.in_ok-world.ensures.only due no)
+    c.in_ok-world.ensures.refused c.in_ok-world.ensures.only due no)

@@ -1,4 +1,4 @@
-use Rattle.std.proofs.Common.{ap, subst, sym, ◌∙◌, ◌++◌, ◌∷◌, [], arith}
+use Rattle.std.proofs.Common.{ap, ◌∙◌, ◌++◌, ◌∷◌, [], arith}
 use Rattle.std.specs.Arc.{arc_value}
 use Rattle.std.proofs.lemmas.List.{map-append}
 use Rattle.proof_tree.specs.PlanOf.{plan_of, plans_of}
@@ -11,10 +11,10 @@ pub returns : goal.returns
 returns c =
     let self = c.args.self.now in let size = c.size.ensures.size in
     best_added c.args.turns (arc_value c.args.region) c.args.cover (tree_of c.args.proof)
-        (course self.torches.items self.floor self.stopped (plans_of self.parts.items))
+    (course self.torches.items self.floor self.stopped (plans_of self.parts.items))
     c.extend_from_slice.new.self.items c.sum_within-self.result (plans_of c.push.new.self.items) c.requires
-        c.places.ensures.kept
+    c.places.ensures.kept
     (c.in_ok-extend_from_slice.ensures.items ∙ ap (λ l. self.torches.items ++ l) c.places.ensures.places)
     (λ le. (let sum = c.sum_within-self.ensures (omega (arith, le, size, c.len.ensures)) in omega (arith, sum, size)))
     (ap plans_of c.in_ok-push.ensures.items ∙ map-append plan_of self.parts.items
-        ((c.args.region, c.args.cover, c.args.proof) ∷ []))
+    ((c.args.region, c.args.cover, c.args.proof) ∷ []))
