@@ -14,8 +14,6 @@ mod row;
 mod rows;
 mod shipped;
 mod table;
-#[cfg(test)]
-mod tests;
 mod user;
 
 pub use class::Class;

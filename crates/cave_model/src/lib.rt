@@ -12,8 +12,6 @@ mod neighbours;
 mod reading;
 mod rule;
 mod spawn;
-#[cfg(test)]
-mod tests;
 mod world;
 
 pub use block_rows::Class;

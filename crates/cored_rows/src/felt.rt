@@ -16,10 +16,14 @@ use std::test::Fail;
 
 const TABLE: &[u8] = b"[[row]]\nname = \"cave:felt\"\nopacity = 15\nstand = true\n";
 
+/// The same, but it holds torches on its top and on its sides.
+const STONY_TABLE: &[u8] =
+    b"[[row]]\nname = \"cave:felt\"\nopacity = 15\nstand = true\ntop = true\nside = true\n";
+
 /// The ring with stone below these cells of its northern side.
-fn ring(alloc: Global, stones: &[i32]) -> Result<Arc<Region>, Fail> {
+fn ring(alloc: Global, stones: &[i32], table: &[u8]) -> Result<Arc<Region>, Fail> {
     let scan = read_scan(alloc, &ring_bytes(alloc, stones)?)?;
-    let rows = Rows::with_table(alloc, TABLE)?;
+    let rows = Rows::with_table(alloc, table)?;
     let world = build(alloc, &scan, &rows, Rule::new(2, 1))?;
     let problem = Problem::new(alloc, &world)?;
     match split(alloc, &problem)?.pop() {
@@ -30,12 +34,17 @@ fn ring(alloc: Global, stones: &[i32]) -> Result<Arc<Region>, Fail> {
 
 /// The places 111, 114 and 118.
 pub(crate) fn felt_ring(alloc: Global) -> Result<Arc<Region>, Fail> {
-    ring(alloc, &[1, 4, 8])
+    ring(alloc, &[1, 4, 8], TABLE)
 }
 
 /// The places 111 and 118 alone.
 pub(crate) fn other_ring(alloc: Global) -> Result<Arc<Region>, Fail> {
-    ring(alloc, &[1, 8])
+    ring(alloc, &[1, 8], TABLE)
+}
+
+/// Torches may hang all about it: each cell is lit by 52 places, and two places are fewest.
+pub(crate) fn stone_ring(alloc: Global) -> Result<Arc<Region>, Fail> {
+    ring(alloc, &[], STONY_TABLE)
 }
 
 /// The cover by the places 111 and 114.

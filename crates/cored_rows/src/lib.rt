@@ -1,10 +1,21 @@
-//! Worked events over small rings: a region's pieces are taken, opened, closed and left.
+//! Worked events over small rings: a region's pieces are taken, opened, closed and left; and what workers share and
+//! hand over.
 #![tactic(auto)]
 
+#[cfg(test)]
+mod beacons;
+#[cfg(test)]
+mod deques;
+#[cfg(test)]
+mod desks;
 #[cfg(test)]
 mod enabled;
 #[cfg(test)]
 mod felt;
+#[cfg(test)]
+mod gathered;
+#[cfg(test)]
+mod kids;
 #[cfg(test)]
 mod refused;
 #[cfg(test)]

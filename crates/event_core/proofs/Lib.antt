@@ -7,8 +7,8 @@ pub mod GoodLemmas
 pub mod ShapeLemmas
 pub mod NodeLemmas
 pub mod TraceLemmas
-pub mod SieveLemmas
 pub mod AssembleLemmas
 pub mod DoneLemmas
 pub mod KeptLemmas
 pub mod MoveLemmas
+pub mod WaitingLemmas

@@ -6,6 +6,7 @@ pub mod Assembled
 pub mod Sound
 pub mod Laws
 pub mod Kept
+pub mod Waiting
 -- private
 pub mod Shape
 pub mod Finished
@@ -15,3 +16,4 @@ pub mod Falls
 pub mod Tracing
 pub mod Opening
 pub mod Moving
+pub mod WaitingNames

@@ -80,6 +80,13 @@ impl Core {
         })
     }
 
+    /// The best cover.
+    pub fn best(&self) -> &Cover
+        ensures { result.now ≡ record { region = self.now.region; places = self.now.best } }
+    {
+        &self.best
+    }
+
     /// Whether no piece waits or is held.
     pub fn is_done(&self) -> bool
         ensures done { IsTrue result ↔ IsDone (state_of self.now) }
@@ -122,6 +129,19 @@ impl Core {
         ensures { result.now ≡ self.now.region }
     {
         self.region.as_ref()
+    }
+
+    /// The region, to be shared.
+    pub(crate) fn shared(&self) -> &Arc<Region>
+        ensures { arc_value result.now ≡ self.now.region }
+    {
+        &self.region
+    }
+
+    pub(crate) fn root(&self) -> &Node
+        ensures { shape_of result.now ≡ self.now.root }
+    {
+        &self.root
     }
 
     /// The size that the worker saw last.

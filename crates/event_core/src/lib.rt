@@ -13,6 +13,7 @@ mod putting;
 mod stepping;
 mod taking;
 mod tracing;
+mod waiting;
 
 pub use event::Event;
 pub use kept::Core;

@@ -8,8 +8,9 @@ ghost use Rattle.event_core.specs.declared.tracing.Standing.TheVariants.{Past};
 use crate::event::Event;
 use crate::kept::Core;
 use crate::node::Node;
-use crate::opening::{is_unlit, opened};
+use crate::opening::opened;
 use crate::tracing::Standing;
+use proof_tree::is_unlit;
 use scan_core::Cell;
 use std::alloc::AllocError;
 

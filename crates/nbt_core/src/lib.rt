@@ -26,6 +26,3 @@ pub use fault::NbtFault;
 pub use root::read_root;
 pub use sequence::Sequence;
 pub use tag::{Entries, Tag, Tags};
-
-#[cfg(test)]
-mod tests;

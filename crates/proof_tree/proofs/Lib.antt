@@ -5,3 +5,5 @@ pub mod NodeLemmas
 pub mod SectionLemmas
 pub mod PlanLemmas
 pub mod WholeLemmas
+pub mod SieveLemmas
+pub mod KidLemmas

@@ -1,6 +1,8 @@
 -- public clauses cite
 pub mod Shape
 pub mod Piece
+pub mod Opened
+pub mod Weights
 pub mod Order
 pub mod Planned
 pub mod PlanOf

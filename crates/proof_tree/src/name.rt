@@ -43,4 +43,13 @@ impl Name {
         kids.push(number)?;
         Ok(Name { kids })
     }
+
+    /// The same name again.
+    pub fn try_clone(&self) -> Result<Name, OutOfMemory>
+        ensures { IfOk result (λ name. name ≡ self.now) }
+    {
+        Ok(Name {
+            kids: self.kids.clone()?,
+        })
+    }
 }

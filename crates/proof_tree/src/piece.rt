@@ -56,6 +56,29 @@ impl Piece {
         })
     }
 
+    /// The piece of a region with this name, these places chosen and these barred.
+    pub fn new(region: Arc<Region>, name: Name, chosen: Vec<Cell>, barred: Vec<Cell>) -> Piece
+        requires { IsPiece (record {
+          region = arc_value region;
+          name = name;
+          chosen = chosen.items;
+          barred = barred.items;
+        }) }
+        ensures { result ≡ record {
+          region = arc_value region;
+          name = name;
+          chosen = chosen.items;
+          barred = barred.items;
+        } }
+    {
+        Piece {
+            region,
+            name,
+            chosen,
+            barred,
+        }
+    }
+
     /// The region that it is of.
     pub fn region(&self) -> &Arc<Region>
         ensures { arc_value result.now ≡ self.now.region }

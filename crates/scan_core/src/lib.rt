@@ -14,8 +14,6 @@ mod read;
 mod scan;
 mod size;
 mod state;
-#[cfg(test)]
-mod tests;
 mod value;
 
 pub use fault::{Field, ScanFault};

@@ -14,6 +14,8 @@ pub struct AloneDesk {
     shown: u64,
     accepted: Option<u64>,
     turns: Option<u64>,
+    /// How many turns were granted.
+    granted: u64,
     refused: bool,
 }
 
@@ -54,8 +56,22 @@ impl AloneDesk {
             shown,
             accepted: None,
             turns,
+            granted: 0,
             refused: false,
         }
+    }
+
+    /// The smallest cover.
+    pub fn cover(&self) -> &Cover
+        ensures cover { result.now ≡ self.now.cover }
+        ensures kept { IsKept self.now }
+    {
+        &self.cover
+    }
+
+    /// How many turns were granted. The count stops at the greatest number that it holds.
+    pub fn granted(&self) -> u64 {
+        self.granted
     }
 
     /// The size of the smallest cover.
@@ -75,6 +91,7 @@ impl AloneDesk {
             shown: _,
             accepted: _,
             turns: _,
+            granted: _,
             refused: _,
         } = self;
         cover
@@ -111,19 +128,15 @@ impl Desk for AloneDesk {
 
     fn enter(&mut self) -> bool {
         match self.turns {
-            None => {
-                self.refused = false;
-                true
-            }
+            None => {}
             Some(0) => {
                 self.refused = true;
-                false
+                return false;
             }
-            Some(turns) => {
-                self.turns = Some(turns - 1);
-                self.refused = false;
-                true
-            }
+            Some(turns) => self.turns = Some(turns - 1),
         }
+        self.granted = self.granted.saturating_add(1);
+        self.refused = false;
+        true
     }
 }

@@ -5,6 +5,7 @@ mod aimed;
 mod alone;
 mod barring;
 mod bars;
+mod beginning;
 mod bit_lists;
 mod branching;
 mod closing;
@@ -34,6 +35,7 @@ mod waste;
 
 pub use alone::AloneDesk;
 pub use bars::Bar;
+pub use beginning::{Beginning, begin};
 pub use closing::close;
 pub use closing_piece::{CloseFault, close_piece};
 pub use desk::Desk;

@@ -1,0 +1,4 @@
+pub mod SeatLemmas
+pub mod MarkLemmas
+pub mod StepLemmas
+pub mod SplitLemmas

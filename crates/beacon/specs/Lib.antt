@@ -1,0 +1,4 @@
+-- public clauses cite
+pub mod Marks
+-- private
+pub mod Rule

@@ -1,0 +1,91 @@
+//! The kids of an opened root, each taken and closed, and the tree that is assembled from them.
+use crate::felt::{core_of, felt_ring, kid_name, play, root_name};
+use cave_regions::Region;
+use event_core::Event;
+use pack_bound::first_plan;
+use proof_tree::{Closed, Opened, Piece, Proof};
+use scan_core::Cell;
+use search_core::{AloneDesk, close_piece};
+use std::alloc::{AllocError, Global};
+use std::sync::Arc;
+use std::test::Fail;
+
+/// The kids of the root on a cell; none where it may not be opened on it.
+pub(crate) fn kids_on(alloc: Global, region: &Arc<Region>, cell: Cell) -> Result<Vec<Piece>, Fail> {
+    let root = Piece::root(alloc, region)?;
+    match root.places_on(alloc, cell)? {
+        None => Ok(Vec::new(alloc)),
+        Some(places) => {
+            let opened = Opened::new(root, cell, places);
+            Ok(opened.kids(alloc)?)
+        }
+    }
+}
+
+/// The piece, closed at a floor of 2.
+pub(crate) fn closed(alloc: Global, region: &Arc<Region>, piece: Piece) -> Result<Closed, Fail> {
+    let cover = first_plan(alloc, region)?;
+    let mut desk = AloneDesk::new(cover, None);
+    match close_piece(alloc, piece, &mut desk) {
+        Ok(closed) => Ok(closed),
+        Err(_) => Err(AllocError.into()),
+    }
+}
+
+/// The cells of the leaves below a branch, one after another, behind the branch's own cell.
+fn cells_of(alloc: Global, tree: &Proof) -> Result<Vec<Cell>, Fail> {
+    let mut cells = Vec::new(alloc);
+    if let Proof::Branch { cell, kids } = tree {
+        cells.push(*cell)?;
+        for kid in kids.trees() {
+            if let Proof::Leaf(leaf) = kid {
+                cells.extend_from_slice(leaf.as_slice())?;
+            }
+        }
+    }
+    Ok(cells)
+}
+
+#[test]
+fn kids_have_their_places_chosen_and_those_before_barred(rt: HostRuntime) -> Result<(), Fail> {
+    let alloc = rt.alloc();
+    let region = felt_ring(alloc)?;
+    let mut kids = kids_on(alloc, &region, 188)?;
+    assert_eq!(rt; kids.len(), 2);
+    if let Some(second) = kids.pop() {
+        assert_eq!(rt; second.chosen(), [118].as_slice());
+        assert_eq!(rt; second.barred(), [114].as_slice());
+        assert_eq!(rt; second.name().as_slice(), [1].as_slice());
+    }
+    assert_eq!(rt; kids_on(alloc, &region, 100)?.len(), 0);
+    Ok(())
+}
+
+// The certificate's tree: a branch on 188 with the leaves 185 and 181.
+#[test]
+fn kids_are_taken_closed_and_assembled(rt: HostRuntime) -> Result<(), Fail> {
+    let alloc = rt.alloc();
+    let region = felt_ring(alloc)?;
+    let mut core = core_of(alloc, &region)?;
+    let mut events = vec![in alloc; Event::Open(root_name(alloc), 188)]?;
+    let mut number = 0;
+    for kid in kids_on(alloc, &region, 188)? {
+        events.push(Event::Take(number, kid_name(alloc, number)?))?;
+        events.push(Event::Close(number, closed(alloc, &region, kid)?))?;
+        number += 1;
+    }
+    let answers = play(alloc, &mut core, events)?;
+    assert_eq!(rt;
+        answers.as_slice(),
+        [true, true, true, true, true].as_slice()
+    );
+    assert!(rt; core.is_done());
+    if let Ok((cover, tree)) = core.assemble() {
+        assert_eq!(rt; cover.places(), [111, 114].as_slice());
+        assert_eq!(rt;
+            cells_of(alloc, &tree)?.as_slice(),
+            [188, 185, 181].as_slice()
+        );
+    }
+    Ok(())
+}

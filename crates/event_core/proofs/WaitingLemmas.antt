@@ -1,0 +1,151 @@
+-- The pieces that wait, and their names.
+use Rattle.std.proofs.Common.{◌≡◌, inl, inr, ℕ, zero, suc, ◌+◌, true≢false, Bool, true, false, List, [], ◌∷◌}
+use Rattle.std.proofs.Common.{◌++◌, length}
+use Rattle.std.proofs.Common.{Contains, Option, Some, None, refl, sym, ap, ◌∙◌, subst, arith, append_assoc, append-nil}
+use Rattle.std.proofs.Common.{length-append}
+use Rattle.std.specs.Prelude.{take, drop, slice_index, All}
+use Rattle.std.proofs.lemmas.Bool.{cases_lt}
+use Rattle.std.proofs.lemmas.List.Elements.{Contains-append_left, Contains-append_right, Contains-push_cases}
+use Rattle.std.proofs.lemmas.List.Elements.{Contains-append_cases}
+use Rattle.std.proofs.lemmas.List.Elements.{Contains-get_or}
+use Rattle.std.proofs.lemmas.List.{take-append-drop}
+use Rattle.proof_rules.proofs.ListLemmas.{no_member, all_members, at_member}
+use Rattle.proof_tree.specs.Piece.{IsPiece}
+use Rattle.event_core.specs.State.{State, Part, Status, waiting, held, opened, closed, HasPart}
+use Rattle.event_core.specs.Shape.{Shape, Shapes, at_rest, in_hand, settled, parted, no_shape, one_shape, part_in}
+use Rattle.event_core.specs.Shape.{part_below}
+use Rattle.event_core.specs.WaitingNames.{waiting_in, waiting_below}
+use Rattle.event_core.specs.Sound.{IsSound}
+use Rattle.event_core.specs.Kept.{Kept, state_of}
+use Rattle.event_core.specs.Tracing.{IsTracedTo, StandsAs}
+use Rattle.event_core.specs.declared.tracing.Standing.{Standing}
+use Rattle.event_core.specs.declared.tracing.Standing.TheVariants.{Waiting}
+use Rattle.event_core.proofs.StateLemmas.{same_part, not_none, same_parts, waiting_not_closed, waiting_not_opened}
+
+-- ---- names
+
+abbrev waits : Status → Bool
+waits waiting = true
+waits (held w) = false
+waits (opened cell) = false
+waits (closed floor tree) = false
+
+pub waiting_not_held : {A : Type 0} (w : ℕ) → waiting ≡ held w → A
+waiting_not_held w e = absurd (true≢false (ap waits e))
+
+abbrev as_waiting : List ℕ → List ℕ → Part
+as_waiting c b = record { chosen = c; barred = b; status = waiting }
+
+-- the status of a part that waits
+status_is : (p : Part) (c b : List ℕ) → Some p ≡ Some (as_waiting c b) → waiting ≡ p.status
+status_is p c b e = sym (ap (λ (q : Part). q.status) (same_part p (as_waiting c b) e))
+
+alone : (name : List ℕ) → Contains (name ∷ []) (name ++ [])
+alone name = (0, omega arith, sym (append-nil name))
+
+-- a piece that waits is listed
+mutual
+  pub listed : (c b name : List ℕ) (s : Shape) (rest c2 b2 : List ℕ) → part_in c b s rest ≡ Some (as_waiting c2 b2)
+      → Contains (waiting_in name s) (name ++ rest)
+  listed c b name at_rest [] c2 b2 h = alone name
+  listed c b name (in_hand w) [] c2 b2 h = waiting_not_held w (status_is
+      (record { chosen = c; barred = b; status = held w }) c2 b2 h)
+  listed c b name (settled f t) [] c2 b2 h = waiting_not_closed f t (status_is
+      (record { chosen = c; barred = b; status = closed f t }) c2 b2 h)
+  listed c b name (parted cell places room kids) [] c2 b2 h =
+      waiting_not_opened cell (status_is (record { chosen = c; barred = b; status = opened cell }) c2 b2 h)
+  listed c b name at_rest (k ∷ ks) c2 b2 h = not_none (as_waiting c2 b2) h
+  listed c b name (in_hand w) (k ∷ ks) c2 b2 h = not_none (as_waiting c2 b2) h
+  listed c b name (settled f t) (k ∷ ks) c2 b2 h = not_none (as_waiting c2 b2) h
+  listed c b name (parted cell places room kids) (k ∷ ks) c2 b2 h = listed_below c b places kids name 0 k k
+      (omega arith) ks c2 b2 h
+
+  pub listed_below : (c b places : List ℕ) (kids : Shapes) (name : List ℕ) (number k at : ℕ) → at ≡ number + k
+      → (ks c2 b2 : List ℕ)
+      → part_below c b places kids k ks ≡ Some (as_waiting c2 b2) → Contains (waiting_below name number kids)
+      (name ++ at ∷ ks)
+  listed_below c b [] kids name number k at e ks c2 b2 h = not_none (as_waiting c2 b2) h
+  listed_below c b (q ∷ qs) no_shape name number k at e ks c2 b2 h = not_none (as_waiting c2 b2) h
+  listed_below c b (q ∷ qs) (one_shape s ss) name number zero at e ks c2 b2 h =
+      let same : number ≡ at = omega arith in
+      let there = Contains-append_left (waiting_in (name ++ number ∷ []) s) (waiting_below name (number + 1) ss)
+      ((name ++ number ∷ []) ++ ks)
+      (listed (c ++ q ∷ []) b (name ++ number ∷ []) s ks c2 b2 h) in
+      subst (λ (n : ℕ). Contains (waiting_below name number (one_shape s ss)) (name ++ n ∷ ks)) same
+      (subst (Contains (waiting_below name number (one_shape s ss))) (append_assoc name (number ∷ []) ks) there)
+  listed_below c b (q ∷ qs) (one_shape s ss) name number (suc k) at e ks c2 b2 h =
+      Contains-append_right (waiting_in (name ++ number ∷ []) s) (waiting_below name (number + 1) ss) (name ++ at ∷ ks)
+      (listed_below c (b ++ q ∷ []) qs ss name (number + 1) k at (omega arith) ks c2 b2 h)
+
+-- ---- places
+
+split_last : (x : ℕ) (xs : List ℕ) → (front : List ℕ) × (last : ℕ) × (x ∷ xs ≡ front ++ last ∷ [])
+split_last x [] = ([], x, refl)
+split_last x (y ∷ ys) = (let r = split_last y ys in (x ∷ r.0, r.1, ap (λ (l : List ℕ). x ∷ l) r.2))
+
+module _ (state : State) (sound : IsSound state) where
+  abbrev AreHere : List ℕ → Type 0
+  AreHere places = All (Contains state.region.places) places
+
+  none_here : AreHere []
+  none_here = all_members (Contains state.region.places) [] (λ q h. no_member q h)
+
+  -- a kid's places are its parent's, and some that light the parent's cell
+  kid_places_here : (name : List ℕ) (number : ℕ) (up down : List ℕ) (cell : ℕ) (c b : List ℕ) (s : Status)
+      → HasPart state name up down (opened cell)
+      → AreHere up × AreHere down → HasPart state (name ++ number ∷ []) c b s → AreHere c × AreHere b
+  kid_places_here name number up down cell c b s is before h =
+      let k = sound.kids name up down cell is in let place = slice_index k.places number in
+      let legal : (q : ℕ) → Contains k.places q → Contains state.region.places q = λ q g. ((k.all.exact q).0 g).legal in
+      elim (cases_lt number (length k.places)) [
+        | inl lt ↦ (let t = k.there number lt in
+            let same = same_parts state (name ++ number ∷ []) (up ++ place ∷ [])
+            (down ++ take number k.places) c b t.0 s t.1 h in (
+              subst AreHere same.chosen (all_members (Contains state.region.places) (up ++ place ∷ []) (λ q g. elim
+                  (Contains-push_cases up place q g) [
+                    | inl old ↦ at_member (Contains state.region.places) up q before.0 old
+                    | inr new ↦ subst (Contains state.region.places) new (legal place
+                        (Contains-get_or k.places number 0 lt))
+                  ])),
+              subst AreHere same.barred (all_members (Contains state.region.places) (down ++ take number k.places)
+                  (λ q g. elim (Contains-append_cases down (take number k.places) q g) [
+                    | inl old ↦ at_member (Contains state.region.places) down q before.1 old
+                    | inr new ↦ legal q (subst (λ (l : List ℕ). Contains l q) (take-append-drop number k.places)
+                        (Contains-append_left (take number k.places) (drop number k.places) q new))
+                  ])),
+            ))
+        | inr le ↦ not_none (record { chosen = c; barred = b; status = s }) (sym (k.no_more number le) ∙ h)
+      ]
+
+  -- the chosen and barred places of a piece are places of the region
+  places_here : (n : ℕ) (name c b : List ℕ) (s : Status) → length name ≡ n → HasPart state name c b s
+      → AreHere c × AreHere b
+  places_here n [] c b s e h =
+      let same = same_parts state [] [] [] c b sound.rooted.0 s sound.rooted.1 h in
+      (subst AreHere same.chosen none_here, subst AreHere same.barred none_here)
+  places_here zero (x ∷ xs) c b s e h = absurd (omega arith)
+  places_here (suc n) (x ∷ xs) c b s e h =
+      let r = split_last x xs in
+      let long = ap length r.2 in let parts = length-append r.0 (r.1 ∷ []) in
+      let there : HasPart state (r.0 ++ r.1 ∷ []) c b s = ap state.part_at (sym r.2) ∙ h in
+      let up = sound.parents r.0 r.1 (record { chosen = c; barred = b; status = s }) there in
+      kid_places_here r.0 r.1 up.0 up.1 up.2 c b s up.3 (places_here n r.0 up.0 up.1 (opened up.2)
+      (omega arith) up.3) there
+
+  pub part_is_piece : (name c b : List ℕ) (s : Status) → HasPart state name c b s
+      → IsPiece (record { region = state.region; name = name; chosen = c; barred = b })
+  part_is_piece name c b s h =
+      let here = places_here (length name) name c b s refl h in
+      record { distinct = sound.distinct name c b s h; chosen_of_it = here.0; barred_of_it = here.1 }
+
+-- ---- what a name leads to
+
+-- a piece that is traced to and waits
+pub traced_part : (kept : Kept) (name c b : List ℕ) (standing : Standing) (o : Option Part)
+    → part_in [] [] kept.root name ≡ o
+    → IsTracedTo c b standing o → standing ≡ Waiting → HasPart (state_of kept) name c b waiting
+traced_part kept name c b standing None e t w = absurd t
+traced_part kept name c b standing (Some p) e t w =
+    let chosen : p.chosen ≡ c = t.0 in let barred : p.barred ≡ b = t.1 in
+    let status : p.status ≡ waiting = subst (λ (s : Standing). StandsAs s p.status) w t.2 in
+    e ∙ ap Some (λ i. record { chosen = chosen i; barred = barred i; status = status i })

@@ -1,0 +1,97 @@
+//! The pieces that wait.
+ghost use Rattle.std.specs.Prelude.{◌≡◌, ◌↔◌, ◌++◌, IfOk, IsTrue};
+ghost use Rattle.event_core.specs.Kept.{IsKept, state_of};
+ghost use Rattle.event_core.specs.Nodes.{shape_of, shapes_of};
+ghost use Rattle.event_core.specs.Waiting.{AreAllWaiting, IsWaitingPiece};
+ghost use Rattle.event_core.specs.WaitingNames.{waiting_in, waiting_below};
+ghost use Rattle.event_core.specs.declared.tracing.Standing.TheVariants.{Waiting};
+
+use crate::kept::Core;
+use crate::node::Node;
+use crate::tracing::{Standing, Traced};
+use proof_tree::{Name, Piece};
+use std::alloc::AllocError;
+use std::sync::Arc;
+
+impl Core {
+    /// The names of all pieces that wait.
+    pub fn waiting_names(&self) -> Result<Vec<Name>, AllocError>
+        ensures { IfOk result (λ names. AreAllWaiting (state_of self.now) names.items) }
+    {
+        let root = Name::root(self.alloc());
+        let names = Vec::new(self.alloc());
+        let names = add_names(self.root(), &root, names)?;
+        Ok(names)
+    }
+
+    /// The piece of this name, where it waits.
+    pub fn waiting_piece(&self, name: &Name) -> Result<Option<Piece>, AllocError>
+        ensures { IfOk result (IsWaitingPiece (state_of self.now) name.now) }
+    {
+        let Some(traced) = self.traced(name.as_slice())? else {
+            return Ok(None);
+        };
+        if !is_waiting(traced.standing) {
+            return Ok(None);
+        }
+        let region = Arc::try_clone(self.shared())?;
+        let name = name.try_clone()?;
+        let Traced {
+            chosen,
+            barred,
+            standing: _,
+        } = traced;
+        Ok(Some(Piece::new(region, name, chosen, barred)))
+    }
+}
+
+fn is_waiting(standing: Standing) -> bool
+    ensures { IsTrue result ↔ (standing ≡ Waiting) }
+{
+    match standing {
+        Standing::Waiting => true,
+        Standing::Held(_) => false,
+        Standing::Past => false,
+    }
+}
+
+/// The names with those of the waiting pieces from a node on, which has this name.
+#[cycle(waiting)]
+fn add_names(node: &Node, name: &Name, mut names: Vec<Name>) -> Result<Vec<Name>, AllocError>
+    ensures { IfOk result (λ all. all.items ≡ names.items ++ waiting_in name.now (shape_of node.now)) }
+{
+    match node {
+        Node::Waiting => {
+            names.push(name.try_clone()?)?;
+            Ok(names)
+        }
+        Node::Held(_) => Ok(names),
+        Node::Closed { .. } => Ok(names),
+        Node::Opened {
+            cell: _,
+            places: _,
+            kids,
+            room: _,
+        } => {
+            let names = add_below(kids.as_slice(), name, names)?;
+            Ok(names)
+        }
+    }
+}
+
+/// The names with those of the waiting pieces below a node, which has this name and these kids. A kid whose number
+/// takes more than 32 bits has no name, as if memory had been refused; there are fewer places.
+#[cycle(waiting)]
+fn add_below(kids: &[Node], name: &Name, names: Vec<Name>) -> Result<Vec<Name>, AllocError>
+    ensures { IfOk result (λ all. all.items ≡ names.items ++ waiting_below name.now 0 (shapes_of kids.now)) }
+{
+    let mut all = names;
+    for index in 0..kids.len() {
+        let Ok(number) = u32::try_from(index) else {
+            return Err(AllocError);
+        };
+        let kid = name.kid(number)?;
+        all = add_names(&kids[index], &kid, all)?;
+    }
+    Ok(all)
+}

@@ -1,0 +1,119 @@
+-- What is gathered.
+use Rattle.std.proofs.Common.{◌≡◌, ℕ, ◌+◌, ◌<◌, ◌≤◌, List, [], length, Contains, sym, ap}
+use Rattle.std.proofs.Common.{◌∙◌, subst, arith}
+use Rattle.std.proofs.lemmas.List.{length-replicate}
+use Rattle.set_cover.specs.Instance.{Instance, of_instance}
+use Rattle.cave_regions.specs.Cover.{Covering}
+use Rattle.proof_rules.specs.Tree.{Tree, leaf}
+use Rattle.proof_rules.specs.Good.{Good}
+use Rattle.proof_rules.proofs.ListLemmas.{all_members, no_member}
+use Rattle.proof_tree.specs.Piece.{Subproblem, root_of}
+use Rattle.pack_bound.specs.Pieces.{IsScattered, SomeWhereUnlit}
+use Rattle.event_core.specs.State.{State, Begins, IsDone}
+use Rattle.event_core.specs.Kept.{Kept, state_of, IsAssembly}
+use Rattle.event_core.specs.Plays.{Plays}
+use Rattle.schedule_law.specs.Worked.{Worked}
+use Rattle.search_core.specs.Planned.{IsBest, NoneBelow}
+use Rattle.search_core.proofs.AloneLemmas.{none_below_tree}
+use Rattle.gathering.specs.Playing.{tries_before_closes, TriesAllCloses}
+use Rattle.gathering.specs.Gathered.{IsGathered, Gleans}
+use Rattle.gathering.specs.Gleaning.{NoneHeld}
+use Rattle.gathering.proofs.HoldLemmas.{free_at_first, free_before_closes, free_all_closes}
+use Rattle.gathering.proofs.LikeLemmas.{IsLike, like_plays, like_all_closes, like_then, like_gleans}
+
+-- ---- once the works were played
+
+pub record ArePlayed (region : Instance) (first : List ℕ) (root : ℕ) (works : List Worked) (counts : List ℕ)
+    (closed : State) : Type 0 where
+  pub start : State
+  pub begins : Begins region first (length works + 1) start
+  pub opened : State
+  pub opens : Plays start (tries_before_closes root works) opened
+  pub closes : TriesAllCloses opened 0 works counts closed
+
+pub played : (region same : Instance) (first : List ℕ) (root : ℕ) (works some others : List Worked) (counts : List ℕ)
+    (caller : ℕ) (start opened closed : State)
+    → same ≡ region → caller ≡ length some → some ≡ works → others ≡ works → Begins same first (caller + 1) start
+    → Plays start (tries_before_closes root others) opened → TriesAllCloses opened 0 works counts closed → ArePlayed
+    region first root works counts closed
+played region same first root works some others counts caller start opened closed e count these those begins opens
+    closes =
+    let all : caller ≡ length works = count ∙ ap length these in
+    record {
+      start = start;
+      begins = subst (λ (n : ℕ). Begins region first (n + 1) start) all (subst (λ (r : Instance). Begins r first
+          (caller + 1) start) e begins);
+      opened = opened;
+      opens = subst (λ (ws : List Worked). Plays start (tries_before_closes root ws) opened) those opens;
+      closes = closes;
+    }
+
+module _ (region : Instance) (first : List ℕ) (root : ℕ) (works : List Worked) (counts : List ℕ) (closed : State)
+    (p : ArePlayed region first root works counts closed) where
+  pub played_none_held : NoneHeld closed
+  played_none_held =
+      free_all_closes 0 works counts p.opened closed
+      (free_before_closes root works p.start p.opened (free_at_first region first
+      (length works + 1) p.start p.begins) p.opens) p.closes
+
+  played_like : IsLike p.start closed
+  played_like = like_then p.start p.opened closed (like_plays p.start (tries_before_closes root works) p.opened p.opens)
+      (like_all_closes p.opened 0 works counts closed p.closes)
+
+  pub played_region : closed.region ≡ region
+  played_region = played_like.of_it ∙ p.begins.of_it
+
+  pub played_workers : length works < length closed.seen
+  played_workers =
+      let many = ap length p.begins.seen in let count = length-replicate (length works + 1) (length first) in
+      omega (arith, played_like.workers, many, count)
+
+  -- what is assembled then
+  pub gathered : (names : List (List ℕ)) (final : Kept) (cover : Covering) (tree : Tree)
+      → Gleans closed (length works) names (state_of final) → IsDone (state_of final)
+      → IsAssembly final cover tree → IsGathered region first root works
+      (record { cover = cover; tree = tree; closed_by = counts; gleaned = names })
+  gathered names final cover tree gleans done a =
+      let same : final.region ≡ region = (like_gleans closed (length works) names (state_of final) gleans).of_it
+      ∙ played_region in
+      record {
+        start = p.start;
+        begins = p.begins;
+        opened = p.opened;
+        opens = p.opens;
+        closed = closed;
+        closes = p.closes;
+        final = state_of final;
+        gleans = gleans;
+        done = done;
+        best = a.best ∙ ap (λ (r : Instance). record { region = r; places = final.best }) same;
+        assembled = a.assembled;
+      }
+
+  pub gathered_best : (names : List (List ℕ)) (final : Kept) (cover : Covering) (tree : Tree)
+      → Gleans closed (length works) names (state_of final) → IsAssembly final cover tree
+      → IsBest region cover tree
+  gathered_best names final cover tree gleans a =
+      let same : final.region ≡ region = (like_gleans closed (length works) names (state_of final) gleans).of_it
+      ∙ played_region in
+      record {
+        of_it = ap (λ (x : Covering). x.region) a.best ∙ same;
+        proved = subst (λ (r : Instance). Good (of_instance r) r.cells [] [] (length cover.places) tree) same
+            (subst (λ (n : ℕ). Good (of_instance final.region) final.region.cells [] [] n tree) (sym (ap (λ
+            (x : Covering). length x.places) a.best)) a.good);
+      }
+
+-- ---- once the turns are spent
+
+pub scattered_floor : (region : Instance) (root : ℕ) (cells : List ℕ) (size : ℕ) (piece : Subproblem)
+    → piece ≡ root_of region → size ≡ length cells → Contains region.cells root
+    → IsScattered piece cells → SomeWhereUnlit piece cells → (1 ≤ size) × NoneBelow region size
+scattered_floor region root cells size piece is e there apart some =
+    let least : 0 < length cells = subst (λ (p : Subproblem). SomeWhereUnlit p cells) is some root
+    (record {
+      of_it = there;
+      unlit = all_members (λ place. ¬ (of_instance region).Covers place root) []
+          (λ y h. no_member y h);
+    }) in
+    let scattered = subst (λ (p : Subproblem). IsScattered p cells) is apart in
+    (omega (arith, least, e), none_below_tree region size (leaf cells) (scattered, omega (arith, e)))

@@ -1,0 +1,53 @@
+use Rattle.std.proofs.Common.{◌∙◌, Bool, refl, ap, sym, subst, arith}
+use Rattle.event_core.specs.State.{State}
+use Rattle.event_core.specs.Kept.{state_of}
+use Rattle.gathering.specs.Gleaning.{GleansWhere}
+use Rattle.gathering.proofs.GleanLemmas.{glean_start, glean_next, glean_past}
+use Rattle.gathering.proofs.LikeLemmas.{like_one}
+use Rattle.gathering.proofs.gleaning.glean.Goals as goal
+
+pub loop-name-init : goal.loop-name-init
+loop-name-init c = (
+  glean_start (state_of c.args.core.now) c.args.caller c.new-gleaned.result.items
+      c.into_iter-name-iterator.result.rest.items c.in_ok-name-items.name-items.items
+      c.new-gleaned.ensures.items c.into_iter-name-iterator.ensures.into_iter_gives.0 c.requires.none_held
+      c.in_ok-name-items.ensures,
+  c.requires.of_it,
+  refl,
+  refl,
+)
+
+pub glean_one-requires : goal.glean_one-requires
+glean_one-requires c = record {
+  known = omega (arith, c.requires.known, c.loop-name.invariant.0.like.workers);
+  of_it = c.loop-name.invariant.1;
+}
+
+pub loop-name-preserved : goal.loop-name-preserved
+loop-name-preserved c =
+    let now = state_of c.loop-name.core in let next = state_of c.glean_one.new.core in let name = c.in-Some.name in
+    let w = c.args.caller in
+    let inv = c.loop-name.invariant in let same = c.in_ok-glean_one.ensures.same in
+    let gleans = c.in_ok-glean_one.ensures.gleans in
+    let past = subst (λ (b : Bool). GleansWhere now w name next b) c.if-branch.false gleans in (
+      glean_past (state_of c.args.core.now) w c.loop-name.gleaned.items now name c.loop-name.name-iterator.rest.items
+          c.next.new.self.rest.items next
+          inv.0 c.in-Some.ensures.steps.0 past.0 past.1,
+      same.0 ∙ inv.1 ∙ sym (ap (λ (s : State). s.region) past.1),
+      same.0 ∙ inv.2,
+      same.1 ∙ inv.3,
+    )
+
+pub loop-name-preserved-in-Continue-branch-3 : goal.loop-name-preserved-in-Continue-branch-3
+loop-name-preserved-in-Continue-branch-3 c =
+    let now = state_of c.loop-name.core in let next = state_of c.glean_one.new.core in let name = c.in-Some.name in
+    let w = c.args.caller in
+    let inv = c.loop-name.invariant in let same = c.in_ok-glean_one.ensures.same in
+    let one = subst (λ (b : Bool). GleansWhere now w name next b) c.if-branch.true c.in_ok-glean_one.ensures.gleans in (
+      glean_next (state_of c.args.core.now) w c.loop-name.gleaned.items c.push.new.self.items now name
+          c.loop-name.name-iterator.rest.items c.next.new.self.rest.items next
+          inv.0 c.in-Some.ensures.steps.0 one c.in_ok-push.ensures.items,
+      same.0 ∙ inv.1 ∙ sym (like_one now w name next one).of_it,
+      same.0 ∙ inv.2,
+      same.1 ∙ inv.3,
+    )

@@ -1,0 +1,20 @@
+use Rattle.std.proofs.Common.{◌∙◌, ap, arith}
+use Rattle.std.specs.Arc.{arc_value}
+use Rattle.cave_regions.specs.Cover.{Covering}
+use Rattle.gathering.proofs.GatherLemmas.{scattered_floor}
+use Rattle.gathering.proofs.merge.stopped.Goals as goal
+
+pub returns : goal.returns
+returns c =
+    let floor = scattered_floor (arc_value c.args.region.now) c.args.root c.in_ok-scattered.field-0.items
+    c.len-floor.result c.in_ok-piece.piece
+    c.in_ok-piece.ensures (omega (arith, c.len-floor.ensures)) c.requires.root c.in_ok-scattered.ensures.scattered
+    c.in_ok-scattered.ensures.some in (
+      record {
+        limited = c.requires.limited;
+        of_it = ap (λ (x : Covering). x.region) c.into_cover.ensures.cover ∙ c.requires.of_it;
+        some = floor.0;
+        none_below = floor.1;
+      },
+      c.granted-turns.ensures,
+    )

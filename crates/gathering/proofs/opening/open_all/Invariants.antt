@@ -1,0 +1,10 @@
+use Rattle.std.proofs.Common.{◌≡◌, drop}
+use Rattle.event_core.specs.Kept.{state_of}
+use Rattle.gathering.specs.Playing.{tries}
+use Rattle.gathering.proofs.PlayLemmas.{Leads}
+use Rattle.gathering.proofs.opening.open_all.Given as goal
+
+abbrev pub invariant-loop-work : goal.invariant-loop-work
+invariant-loop-work l = (l.worker ≡ l.work-index)
+    × Leads (state_of l.fn.core) (tries l.size 0 l.works) (state_of l.core) (tries l.size l.worker
+    (drop l.work-index l.works))

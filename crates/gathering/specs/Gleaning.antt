@@ -1,0 +1,38 @@
+-- What gleaning keeps.
+use Rattle.std.specs.Prelude.{◌≡◌, ℕ, ◌≤◌, Bool, true, false, List, length}
+use Rattle.cave_regions.specs.Cover.{Covering}
+use Rattle.proof_tree.specs.Piece.{Fathomed}
+use Rattle.event_core.specs.State.{State, HasPart, waiting, held}
+use Rattle.event_core.specs.Events.{IsWorker}
+use Rattle.event_core.specs.Plays.{Steps}
+use Rattle.event_core.specs.declared.event.Event.TheVariants.{Look, Offer, Close}
+use Rattle.gathering.specs.Gathered.{GleansOne}
+
+-- no worker holds a piece
+abbrev pub NoneHeld : State → Type 0
+NoneHeld state = (name chosen barred : List ℕ) (worker : ℕ) → ¬ HasPart state name chosen barred (held worker)
+
+-- no piece of this name waits
+abbrev pub IsNoneWaiting : State → List ℕ → Type 0
+IsNoneWaiting state name = (chosen barred : List ℕ) → ¬ HasPart state name chosen barred waiting
+
+-- the piece of this name is closed, or none of this name waits and all stays
+abbrev pub GleansWhere : State → ℕ → List ℕ → State → Bool → Type 0
+GleansWhere old caller name new true = GleansOne old caller name new
+GleansWhere old caller name new false = IsNoneWaiting old name × (new ≡ old)
+
+-- the caller's thread holds the closed piece, and its floor is at least the size of a cover of the region
+pub record MayFinish (state : State) (caller : ℕ) (closed : Fathomed) (cover : Covering) : Type 0 where
+  pub known : IsWorker state caller
+  pub holds : HasPart state closed.piece.name closed.piece.chosen closed.piece.barred (held caller)
+  pub piece_of_it : closed.piece.region ≡ state.region
+  pub cover_of_it : cover.region ≡ state.region
+  pub reaches : length cover.places ≤ closed.floor
+
+-- it offers the cover, looks, and closes the piece
+pub record Finishes (old : State) (caller : ℕ) (closed : Fathomed) (cover : Covering) (new : State) : Type 0 where
+  pub offered : State
+  pub offers : Steps old (Offer caller cover) true offered
+  pub seen : State
+  pub looks : Steps offered (Look caller) true seen
+  pub closes : Steps seen (Close caller closed) true new

@@ -1,0 +1,5 @@
+-- public clauses cite
+pub mod Playing
+pub mod Gathered
+-- private
+pub mod Gleaning

@@ -1,0 +1,64 @@
+-- The results of workers, played on a core: an event that isn't enabled is passed over.
+-- This is this project's own.
+use Rattle.std.specs.Prelude.{◌≡◌, ℕ, ◌+◌, Bool, true, false, List, [], ◌∷◌, ◌++◌, length, eqb}
+use Rattle.std.specs.Prelude.{if◌then◌else◌}
+use Rattle.proof_tree.specs.Piece.{Fathomed}
+use Rattle.proof_tree.specs.Opened.{Split}
+use Rattle.event_core.specs.State.{State}
+use Rattle.event_core.specs.Plays.{Steps}
+use Rattle.event_core.specs.declared.event.Event.{Event}
+use Rattle.event_core.specs.declared.event.Event.TheVariants.{Take, Open, Close, Leave}
+use Rattle.schedule_law.specs.Worked.{Worked}
+use Rattle.schedule_law.specs.Listing.{offers, looks}
+
+-- a worker takes a piece, opens it, and leaves it where it could not be opened
+abbrev pub tries_open : ℕ → Split → List Event
+tries_open worker split =
+    Take worker split.piece.name ∷ Open split.piece.name split.cell ∷ Leave worker split.piece.name ∷ []
+
+-- the same if its name is so long
+abbrev pub tries_one : ℕ → ℕ → Split → List Event
+tries_one size worker split = if eqb (length split.piece.name) size then tries_open worker split else []
+
+-- the same for pieces in turn
+abbrev pub tries_as_long : ℕ → ℕ → List Split → List Event
+tries_as_long size worker [] = []
+tries_as_long size worker (split ∷ splits) = tries_one size worker split ++ tries_as_long size worker splits
+
+-- the same for all workers from this number on
+abbrev pub tries : ℕ → ℕ → List Worked → List Event
+tries size worker [] = []
+tries size worker (work ∷ works) = tries_as_long size worker work.opened ++ tries size (worker + 1) works
+
+-- what comes before all closing: the caller opens the root, workers open pieces, shorter names first, offer and look
+abbrev pub tries_before_closes : ℕ → List Worked → List Event
+tries_before_closes cell works = Open [] cell ∷ tries 1 0 works ++ tries 2 0 works ++ offers 0 works ++ looks 0 works
+
+-- a worker takes a piece and closes it, and leaves it where it could not be closed
+pub record TriesClose (old : State) (worker : ℕ) (closed : Fathomed) (done : Bool) (new : State) : Type 0 where
+  pub took : Bool
+  pub taken : State
+  pub takes : Steps old (Take worker closed.piece.name) took taken
+  pub tried : State
+  pub closes : Steps taken (Close worker closed) done tried
+  pub left : Bool
+  pub leaves : Steps tried (Leave worker closed.piece.name) left new
+
+abbrev pub one_if : Bool → ℕ
+one_if true = 1
+one_if false = 0
+
+-- the same for pieces in turn, of which so many were closed
+abbrev pub TriesCloses : State → ℕ → List Fathomed → ℕ → State → Type 0
+TriesCloses old worker [] count new = (count ≡ 0) × (new ≡ old)
+TriesCloses old worker (closed ∷ rest) count new =
+    (done : Bool) × (next : State) × TriesClose old worker closed done next
+    × (others : ℕ) × (count ≡ one_if done + others) × TriesCloses next worker rest others new
+
+-- the same for all workers from this number on, with how many of each were closed
+abbrev pub TriesAllCloses : State → ℕ → List Worked → List ℕ → State → Type 0
+TriesAllCloses old worker [] counts new = (counts ≡ []) × (new ≡ old)
+TriesAllCloses old worker (work ∷ works) counts new =
+    (count : ℕ) × (others : List ℕ) × (counts ≡ count ∷ others)
+    × (next : State) × TriesCloses old worker work.closed count next
+    × TriesAllCloses next (worker + 1) works others new

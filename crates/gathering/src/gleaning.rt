@@ -1,0 +1,81 @@
+//! Closing what is left.
+ghost use Rattle.std.specs.Prelude.{◌≡◌, ◌≤◌, length, IsTrue, IfErr, IfOk};
+ghost use Rattle.event_core.specs.State.{IsDone};
+ghost use Rattle.event_core.specs.Events.{IsWorker};
+ghost use Rattle.event_core.specs.Kept.{state_of};
+ghost use Rattle.search_core.specs.declared.halt.Halt.TheVariants.{TurnsSpent};
+ghost use Rattle.gathering.specs.Gathered.{Gleans};
+ghost use Rattle.gathering.specs.Gleaning.{Finishes, GleansWhere, MayFinish, NoneHeld};
+
+use cave_regions::Cover;
+use event_core::{Core, Event};
+use proof_tree::{Closed, Name, floor_of};
+use search_core::{AloneDesk, CloseFault, Halt, close_piece};
+use std::alloc::{AllocError, Global};
+
+/// The caller's thread closes each piece that waits: their names.
+pub(crate) fn glean(
+    alloc: Global,
+    core: &mut Core,
+    caller: u32,
+    desk: &mut AloneDesk,
+) -> Result<Vec<Name>, Halt>
+    requires known { IsWorker (state_of core.old) caller }
+    requires none_held { NoneHeld (state_of core.old) }
+    requires of_it { desk.old.cover.region ≡ core.old.region }
+    ensures gleans { IfOk result (λ names. Gleans (state_of core.old) caller names.items (state_of core.new)) }
+    ensures done { IfOk result (λ _. IsDone (state_of core.new)) }
+    ensures spent { IfErr result (λ halt. halt ≡ TurnsSpent → IsTrue desk.old.limited) }
+    ensures same { desk.new.cover.region ≡ desk.old.cover.region }
+{
+    let mut gleaned = Vec::new(alloc);
+    for name in core.waiting_names()? {
+        if glean_one(alloc, core, caller, &name, desk)? {
+            gleaned.push(name)?;
+        }
+    }
+    Ok(gleaned)
+}
+
+/// The caller's thread closes the piece of this name, where it waits: whether it did.
+fn glean_one(
+    alloc: Global,
+    core: &mut Core,
+    caller: u32,
+    name: &Name,
+    desk: &mut AloneDesk,
+) -> Result<bool, Halt>
+    requires known { IsWorker (state_of core.old) caller }
+    requires of_it { desk.old.cover.region ≡ core.old.region }
+    ensures gleans { IfOk result (GleansWhere (state_of core.old) caller name.now (state_of core.new)) }
+    ensures spent { IfErr result (λ halt. halt ≡ TurnsSpent → IsTrue desk.old.limited) }
+    ensures same { (desk.new.cover.region ≡ desk.old.cover.region) × (desk.new.limited ≡ desk.old.limited) }
+{
+    let Some(piece) = core.waiting_piece(name)? else {
+        return Ok(false);
+    };
+    core.step(Event::Take(caller, name.try_clone()?))?;
+    match close_piece(alloc, piece, desk) {
+        Ok(closed) => {
+            let cover = desk.cover().try_clone()?;
+            finish(core, caller, closed, cover)?;
+            Ok(true)
+        }
+        Err(CloseFault::TurnsSpent(_)) => Err(Halt::TurnsSpent),
+        Err(CloseFault::OutOfMemory(_)) => Err(Halt::OutOfMemory),
+    }
+}
+
+/// The caller's thread offers the best cover that it knows, looks, and closes the piece.
+fn finish(core: &mut Core, caller: u32, closed: Closed, cover: Cover) -> Result<(), AllocError>
+    requires { MayFinish (state_of core.old) caller closed cover }
+    ensures { IfOk result (λ _. Finishes (state_of core.old) caller closed cover (state_of core.new)) }
+{
+    let size = cover.size();
+    let floor = floor_of(&closed);
+    prove!(size <= floor);
+    core.step(Event::Offer(caller, cover))?;
+    core.step(Event::Look(caller))?;
+    core.step(Event::Close(caller, closed))?;
+    Ok(())
+}

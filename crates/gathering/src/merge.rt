@@ -1,0 +1,123 @@
+//! Gathering the results of workers.
+ghost use Rattle.std.specs.Prelude.{◌≡◌, ◌≤◌, ◌<◌, ◌+◌, ◌^◌, length, Contains, IfErr, IfOk, IfSome, IsSome};
+ghost use Rattle.std.specs.Arc.{arc_value};
+ghost use Rattle.proof_tree.specs.Shape.{tree_of};
+ghost use Rattle.search_core.specs.Planned.{IsBest};
+ghost use Rattle.gathering.specs.Gathered.{IsGathered, StopsGathering};
+
+use crate::fault::PoolFault;
+use crate::gleaning::glean;
+use crate::opening::try_before_closes;
+use crate::trying::close_all;
+use cave_regions::{Cover, Region};
+use event_core::Core;
+use pack_bound::scattered;
+use proof_tree::{Name, Piece, Proof};
+use scan_core::Cell;
+use schedule_law::Work;
+use search_core::{AloneDesk, Halt};
+use std::alloc::{AllocError, Global};
+use std::sync::Arc;
+
+/// The least of all covers, with the tree assembled from what workers opened and closed.
+#[derive(Drop)]
+pub struct Gathered {
+    pub cover: Cover,
+    pub proof: Proof,
+    /// For each worker how many of its closed pieces were taken over.
+    pub closed_by: Vec<u64>,
+    /// The names of the pieces that this call closed.
+    pub gleaned: Vec<Name>,
+    /// How many turns this call granted. The count stops at the greatest number that it holds.
+    pub turns: u64,
+}
+
+/// Plays the works on an event core, passes over what isn't enabled, closes each piece that then has no tree, with so
+/// many turns or any number of them, and assembles. More works than 32 bits count are refused as memory is.
+pub fn gather(
+    alloc: Global,
+    region: &Arc<Region>,
+    first: Cover,
+    root: Cell,
+    works: Vec<Work>,
+    turns: Option<u64>,
+) -> Result<Gathered, PoolFault>
+    requires of_it { first.region ≡ arc_value region.now }
+    requires root { Contains (arc_value region.now).cells root }
+    ensures gathered { IfOk result (λ g. IsGathered (arc_value region.now) first.places root works.items (record {
+      cover = g.cover;
+      tree = tree_of g.proof;
+      closed_by = g.closed_by.items;
+      gleaned = g.gleaned.items;
+    })) }
+    ensures best { IfOk result (λ g. IsBest (arc_value region.now) g.cover (tree_of g.proof)) }
+    ensures granted { IfOk result (λ g. IfSome turns (λ limit. g.turns ≤ limit)) }
+    ensures stopped { IfErr result (StopsGathering (arc_value region.now) turns) }
+{
+    let Some(caller) = count_of(&works) else {
+        return Err(PoolFault::OutOfMemory);
+    };
+    let mut core = Core::new(alloc, Arc::try_clone(region)?, first, caller + 1)?;
+    try_before_closes(alloc, &mut core, root, &works)?;
+    let closed_by = close_all(alloc, &mut core, works)?;
+    let mut desk = AloneDesk::new(core.best().try_clone()?, turns);
+    match glean(alloc, &mut core, caller, &mut desk) {
+        Ok(gleaned) => match core.assemble() {
+            Ok((cover, proof)) => Ok(Gathered {
+                cover,
+                proof,
+                closed_by,
+                gleaned,
+                turns: granted(&desk, turns),
+            }),
+            Err(_) => unreachable!(),
+        },
+        Err(Halt::TurnsSpent) => Err(stopped(alloc, region, root, desk, turns)?),
+        Err(Halt::OutOfMemory) => Err(PoolFault::OutOfMemory),
+    }
+}
+
+/// How many works there are, where 32 bits count them and one more.
+fn count_of(works: &[Work]) -> Option<u32>
+    ensures { IfSome result (λ count. (count ≡ length works.now) × (count + 1 < 2 ^ 32)) }
+{
+    if works.len() >= u32::MAX as usize {
+        return None;
+    }
+    Some(works.len() as u32)
+}
+
+/// What is known once the turns are spent.
+fn stopped(
+    alloc: Global,
+    region: &Arc<Region>,
+    root: Cell,
+    desk: AloneDesk,
+    turns: Option<u64>,
+) -> Result<PoolFault, AllocError>
+    requires of_it { desk.cover.region ≡ arc_value region.now }
+    requires root { Contains (arc_value region.now).cells root }
+    requires limited { IsSome turns }
+    ensures { IfOk result (StopsGathering (arc_value region.now) turns) }
+{
+    let piece = Piece::root(alloc, region)?;
+    let floor = scattered(alloc, &piece)?.len() as u64;
+    let turns = granted(&desk, turns);
+    Ok(PoolFault::Stopped {
+        cover: desk.into_cover(),
+        floor,
+        turns,
+    })
+}
+
+/// How many turns the desk granted, at most as many as were given.
+fn granted(desk: &AloneDesk, turns: Option<u64>) -> u64
+    ensures { IfSome turns (λ limit. result ≤ limit) }
+{
+    let granted = desk.granted();
+    match turns {
+        None => granted,
+        Some(limit) if limit < granted => limit,
+        Some(_) => granted,
+    }
+}

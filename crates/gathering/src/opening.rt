@@ -1,0 +1,115 @@
+//! Playing what comes before all closing. An event that isn't enabled is passed over.
+ghost use Rattle.std.specs.Prelude.{◌≡◌, ◌<◌, ◌^◌, [], ◌∷◌, length, IfOk};
+ghost use Rattle.event_core.specs.Kept.{state_of};
+ghost use Rattle.event_core.specs.Plays.{Plays};
+ghost use Rattle.schedule_law.specs.Listing.{looks, offer_of, offers};
+ghost use Rattle.gathering.specs.Playing.{tries, tries_as_long, tries_before_closes, tries_one, tries_open};
+
+use cave_regions::Cover;
+use event_core::{Core, Event};
+use proof_tree::{Name, Opened};
+use scan_core::Cell;
+use schedule_law::Work;
+use std::alloc::{AllocError, Global};
+
+/// The caller opens the root, workers open pieces, shorter names first, offer and look.
+pub(crate) fn try_before_closes(
+    alloc: Global,
+    core: &mut Core,
+    root: Cell,
+    works: &[Work],
+) -> Result<(), AllocError>
+    requires few { length works.now < 2 ^ 32 }
+    ensures { IfOk result (λ _. Plays (state_of core.old) (tries_before_closes root works.now) (state_of core.new)) }
+{
+    core.step(Event::Open(Name::root(alloc), root))?;
+    open_all(core, 1, works)?;
+    open_all(core, 2, works)?;
+    offer_all(core, works)?;
+    look_all(core, works)?;
+    Ok(())
+}
+
+/// Each worker opens its pieces whose names are so long.
+fn open_all(core: &mut Core, size: usize, works: &[Work]) -> Result<(), AllocError>
+    requires few { length works.now < 2 ^ 32 }
+    ensures { IfOk result (λ _. Plays (state_of core.old) (tries size 0 works.now) (state_of core.new)) }
+{
+    let mut worker = 0u32;
+    for work in works {
+        open_each(core, size, worker, &work.opened)?;
+        worker += 1;
+    }
+    Ok(())
+}
+
+/// A worker opens those of the pieces whose names are so long.
+fn open_each(core: &mut Core, size: usize, worker: u32, splits: &[Opened]) -> Result<(), AllocError>
+    ensures { IfOk result (λ _. Plays (state_of core.old) (tries_as_long size worker splits.now) (state_of core.new)) }
+{
+    for split in splits {
+        open_one(core, size, worker, split)?;
+    }
+    Ok(())
+}
+
+/// A worker opens the piece if its name is so long.
+fn open_one(core: &mut Core, size: usize, worker: u32, split: &Opened) -> Result<(), AllocError>
+    ensures { IfOk result (λ _. Plays (state_of core.old) (tries_one size worker split.now) (state_of core.new)) }
+{
+    if split.piece().name().as_slice().len() != size {
+        return Ok(());
+    }
+    try_open(core, worker, split)?;
+    Ok(())
+}
+
+/// A worker takes a piece, opens it, and leaves it where it could not be opened.
+fn try_open(core: &mut Core, worker: u32, split: &Opened) -> Result<(), AllocError>
+    ensures { IfOk result (λ _. Plays (state_of core.old) (tries_open worker split.now) (state_of core.new)) }
+{
+    let name = split.piece().name();
+    core.step(Event::Take(worker, name.try_clone()?))?;
+    core.step(Event::Open(name.try_clone()?, split.cell()))?;
+    core.step(Event::Leave(worker, name.try_clone()?))?;
+    Ok(())
+}
+
+/// Each worker offers its cover.
+fn offer_all(core: &mut Core, works: &[Work]) -> Result<(), AllocError>
+    requires few { length works.now < 2 ^ 32 }
+    ensures { IfOk result (λ _. Plays (state_of core.old) (offers 0 works.now) (state_of core.new)) }
+{
+    let mut worker = 0u32;
+    for work in works {
+        offer_one(core, worker, &work.cover)?;
+        worker += 1;
+    }
+    Ok(())
+}
+
+/// A worker offers its cover, if it has one.
+fn offer_one(core: &mut Core, worker: u32, cover: &Option<Cover>) -> Result<(), AllocError>
+    ensures { IfOk result (λ _. Plays (state_of core.old) (offer_of worker cover.now) (state_of core.new)) }
+{
+    match cover {
+        None => Ok(()),
+        Some(cover) => {
+            core.step(Event::Offer(worker, cover.try_clone()?))?;
+            Ok(())
+        }
+    }
+}
+
+/// Each worker looks.
+fn look_all(core: &mut Core, works: &[Work]) -> Result<(), AllocError>
+    requires few { length works.now < 2 ^ 32 }
+    ensures { IfOk result (λ _. Plays (state_of core.old) (looks 0 works.now) (state_of core.new)) }
+{
+    let mut worker = 0u32;
+    for work in works {
+        core.step(Event::Look(worker))?;
+        worker += 1;
+    }
+    Ok(())
+}

@@ -1,0 +1,44 @@
+-- What a caller hands over to join results. This is this project's own.
+use Rattle.std.specs.Prelude.{◌≡◌, ℕ, ◌+◌, true, List, [], ◌∷◌, Some, map}
+use Rattle.atomic_table.specs.Seated.{TableId}
+use Rattle.beacon.specs.Marks.{Seated}
+use Rattle.set_cover.specs.Instance.{Instance}
+use Rattle.proof_tree.specs.Piece.{Subproblem, root_of}
+use Rattle.proof_tree.specs.Opened.{IsSplit, Split}
+use Rattle.proof_tree.specs.Weights.{weigh}
+use Rattle.worker_results.specs.Naming.{numbers_from}
+use Rattle.worker_results.specs.Passes.{Owned}
+use Rattle.worker_results.specs.Results.{Handed}
+
+-- a number for each item, added up
+abbrev pub total : {A : Type 0} → (A → ℕ) → List A → ℕ
+total number [] = 0
+total number (item ∷ items) = number item + total number items
+
+-- the workers that handed over
+abbrev pub workers_of : List Handed → List ℕ
+workers_of results = map (λ done. done.share.worker) results
+
+-- the workers whose deques they own
+abbrev pub numbers_of : List Owned → List ℕ
+numbers_of owners = map (λ own. own.worker) owners
+
+-- a result of each worker, in order
+abbrev pub AreOfAll : ℕ → List Handed → Type 0
+AreOfAll workers results = workers_of results ≡ numbers_from 0 workers
+
+-- the root was opened
+abbrev pub IsRootSplit : Instance → Split → Type 0
+IsRootSplit region split = (split.piece ≡ root_of region) × IsSplit split
+
+-- what lies on the workers' deques at the start is these pieces
+abbrev pub StartWith : (ℕ → List Subproblem) → ℕ → List Subproblem → Type 0
+StartWith start workers pieces = (weight : Subproblem → ℕ)
+    → total (λ worker. weigh weight (start worker)) (numbers_from 0 workers) ≡ weigh weight pieces
+
+-- the first seat of the beacon told this size, and so many others are out
+pub record IsFirstSeat (named : TableId) (size others : ℕ) (seat : Seated) : Type 0 where
+  pub of_it : seat.beacon ≡ named
+  pub first : seat.knows.first ≡ true
+  pub told : seat.knows.told ≡ Some size
+  pub out : seat.knows.out ≡ others

@@ -1,0 +1,5 @@
+-- public clauses cite
+pub mod Joining
+-- private
+pub mod Apart
+pub mod Taking

@@ -1,0 +1,53 @@
+//! Joining the results of all workers.
+ghost use Rattle.std.specs.Prelude.{◌≡◌, length, IfOk};
+ghost use Rattle.proof_tree.specs.Opened.{Split, kids_of};
+ghost use Rattle.schedule_law.specs.Joined.{AreJoined};
+ghost use Rattle.joined_results.specs.Joining.{AreOfAll, IsFirstSeat, IsRootSplit, StartWith};
+
+use crate::parting::{AllParts, part_all};
+use crate::taking::{drain_all, take_rows};
+use beacon::{Beacon, Seat};
+use cave_model::OutOfMemory;
+use cave_regions::Cover;
+use proof_tree::Piece;
+use schedule_law::Work;
+use std::alloc::Global;
+use worker_results::{Done, Naming};
+
+/// What all workers did, and the pieces that were left in their deques.
+#[derive(Drop)]
+pub struct Joined {
+    /// In the order of the workers' numbers.
+    pub works: Vec<Work>,
+    pub left: Vec<Piece>,
+}
+
+/// Joins the seats and passes of all results, closes the beacon and empties the deques. No worker runs any more. The
+/// beacon was opened with the cover's size, and the caller opened the root.
+pub fn close_up<B: Naming>(
+    alloc: Global,
+    beacon: Beacon,
+    first: Seat,
+    best: &Cover,
+    results: Vec<Done<B>>,
+) -> Result<Joined, OutOfMemory>
+    ghost root: { Split }
+    requires beacon { beacon ≡ B.beacon }
+    requires seat { IsFirstSeat B.beacon (length best.now.places) B.workers first }
+    requires all { AreOfAll B.workers results.items }
+    requires root { IsRootSplit B.region root }
+    requires start { StartWith B.start B.workers (kids_of root) }
+    ensures { IfOk result (λ joined. AreJoined B.region best.now.places root.cell root.places
+        joined.works.items joined.left.items) }
+{
+    let AllParts {
+        first,
+        mut owners,
+        rows,
+        works,
+    } = part_all(alloc, &beacon, first, results)?;
+    take_rows(&mut owners, rows);
+    beacon.close(first);
+    let left = drain_all(alloc, owners)?;
+    Ok(Joined { works, left })
+}

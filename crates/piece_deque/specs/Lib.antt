@@ -1,0 +1,4 @@
+-- public clauses cite
+pub mod Deals
+pub mod Rule
+pub mod Owners

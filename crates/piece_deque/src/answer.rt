@@ -1,0 +1,11 @@
+use proof_tree::Piece;
+
+/// What a take answers.
+#[derive(Drop)]
+pub enum Take {
+    Got(Piece),
+    /// The deque was empty at one moment.
+    Empty,
+    /// Another thread took a piece first.
+    Again,
+}

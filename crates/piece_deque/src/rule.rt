@@ -1,0 +1,60 @@
+//! The rule of a deque of pieces, and what each kind of step changes.
+use crate::dealt::Dealt;
+use crossbeam_deque::protocol::{Join, Outcome, Protocol, Split};
+use proof_tree::Piece;
+
+/// The pieces pushed are those in the deque and those taken.
+pub struct EachOnce;
+
+impl Protocol<Piece, Dealt> for EachOnce {
+    ghost use Rattle.piece_deque.specs.Deals.{owner_pass, nobody};
+    ghost use Rattle.piece_deque.specs.Rule.{Balances};
+
+    ghost holds = { Balances };
+
+    ghost first = { owner_pass };
+
+    ghost guest = { nobody };
+}
+
+/// A push.
+pub(crate) struct Pushes;
+
+impl Outcome<Piece, Dealt> for Pushes {
+    ghost use Rattle.std.specs.Prelude.{◌≡◌};
+    ghost use Rattle.piece_deque.specs.Deals.{pushed_too};
+
+    ghost then = { λ before pieces after. after ≡ pushed_too before pieces };
+}
+
+/// A take at the front.
+pub(crate) struct Takes;
+
+impl Outcome<Piece, Dealt> for Takes {
+    ghost use Rattle.std.specs.Prelude.{◌≡◌};
+    ghost use Rattle.piece_deque.specs.Deals.{took_too};
+    ghost use Rattle.piece_deque.specs.Rule.{WasEmpty};
+
+    ghost then = { λ before pieces after. after ≡ took_too before pieces };
+
+    ghost empty = { WasEmpty };
+}
+
+/// A pass handed out, or in again.
+pub(crate) struct Hands;
+
+impl Split<Dealt> for Hands {
+    ghost use Rattle.piece_deque.specs.Deals.{one_more_out, thief_pass};
+
+    ghost left = { one_more_out };
+
+    ghost right = { λ _. thief_pass };
+}
+
+impl Join<Dealt> for Hands {
+    ghost use Rattle.piece_deque.specs.Deals.{together, nobody};
+
+    ghost both = { together };
+
+    ghost spent = { nobody };
+}

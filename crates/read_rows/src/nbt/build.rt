@@ -1,0 +1,69 @@
+//! Bytes of NBT texts, and the parts of what was read.
+use nbt_core::{NbtFault, Tag, read_root};
+use std::alloc::{AllocError, Global};
+use std::test::Fail;
+
+/// What every root begins with: a compound whose name is empty.
+pub const ROOT: [u8; 3] = [10, 0, 0];
+
+/// A root whose one entry has this id, the name `a` and this payload.
+pub fn root_with(alloc: Global, id: u8, payload: &[u8]) -> Result<Vec<u8>, AllocError> {
+    let mut bytes = Vec::from_slice(alloc, &ROOT)?;
+    bytes.extend_from_slice(&[id, 0, 1, b'a'])?;
+    bytes.extend_from_slice(payload)?;
+    bytes.push(0)?;
+    Ok(bytes)
+}
+
+/// The same bytes so many times.
+pub fn repeated(alloc: Global, part: &[u8], times: usize) -> Result<Vec<u8>, AllocError> {
+    let mut bytes = Vec::new(alloc);
+    for _ in 0..times {
+        bytes.extend_from_slice(part)?;
+    }
+    Ok(bytes)
+}
+
+/// The parts one after another.
+pub fn joined(alloc: Global, parts: &[&[u8]]) -> Result<Vec<u8>, AllocError> {
+    let mut bytes = Vec::new(alloc);
+    for part in parts {
+        bytes.extend_from_slice(part)?;
+    }
+    Ok(bytes)
+}
+
+/// The fault of bytes that are no root.
+pub fn fault_of(alloc: Global, bytes: &[u8]) -> Option<NbtFault> {
+    read_root(alloc, bytes).err()
+}
+
+/// The items of the list of this name.
+pub fn list<'a>(tag: &'a Tag, name: &[u8]) -> Result<&'a [Tag], Fail> {
+    match tag.field(name) {
+        Some(Tag::List(items)) => Ok(items.as_slice()),
+        _ => Err(Fail::from("no such list")),
+    }
+}
+
+/// The bytes of the text of this name.
+pub fn text<'a>(tag: &'a Tag, name: &[u8]) -> Result<&'a [u8], Fail> {
+    match tag.field(name) {
+        Some(Tag::Text(text)) => Ok(text.as_slice()),
+        _ => Err(Fail::from("no such text")),
+    }
+}
+
+/// Whether the tags are Ints of these values.
+pub fn are_ints(tags: &[Tag], wanted: &[i32]) -> bool {
+    if tags.len() != wanted.len() {
+        return false;
+    }
+    for (tag, n) in tags.iter().zip(wanted) {
+        match tag {
+            Tag::Int(m) if m == n => {}
+            _ => return false,
+        }
+    }
+    true
+}

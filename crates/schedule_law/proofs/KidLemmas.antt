@@ -1,0 +1,170 @@
+-- The kids of opened pieces, and their names.
+use Rattle.std.proofs.Common.{◌≡◌, ◌⊎◌, inl, inr, ℕ, zero, suc, ◌+◌, ◌<◌, ◌≤◌, Bool, true, false, List, [], ◌∷◌, ◌++◌}
+use Rattle.std.proofs.Common.{length, take, slice_index, refl, sym, ap, ap₂, ◌∙◌, subst, arith}
+use Rattle.std.proofs.Common.{append_assoc, append-nil, zero-add}
+use Rattle.proof_tree.specs.Piece.{Subproblem}
+use Rattle.proof_tree.specs.Opened.{Split, kid_of, kids_from, kids_of}
+use Rattle.proof_tree.specs.Weights.{weigh}
+use Rattle.schedule_law.specs.Names.{is_same_name}
+use Rattle.schedule_law.specs.Joined.{all_kids, pieces_opened}
+use Rattle.schedule_law.proofs.PieceLemmas.{either_way, same_self, same_true, bit, named, IsAmong, weigh-append}
+
+-- ---- the kid of each number
+
+kid_here : (p : Subproblem) (number : ℕ) (before : List ℕ) (place : ℕ)
+    → kid_of p (number + 0) (before ++ []) place ≡ kid_of p number before place
+kid_here p number before place =
+    let e : number + 0 ≡ number = omega arith in
+    ap₂ (λ n b. kid_of p n b place) e (append-nil before)
+
+kid_later : (p : Subproblem) (number i : ℕ) (before : List ℕ) (x : ℕ) (xs : List ℕ)
+    → kid_of p ((number + 1) + i) ((before ++ x ∷ []) ++ take i xs) (slice_index xs i)
+    ≡ kid_of p (number + suc i) (before ++ x ∷ take i xs) (slice_index xs i)
+kid_later p number i before x xs =
+    let e : (number + 1) + i ≡ number + suc i = omega arith in
+    ap₂ (λ n b. kid_of p n b (slice_index xs i)) e (append_assoc before (x ∷ []) (take i xs))
+
+kid_at : (p : Subproblem) (number : ℕ) (before places : List ℕ) (i : ℕ) → i < length places
+    → IsAmong (kid_of p (number + i) (before ++ take i places) (slice_index places i))
+    (kids_from p number before places)
+kid_at p number before [] i lt = absurd (omega arith)
+kid_at p number before (x ∷ xs) zero lt = inl (kid_here p number before x)
+kid_at p number before (x ∷ xs) (suc i) lt =
+    inr (subst (λ (k : Subproblem). IsAmong k (kids_from p (number + 1) (before ++ x ∷ []) xs))
+    (kid_later p number i before x xs) (kid_at p (number + 1) (before ++ x ∷ []) xs i (omega arith)))
+
+kid_from : (p : Subproblem) (number : ℕ) (before places : List ℕ) (q : Subproblem)
+    → IsAmong q (kids_from p number before places)
+    → (i : ℕ) × (i < length places) × (q ≡ kid_of p (number + i) (before ++ take i places) (slice_index places i))
+kid_from p number before [] q at = absurd at
+kid_from p number before (x ∷ xs) q (inl e) = (0, omega arith, e ∙ sym (kid_here p number before x))
+kid_from p number before (x ∷ xs) q (inr r) =
+    let k = kid_from p (number + 1) (before ++ x ∷ []) xs q r in
+    (suc k.0, (let lt = k.1 in omega arith), k.2 ∙ kid_later p number k.0 before x xs)
+
+-- the kid of this number
+abbrev pub numbered_kid : Split → ℕ → Subproblem
+numbered_kid s i = kid_of s.piece i (take i s.places) (slice_index s.places i)
+
+pub numbered_among : (s : Split) (i : ℕ) → i < length s.places → IsAmong (numbered_kid s i) (kids_of s)
+numbered_among s i lt =
+    subst (λ (n : ℕ). IsAmong (kid_of s.piece n (take i s.places) (slice_index s.places i)) (kids_of s)) (zero-add i)
+    (kid_at s.piece 0 [] s.places i lt)
+
+pub among_numbered : (s : Split) (q : Subproblem) → IsAmong q (kids_of s)
+    → (i : ℕ) × (i < length s.places) × (q ≡ numbered_kid s i)
+among_numbered s q at =
+    let k = kid_from s.piece 0 [] s.places q at in
+    let e : 0 + k.0 ≡ k.0 = zero-add k.0 in
+    (k.0, k.1, k.2 ∙ ap (λ n. kid_of s.piece n (take k.0 s.places) (slice_index s.places k.0)) e)
+
+-- ---- no name stands twice: by induction on its length
+
+-- all but the last number
+abbrev pub parent_name : List ℕ → List ℕ
+parent_name [] = []
+parent_name (x ∷ []) = []
+parent_name (x ∷ y ∷ ys) = x ∷ parent_name (y ∷ ys)
+
+abbrev last_number : List ℕ → ℕ
+last_number [] = 0
+last_number (x ∷ []) = x
+last_number (x ∷ y ∷ ys) = last_number (y ∷ ys)
+
+parent_name-push : (xs : List ℕ) (k : ℕ) → parent_name (xs ++ k ∷ []) ≡ xs
+parent_name-push [] k = refl
+parent_name-push (x ∷ []) k = refl
+parent_name-push (x ∷ y ∷ ys) k = ap (λ l. x ∷ l) (parent_name-push (y ∷ ys) k)
+
+last_number-push : (xs : List ℕ) (k : ℕ) → last_number (xs ++ k ∷ []) ≡ k
+last_number-push [] k = refl
+last_number-push (x ∷ []) k = refl
+last_number-push (x ∷ y ∷ ys) k = last_number-push (y ∷ ys) k
+
+length-parent_name : (x : ℕ) (xs : List ℕ) → length (parent_name (x ∷ xs)) ≡ length xs
+length-parent_name x [] = refl
+length-parent_name x (y ∷ ys) = ap suc (length-parent_name y ys)
+
+-- a kid of this name has the piece of the parent's name for its parent, and the last number
+kid_named : (x : List ℕ) (p : Subproblem) (k : ℕ) (before : List ℕ) (place : ℕ)
+    → (named x (kid_of p k before place) ≤ named (parent_name x) p)
+    × ((named x (kid_of p k before place) ≡ 0) ⊎ (last_number x ≡ k))
+kid_named x p k before place = elim (either_way (is_same_name x (p.name ++ k ∷ []))) [
+  | inl e ↦ (let is = same_true x (p.name ++ k ∷ []) e in
+      let f : parent_name x ≡ p.name = ap parent_name is ∙ parent_name-push p.name k in
+      let one : named (parent_name x) p ≡ 1 = ap (λ y. bit (is_same_name y p.name)) f ∙ ap bit (same_self p.name) in
+      let top : named x (kid_of p k before place) ≡ 1 = ap bit e in
+      (omega arith, inr (ap last_number is ∙ last_number-push p.name k)))
+  | inr e ↦ (let none : named x (kid_of p k before place) ≡ 0 = ap bit e in (omega arith, inl none))
+]
+
+-- as few have this name as their parent has the parent's name, and none where its last number is less than theirs
+abbrev AreFew : List ℕ → Subproblem → ℕ → List Subproblem → Type 0
+AreFew x p k ps = (weigh (named x) ps ≤ named (parent_name x) p) × (last_number x < k → weigh (named x) ps ≡ 0)
+
+kids_named : (x : List ℕ) (p : Subproblem) (k : ℕ) (before places : List ℕ) → AreFew x p k (kids_from p k before places)
+kids_named x p k before [] = (omega arith, λ lt. refl)
+kids_named x p k before (q ∷ qs) =
+    let h = kid_named x p k before q in
+    let r = kids_named x p (k + 1) (before ++ q ∷ []) qs in
+    elim h.1 [
+      | inl none ↦ (let c = r.0 in (omega arith, λ lt. (let d = r.1 (omega arith) in omega arith)))
+      | inr is ↦ (let d = r.1 (omega arith) in let c = h.0 in (omega arith, λ lt. absurd (omega arith)))
+    ]
+
+pub all_named : (x : List ℕ) (ss : List Split)
+    → weigh (named x) (all_kids ss) ≤ weigh (named (parent_name x)) (pieces_opened ss)
+all_named x [] = omega arith
+all_named x (s ∷ ss) =
+    let a = (kids_named x s.piece 0 [] s.places).0 in
+    let b = all_named x ss in
+    omega (arith, weigh-append (named x) (kids_of s) (all_kids ss))
+
+-- no kid has the empty name
+nil_kids : (p : Subproblem) (k : ℕ) (before places : List ℕ) → weigh (named []) (kids_from p k before places) ≡ 0
+nil_kids p k before [] = refl
+nil_kids p k before (q ∷ qs) =
+    let n = not_nil p.name k in let r = nil_kids p (k + 1) (before ++ q ∷ []) qs in omega arith
+  where
+    not_nil : (xs : List ℕ) (k : ℕ) → bit (is_same_name [] (xs ++ k ∷ [])) ≡ 0
+    not_nil [] k = refl
+    not_nil (x ∷ xs) k = refl
+
+pub nil_all : (ss : List Split) → weigh (named []) (all_kids ss) ≡ 0
+nil_all [] = refl
+nil_all (s ∷ ss) =
+    omega (arith, weigh-append (named []) (kids_of s) (all_kids ss), nil_all ss, nil_kids s.piece 0 [] s.places)
+
+at_most_one : (b : Bool) → bit b ≤ 1
+at_most_one true = omega arith
+at_most_one false = omega arith
+
+module _ (root : Split) (nameless : root.piece.name ≡ []) (opened : List Split)
+    (from : (h : Subproblem → ℕ) → weigh h (pieces_opened opened) ≤ weigh h (all_kids (root ∷ opened))) where
+  by_parent : (x y : List ℕ) → parent_name x ≡ y
+      → weigh (named x) (all_kids (root ∷ opened)) ≤ weigh (named (parent_name x)) (pieces_opened (root ∷ opened))
+      → weigh (named (parent_name x)) (pieces_opened opened)
+      ≤ weigh (named (parent_name x)) (all_kids (root ∷ opened))
+      → weigh (named (parent_name x)) (all_kids (root ∷ opened)) ≤ 1
+      → weigh (named x) (all_kids (root ∷ opened)) ≤ 1
+  by_parent x [] is a up rest =
+      let none : weigh (named (parent_name x)) (all_kids (root ∷ opened)) ≡ 0 =
+      ap (λ y. weigh (named y) (all_kids (root ∷ opened))) is ∙ nil_all (root ∷ opened) in
+      let one = at_most_one (is_same_name (parent_name x) root.piece.name) in
+      omega arith
+  by_parent x (y ∷ ys) is a up rest =
+      let none : named (parent_name x) root.piece ≡ 0 =
+      ap (λ z. bit (is_same_name z root.piece.name)) is ∙ ap (λ z. bit (is_same_name (y ∷ ys) z)) nameless in
+      omega arith
+
+  once_below : (n : ℕ) (x : List ℕ) → length x ≤ n → weigh (named x) (all_kids (root ∷ opened)) ≤ 1
+  once_below n [] le = (let a = nil_all (root ∷ opened) in omega arith)
+  once_below zero (k ∷ ks) le = absurd (omega arith)
+  once_below (suc n) (k ∷ ks) le =
+      by_parent (k ∷ ks) (parent_name (k ∷ ks)) refl (all_named (k ∷ ks) (root ∷ opened))
+      (from (named (parent_name (k ∷ ks))))
+      (once_below n (parent_name (k ∷ ks)) (omega (arith, length-parent_name k ks)))
+
+  -- each name is that of one piece at most
+  pub once : (x : List ℕ) → weigh (named x) (all_kids (root ∷ opened)) ≤ 1
+  once x = once_below (length x) x (omega arith)

@@ -1,0 +1,103 @@
+-- What a state knows after a piece was taken and opened or closed.
+use Rattle.std.proofs.Common.{◌≡◌, ◌≢◌, inl, inr, ℕ, ◌<◌, ◌≤◌, List, [], ◌∷◌, ◌++◌, length}
+use Rattle.std.proofs.Common.{refl, sym, ap, ◌∙◌, subst, arith}
+use Rattle.set_cover.specs.Instance.{Instance, of_instance}
+use Rattle.proof_rules.specs.Good.{AreOpen}
+use Rattle.proof_tree.specs.Piece.{Subproblem}
+use Rattle.proof_tree.specs.Opened.{Split, IsSplit, kids_of}
+use Rattle.proof_tree.specs.Weights.{weigh}
+use Rattle.proof_tree.proofs.OrderLemmas.{rises_from, one_order}
+use Rattle.event_core.specs.State.{State, Status, waiting, HasPart}
+use Rattle.event_core.specs.Events.{Turns, Opens, IsParted}
+use Rattle.schedule_law.specs.Names.{is_same_name}
+use Rattle.schedule_law.proofs.PieceLemmas.{bit, named, one_named, IsAmong, weigh-append, named_among, among_either}
+use Rattle.schedule_law.proofs.KidLemmas.{numbered_kid, numbered_among, among_numbered}
+
+-- each of these pieces waits, but those whose names were used
+abbrev pub Knows : State → List Subproblem → List Subproblem → Type 0
+Knows state made used = (p : Subproblem) → IsAmong p made → weigh (named p.name) used ≡ 0
+    → HasPart state p.name p.chosen p.barred waiting
+
+-- all but the pieces stays
+pub record Keeps (old new : State) : Type 0 where
+  pub same_region : new.region ≡ old.region
+  pub same_best : new.best ≡ old.best
+  pub same_seen : new.seen ≡ old.seen
+
+pub keeps_self : (state : State) → Keeps state state
+keeps_self state = record { same_region = refl; same_best = refl; same_seen = refl }
+
+pub keeps_on : (a b c : State) → Keeps a b → Keeps b c → Keeps a c
+keeps_on a b c f g = record {
+  same_region = g.same_region ∙ f.same_region;
+  same_best = g.same_best ∙ f.same_best;
+  same_seen = g.same_seen ∙ f.same_seen;
+}
+
+pub turned_keeps : (old : State) (name : List ℕ) (status : Status) (new : State) → Turns old name status new
+    → Keeps old new
+turned_keeps old name status new t = record {
+  same_region = ap (λ (s : State). s.region) t.kept;
+  same_best = ap (λ (s : State). s.best) t.kept;
+  same_seen = ap (λ (s : State). s.seen) t.kept;
+}
+
+pub opened_keeps : (old : State) (name : List ℕ) (cell : ℕ) (new : State) → Opens old name cell new → Keeps old new
+opened_keeps old name cell new o = record {
+  same_region = ap (λ (s : State). s.region) o.kept;
+  same_best = ap (λ (s : State). s.best) o.kept;
+  same_seen = ap (λ (s : State). s.seen) o.kept;
+}
+
+-- a name that isn't used with this piece's isn't this piece's
+pub other_name : (used : List Subproblem) (p : Subproblem) (x : List ℕ) → weigh (named x) (used ++ p ∷ []) ≡ 0
+    → x ≢ p.name
+other_name used p x none e =
+    let one : named x p ≡ 1 = ap (λ y. bit (is_same_name y p.name)) e ∙ one_named p in
+    let sum = weigh-append (named x) used (p ∷ []) in
+    absurd (omega arith)
+
+pub unused_before : (used : List Subproblem) (p : Subproblem) (x : List ℕ) → weigh (named x) (used ++ p ∷ []) ≡ 0
+    → weigh (named x) used ≡ 0
+unused_before used p x none = (let sum = weigh-append (named x) used (p ∷ []) in omega arith)
+
+-- a cell's open places stand in one list alone
+one_list : (region : Instance) (barred : List ℕ) (cell : ℕ) (xs ys : List ℕ)
+    → AreOpen (of_instance region) barred cell xs → AreOpen (of_instance region) barred cell ys → xs ≡ ys
+one_list region barred cell xs ys a b = one_order xs ys (rises_from xs a.ascending) (rises_from ys b.ascending)
+    (λ z h. (b.exact z).1 ((a.exact z).0 h)) (λ z h. (a.exact z).1 ((b.exact z).0 h))
+
+-- a piece is opened, and its kids wait
+module _ (old mid new : State) (s : Split) (was : Status) (made used : List Subproblem)
+    (is : HasPart mid s.piece.name s.piece.chosen s.piece.barred was)
+    (others_stay : (other : List ℕ) → other ≢ s.piece.name → mid.part_at other ≡ old.part_at other)
+    (of_it : mid.region ≡ s.piece.region) (split : IsSplit s) (o : Opens mid s.piece.name s.cell new)
+    (knows : Knows old made used) (once : (x : List ℕ) → weigh (named x) (made ++ kids_of s) ≤ 1) where
+  parted : IsParted mid s.piece.name s.piece.chosen s.piece.barred s.cell s.places new
+  parted =
+      let p = o.parted s.piece.chosen s.piece.barred was is in
+      let at_it : AreOpen (of_instance s.piece.region) s.piece.barred s.cell p.0 =
+      subst (λ (r : Instance). AreOpen (of_instance r) s.piece.barred s.cell p.0) of_it p.1 in
+      subst (λ (ps : List ℕ). IsParted mid s.piece.name s.piece.chosen s.piece.barred s.cell ps new)
+      (one_list s.piece.region s.piece.barred s.cell p.0 s.places at_it split.all) p.2
+
+  -- a piece that came to be before is no kid
+  no_kid : (q : Subproblem) → IsAmong q made → (number : ℕ) → number < length s.places
+      → q.name ≢ s.piece.name ++ number ∷ []
+  no_kid q at number lt e =
+      let kid : Subproblem = numbered_kid s number in
+      let a = named_among q made at in
+      let b = named_among kid (kids_of s) (numbered_among s number lt) in
+      let c = ap (λ x. weigh (named x) (kids_of s)) e in
+      let sum = weigh-append (named q.name) made (kids_of s) in
+      let top = once q.name in
+      absurd (omega arith)
+
+  pub after_opening : Knows new (made ++ kids_of s) (used ++ s.piece ∷ [])
+  after_opening q at none = elim (among_either q made (kids_of s) at) [
+    | inl before ↦ (let apart = other_name used s.piece q.name none in
+        parted.others q.name apart (no_kid q before) ∙ others_stay q.name apart
+        ∙ knows q before (unused_before used s.piece q.name none))
+    | inr kid ↦ (let k = among_numbered s q kid in
+        subst (λ (r : Subproblem). HasPart new r.name r.chosen r.barred waiting) (sym k.2) (parted.kids k.0 k.1))
+  ]

@@ -1,0 +1,5 @@
+use Rattle.schedule_law.proofs.LawLemmas.{law}
+use Rattle.schedule_law.proofs.laws.listing_is_enabled.Goals as goal
+
+pub returns : goal.returns
+returns c = λ region first cell places works left start j begins. law region first cell places works left j start begins

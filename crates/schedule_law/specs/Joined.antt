@@ -1,0 +1,57 @@
+-- What is known of the results of all workers once they are joined. This is this project's own.
+use Rattle.std.specs.Prelude.{◌≡◌, ℕ, ◌+◌, List, [], ◌∷◌, ◌++◌, length, All, Option, Some, None, min, map, flat_map}
+use Rattle.set_cover.specs.Instance.{Instance}
+use Rattle.cave_regions.specs.Cover.{Covering}
+use Rattle.proof_tree.specs.Piece.{Subproblem, Fathomed, root_of}
+use Rattle.proof_tree.specs.Opened.{Split, IsSplit, kids_of}
+use Rattle.proof_tree.specs.Weights.{weigh}
+use Rattle.schedule_law.specs.Worked.{Worked, IsWork}
+
+-- the root opened on a cell, with the places of its kids
+abbrev pub root_split : Instance → ℕ → List ℕ → Split
+root_split region cell places = record { piece = root_of region; cell = cell; places = places }
+
+-- the kids of what was opened, piece after piece
+abbrev pub all_kids : List Split → List Subproblem
+all_kids splits = flat_map kids_of splits
+
+-- the pieces without their floors and trees
+abbrev pub pieces_closed : List Fathomed → List Subproblem
+pieces_closed closed = map (λ fathomed. fathomed.piece) closed
+
+-- the pieces without their cells and places
+abbrev pub pieces_opened : List Split → List Subproblem
+pieces_opened opened = map (λ split. split.piece) opened
+
+-- all that workers opened
+abbrev pub all_opened : List Worked → List Split
+all_opened works = flat_map (λ work. work.opened) works
+
+-- all that workers closed
+abbrev pub all_closed : List Worked → List Fathomed
+all_closed works = flat_map (λ work. work.closed) works
+
+-- those that workers still held, and kids whose push was refused
+abbrev pub all_back : List Worked → List Subproblem
+all_back works = flat_map (λ work. work.held ++ work.refused) works
+
+-- this size, or the cover's where that is smaller
+abbrev pub less_by : ℕ → Option Covering → ℕ
+less_by size None = size
+less_by size (Some cover) = min size (length cover.places)
+
+-- the least of this size and those of the workers' covers
+abbrev pub least_size : ℕ → List Worked → ℕ
+least_size size [] = size
+least_size size (work ∷ works) = less_by (least_size size works) work.cover
+
+-- the caller opened the root. Each piece that came to be was opened, closed, handed back or left in a deque, and just
+-- once; each floor reaches the least size of a cover
+pub record AreJoined (region : Instance) (first : List ℕ) (cell : ℕ) (places : List ℕ) (works : List Worked)
+    (left : List Subproblem) : Type 0 where
+  pub root : IsSplit (root_split region cell places)
+  pub fit : All (IsWork region (least_size (length first) works)) works
+  pub balance : (weight : Subproblem → ℕ)
+      → weigh weight (all_kids (root_split region cell places ∷ all_opened works))
+      ≡ weigh weight (pieces_opened (all_opened works)) + weigh weight (pieces_closed (all_closed works))
+      + weigh weight (all_back works) + weigh weight left

@@ -1,0 +1,5 @@
+-- public clauses cite
+pub mod Worked
+pub mod Joined
+pub mod Listing
+pub mod Names

@@ -1,0 +1,32 @@
+//! Laws over plain data: what joined results say, whatever the schedule was.
+ghost use Rattle.std.specs.Prelude.{◌≡◌, ◌≤◌, ◌+◌, ℕ, List, ◌∷◌, length};
+ghost use Rattle.set_cover.specs.Instance.{Instance};
+ghost use Rattle.proof_tree.specs.Piece.{Subproblem};
+ghost use Rattle.event_core.specs.State.{Begins, State};
+ghost use Rattle.schedule_law.specs.Joined.{AreJoined, all_back, all_closed, all_kids, all_opened, root_split};
+ghost use Rattle.schedule_law.specs.Listing.{AllEnabled, listing};
+ghost use Rattle.schedule_law.specs.Names.{count_named};
+ghost use Rattle.schedule_law.specs.Worked.{Worked};
+
+/// In a core with one worker more than handed over, the last being the caller's thread, every event of the list is
+/// enabled.
+pub fn listing_is_enabled()
+    ensures { (region : Instance) (first : List ℕ) (cell : ℕ) (places : List ℕ) (works : List Worked)
+        (left : List Subproblem) (start : State) → AreJoined region first cell places works left
+        → Begins region first (length works + 1) start → AllEnabled start (listing cell works) }
+{}
+
+/// No name stands twice among all pieces that came to be: none was pushed on two deques, and none was taken twice.
+pub fn no_name_stands_twice()
+    ensures { (region : Instance) (first : List ℕ) (cell : ℕ) (places : List ℕ) (works : List Worked)
+        (left : List Subproblem) (name : List ℕ) → AreJoined region first cell places works left
+        → count_named name (all_kids (root_split region cell places ∷ all_opened works)) ≤ 1 }
+{}
+
+/// The pieces that came to be are as many as those opened, closed, handed back and left.
+pub fn counts_add_up()
+    ensures { (region : Instance) (first : List ℕ) (cell : ℕ) (places : List ℕ) (works : List Worked)
+        (left : List Subproblem) → AreJoined region first cell places works left
+        → length (all_kids (root_split region cell places ∷ all_opened works))
+        ≡ length (all_opened works) + length (all_closed works) + length (all_back works) + length left }
+{}

@@ -1,0 +1,34 @@
+use cave_regions::Cover;
+use proof_tree::{Closed, Opened, Piece};
+use std::marker::Model;
+
+/// What a worker hands over once it is joined.
+#[derive(Drop)]
+pub struct Work {
+    /// The smallest cover that it found, if it found one.
+    pub cover: Option<Cover>,
+    /// The pieces that it closed.
+    pub closed: Vec<Closed>,
+    /// The pieces that it opened again.
+    pub opened: Vec<Opened>,
+    /// The pieces that it took and neither closed nor opened.
+    pub held: Vec<Piece>,
+    /// The kids of what it opened that its deque had no room for.
+    pub refused: Vec<Piece>,
+}
+
+impl Model for Work {
+    ghost use Rattle.schedule_law.specs.Worked.{Worked, worked_coded};
+
+    ghost Value = { Worked };
+
+    ghost coded = { worked_coded };
+
+    ghost view = { λ w. record {
+      cover = w.cover;
+      closed = w.closed.items;
+      opened = w.opened.items;
+      held = w.held.items;
+      refused = w.refused.items;
+    } };
+}

@@ -1,0 +1,3 @@
+pub mod PassLemmas
+pub mod HeapLemmas
+pub mod ShareLemmas

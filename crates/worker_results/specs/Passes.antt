@@ -1,0 +1,62 @@
+-- What is known of a worker's passes at the deques. This is this project's own.
+use Rattle.std.specs.Prelude.{◌≡◌, ℕ, ◌+◌, ◌-◌, true, false, List, [], ◌++◌, map, flat_map, refl}
+use Rattle.std.specs.Coded.{Coded, code_by, coded×, coded_ℕ}
+use Rattle.proof_tree.specs.Piece.{Subproblem}
+use Rattle.proof_tree.specs.Weights.{weigh}
+use Rattle.piece_deque.specs.declared.dealt.Dealt.{Dealt}
+use Rattle.piece_deque.specs.Deals.{dealt_coded}
+
+-- a pass at the deque of this number
+pub record Reached : Type 0 where
+  pub deque : ℕ
+  pub knows : Dealt
+
+abbrev pub reached_coded : Coded Reached
+reached_coded = code_by (ℕ × Dealt) (coded× coded_ℕ dealt_coded)
+    (λ r. (r.deque, r.knows)) (λ p. record { deque = p.0; knows = p.1 }) (λ _. refl)
+
+-- the owner's pass at the deque of this worker
+pub record Owned : Type 0 where
+  pub worker : ℕ
+  pub knows : Dealt
+
+abbrev pub owned_coded : Coded Owned
+owned_coded = code_by (ℕ × Dealt) (coded× coded_ℕ dealt_coded)
+    (λ o. (o.worker, o.knows)) (λ p. record { worker = p.0; knows = p.1 }) (λ _. refl)
+
+-- it is the owner's pass
+abbrev pub IsOwners : Dealt → Type 0
+IsOwners pass = (pass.first ≡ true) × (pass.spent ≡ false)
+
+-- another's pass, which pushed nothing
+abbrev pub IsOthers : Dealt → Type 0
+IsOthers pass = (pass.spent ≡ false) × (pass.pushed ≡ [])
+
+-- the numbers of the deques
+abbrev pub deques : List Reached → List ℕ
+deques reaches = map (λ reach. reach.deque) reaches
+
+-- all that the passes took
+abbrev pub all_taken : List Reached → List Subproblem
+all_taken reaches = flat_map (λ reach. reach.knows.taken) reaches
+
+-- one of the passes took this piece
+pub record TookOne (old : List Reached) (piece : Subproblem) (new : List Reached) : Type 0 where
+  pub same : deques new ≡ deques old
+  pub more : (weight : Subproblem → ℕ)
+      → weigh weight (all_taken new) ≡ weigh weight (all_taken old) + weight piece
+
+-- the owner's pass after another, which pushed nothing and took these, was handed in
+abbrev pub took_in : Dealt → List Subproblem → Dealt
+took_in pass pieces = record {
+  first = pass.first;
+  spent = pass.spent;
+  out = pass.out - 1;
+  pushed = pass.pushed;
+  taken = pass.taken ++ pieces;
+}
+
+-- what was left was taken: each piece that was pushed was taken by a pass, or is among those that are new
+abbrev pub Drained : Dealt → List Subproblem → List Subproblem → Type 0
+Drained pass old new = (weight : Subproblem → ℕ)
+    → weigh weight pass.pushed + weigh weight old ≡ weigh weight pass.taken + weigh weight new

@@ -1,0 +1,76 @@
+-- What a worker's desk keeps, and what a worker hands over. This is this project's own.
+use Rattle.std.specs.Prelude.{◌≡◌, ℕ, ◌≤◌, Bool, false, List, length, Option, Some, None, IfSome, refl}
+use Rattle.std.specs.Coded.{Coded, code_by, coded×, coded_ℕ, coded_bool, coded_option}
+use Rattle.atomic_table.specs.Seated.{TableId}
+use Rattle.set_cover.specs.Instance.{Instance, instance_coded}
+use Rattle.cave_regions.specs.Cover.{Covering, covering_coded}
+use Rattle.proof_tree.specs.Piece.{Subproblem}
+use Rattle.beacon.specs.declared.known.Known.{Known}
+use Rattle.beacon.specs.Marks.{Seated, known_coded}
+use Rattle.schedule_law.specs.Worked.{IsWork}
+use Rattle.worker_results.specs.Shares.{Shared, shared_coded, AddsUp, work_of}
+
+-- there is a cover no larger than the size
+abbrev pub HasCoverOf : Option Covering → ℕ → Type 0
+HasCoverOf None size = ⊥
+HasCoverOf (Some cover) size = length cover.places ≤ size
+
+-- a size that was told is that of a cover which is kept, or more
+abbrev pub KeepsTold : Option Covering → Option ℕ → Type 0
+KeepsTold cover told = IfSome told (HasCoverOf cover)
+
+-- a seat at the beacon that isn't the first one
+abbrev pub IsSeatAt : TableId → Seated → Type 0
+IsSeatAt beacon seat = (seat.beacon ≡ beacon) × (seat.knows.first ≡ false)
+
+-- one that told nothing yet
+abbrev pub IsNewSeatAt : TableId → Seated → Type 0
+IsNewSeatAt beacon seat = IsSeatAt beacon seat × (seat.knows.told ≡ None)
+
+-- no more turns were granted than the limit
+abbrev pub IsWithin : Option ℕ → ℕ → Type 0
+IsWithin turns granted = IfSome turns (λ limit. granted ≤ limit)
+
+-- a worker's desk
+pub record Desked : Type 0 where
+  pub region : Instance
+  -- what its seat knows
+  pub knows : Known
+  pub cover : Option Covering
+  -- the limit, if there is one
+  pub turns : Option ℕ
+  pub granted : ℕ
+  pub refused : Bool
+
+abbrev pub desked_coded : Coded Desked
+desked_coded = code_by (Instance × (Known × (Option Covering × (Option ℕ × (ℕ × Bool)))))
+    (coded× instance_coded (coded× known_coded (coded× (coded_option covering_coded)
+    (coded× (coded_option coded_ℕ) (coded× coded_ℕ coded_bool)))))
+    (λ d. (d.region, (d.knows, (d.cover, (d.turns, (d.granted, d.refused))))))
+    (λ p. record {
+      region = p.0;
+      knows = p.1.0;
+      cover = p.1.1.0;
+      turns = p.1.1.1.0;
+      granted = p.1.1.1.1.0;
+      refused = p.1.1.1.1.1;
+    })
+    (λ _. refl)
+
+-- what a worker hands over
+pub record Handed : Type 0 where
+  pub share : Shared
+  -- what its seat knows
+  pub knows : Known
+  pub cover : Option Covering
+
+abbrev pub handed_coded : Coded Handed
+handed_coded = code_by (Shared × (Known × Option Covering))
+    (coded× shared_coded (coded× known_coded (coded_option covering_coded)))
+    (λ h. (h.share, (h.knows, h.cover))) (λ p. record { share = p.0; knows = p.1.0; cover = p.1.1 }) (λ _. refl)
+
+-- its cover is no larger than any size that its seat told, and its floors are at least what the seat saw
+pub record IsDone (region : Instance) (start : List Subproblem) (handed : Handed) : Type 0 where
+  pub adds_up : AddsUp start handed.share
+  pub kept : KeepsTold handed.cover handed.knows.told
+  pub fit : IsWork region handed.knows.seen (work_of handed.share handed.cover)

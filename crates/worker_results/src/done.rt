@@ -1,0 +1,88 @@
+//! What a worker hands over.
+ghost use Rattle.std.specs.Prelude.{◌≡◌, IfSome};
+ghost use Rattle.schedule_law.specs.Worked.{IsCoverFor};
+ghost use Rattle.worker_results.specs.Naming.{numbers_from};
+ghost use Rattle.worker_results.specs.Passes.{deques};
+ghost use Rattle.worker_results.specs.Results.{IsDone, IsSeatAt, KeepsTold};
+ghost use Rattle.worker_results.specs.Shares.{AreClosedFrom, work_of};
+
+use crate::naming::Naming;
+use crate::own::Own;
+use crate::reaches::Reaches;
+use crate::share::Share;
+use beacon::Seat;
+use cave_regions::Cover;
+use schedule_law::Work;
+use std::marker::Model;
+
+/// A worker's seat, its passes, its smallest cover, and what became of the pieces that it took.
+#[derive(Drop)]
+pub struct Done<B: Naming> {
+    seat: Seat,
+    cover: Option<Cover>,
+    share: Share<B>,
+}
+
+impl<B: Naming> Model for Done<B> {
+    ghost use Rattle.std.specs.Prelude.{IfSome};
+    ghost use Rattle.schedule_law.specs.Worked.{IsCoverFor};
+    ghost use Rattle.worker_results.specs.Results.{Handed, handed_coded, IsSeatAt, KeepsTold};
+    ghost use Rattle.worker_results.specs.Shares.{AreClosedFrom};
+
+    ghost Value = { Handed };
+
+    ghost coded = { handed_coded };
+
+    ghost view = { λ d. record { share = d.share; knows = d.seat.knows; cover = d.cover } };
+
+    ghost invariant = { λ d. IsSeatAt B.beacon d.seat × KeepsTold d.cover d.seat.knows.told
+        × IfSome d.cover (IsCoverFor B.region) × AreClosedFrom B.region d.seat.knows.seen d.share.closed };
+}
+
+/// The parts of a result.
+#[derive(Drop)]
+pub struct Parts<B: Naming> {
+    pub seat: Seat,
+    pub own: Own<B>,
+    pub reaches: Reaches<B>,
+    pub work: Work,
+}
+
+impl<B: Naming> Done<B> {
+    /// The result of a worker.
+    pub fn new(seat: Seat, cover: Option<Cover>, share: Share<B>) -> Done<B>
+        requires seat { IsSeatAt B.beacon seat }
+        requires kept { KeepsTold cover seat.knows.told }
+        requires cover { IfSome cover (IsCoverFor B.region) }
+        requires floors { AreClosedFrom B.region seat.knows.seen share.closed }
+        ensures { result ≡ record { share = share; knows = seat.knows; cover = cover } }
+    {
+        Done { seat, cover, share }
+    }
+
+    /// The worker's number.
+    pub fn worker(&self) -> u32
+        ensures { result ≡ self.now.share.worker }
+    {
+        self.share.worker()
+    }
+
+    /// All that it hands over.
+    pub fn into_parts(self) -> Parts<B>
+        ensures seat { IsSeatAt B.beacon result.seat × (result.seat.knows ≡ self.knows) }
+        ensures own { (result.own.worker ≡ self.share.worker) × (result.own.knows ≡ self.share.own)
+            × (result.own.knows.out ≡ B.workers) }
+        ensures reaches { (result.reaches ≡ self.share.reaches) × (deques result.reaches ≡ numbers_from 0 B.workers) }
+        ensures work { result.work ≡ work_of self.share self.cover }
+        ensures done { IsDone B.region (B.start self.share.worker) self }
+    {
+        let Done { seat, cover, share } = self;
+        let (own, reaches, work) = share.into_parts(cover);
+        Parts {
+            seat,
+            own,
+            reaches,
+            work,
+        }
+    }
+}

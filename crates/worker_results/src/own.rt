@@ -1,0 +1,106 @@
+ghost use Rattle.std.specs.Prelude.{◌≡◌, ◌≢◌, [], ◌∷◌, IfErr, OnOk};
+ghost use Rattle.crossbeam_deque.specs.Handles.{worker_deque, worker_flavor, worker_view};
+ghost use Rattle.piece_deque.specs.Deals.{one_more_out, pushed_too, thief_pass};
+ghost use Rattle.piece_deque.specs.declared.answer.Take.TheVariants.{Again};
+ghost use Rattle.piece_deque.specs.Rule.{Answers, WasEmpty};
+ghost use Rattle.worker_results.specs.Passes.{IsOwners, took_in};
+
+use crate::naming::Naming;
+use crate::reach::Reach;
+use piece_deque::{Owner, Take};
+use proof_tree::Piece;
+use std::marker::{Model, PhantomData};
+
+/// A worker's own end of its deque, with the worker's number.
+#[derive(Drop)]
+pub struct Own<B: Naming> {
+    worker: u32,
+    owner: Owner,
+    of: PhantomData<B>,
+}
+
+impl<B: Naming> Model for Own<B> {
+    ghost use Rattle.std.specs.Prelude.{◌≡◌};
+    ghost use Rattle.crossbeam_deque.specs.Handles.{worker_deque, worker_flavor, worker_view};
+    ghost use Rattle.worker_results.specs.Passes.{Owned, owned_coded, IsOwners};
+
+    ghost Value = { Owned };
+
+    ghost coded = { owned_coded };
+
+    ghost view = { λ o. record { worker = o.worker; knows = worker_view o.owner } };
+
+    ghost invariant = { λ o. (worker_deque o.owner ≡ B.deque o.worker) × (worker_flavor o.owner ≡ 0)
+        × IsOwners (worker_view o.owner) };
+}
+
+impl<B: Naming> Own<B> {
+    /// The owner of the deque of this worker.
+    pub fn new(worker: u32, owner: Owner) -> Own<B>
+        requires deque { (worker_deque owner ≡ B.deque worker) × (worker_flavor owner ≡ 0) }
+        requires owners { IsOwners (worker_view owner) }
+        ensures { result ≡ record { worker = worker; knows = worker_view owner } }
+    {
+        Own {
+            worker,
+            owner,
+            of: PhantomData,
+        }
+    }
+
+    /// The worker's number.
+    pub fn worker(&self) -> u32
+        ensures { result ≡ self.now.worker }
+    {
+        self.worker
+    }
+
+    /// The piece at the front.
+    pub fn take(&mut self) -> Take
+        ensures same { self.new.worker ≡ self.old.worker }
+        ensures done { Answers WasEmpty self.old.knows result self.new.knows }
+        ensures sure { result ≢ Again }
+    {
+        piece_deque::take(&mut self.owner)
+    }
+
+    /// The piece at the back. It comes back where there is no room.
+    pub fn push(&mut self, piece: Piece) -> Result<(), Piece>
+        ensures same { self.new.worker ≡ self.old.worker }
+        ensures ok { OnOk result (self.new.knows ≡ pushed_too self.old.knows (piece ∷ [])) }
+        ensures err { IfErr result (λ refused. (refused ≡ piece) × (self.new.knows ≡ self.old.knows)) }
+    {
+        piece_deque::push(&mut self.owner, piece)
+    }
+
+    /// A pass at this deque for another worker.
+    pub fn hand_out(&mut self) -> Reach<B>
+        ensures same { self.new.worker ≡ self.old.worker }
+        ensures own { self.new.knows ≡ one_more_out self.old.knows }
+        ensures pass { result ≡ record { deque = self.old.worker; knows = thief_pass } }
+    {
+        Reach::new(self.worker, piece_deque::hand_out(&mut self.owner))
+    }
+
+    /// Takes in another worker's pass at this deque.
+    pub fn absorb(&mut self, reach: Reach<B>)
+        requires { reach.deque ≡ self.old.worker }
+        ensures same { self.new.worker ≡ self.old.worker }
+        ensures done { self.new.knows ≡ took_in self.old.knows reach.knows.taken }
+    {
+        piece_deque::hand_in(&mut self.owner, reach.into_hand());
+    }
+
+    /// The deque's end alone.
+    pub(crate) fn into_owner(self) -> Owner
+        ensures known { worker_view result ≡ self.knows }
+        ensures owners { (worker_flavor result ≡ 0) × IsOwners (worker_view result) }
+    {
+        let Own {
+            worker: _,
+            owner,
+            of: _,
+        } = self;
+        owner
+    }
+}

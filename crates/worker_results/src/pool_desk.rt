@@ -1,0 +1,167 @@
+//! A worker's desk.
+ghost use Rattle.std.specs.Prelude.{◌≡◌, None, false, IfSome};
+ghost use Rattle.std.specs.Arc.{arc_value};
+ghost use Rattle.schedule_law.specs.Worked.{IsCoverFor};
+ghost use Rattle.worker_results.specs.Results.{IsNewSeatAt, IsSeatAt, IsWithin, KeepsTold};
+
+use crate::naming::Naming;
+use beacon::{Beacon, Seat};
+use cave_model::OutOfMemory;
+use cave_regions::{Cover, Region};
+use search_core::Desk;
+use std::marker::{Model, PhantomData};
+use std::sync::Arc;
+
+/// It looks at the beacon, tells it the sizes of covers, keeps the smallest, and counts turns.
+pub struct PoolDesk<'a, B: Naming> {
+    beacon: &'a Beacon,
+    region: &'a Arc<Region>,
+    seat: Seat,
+    cover: Option<Cover>,
+    turns: Option<u64>,
+    granted: u64,
+    refused: bool,
+    of: PhantomData<B>,
+}
+
+impl<'a, B: Naming> Model for PoolDesk<'a, B> {
+    ghost use Rattle.std.specs.Prelude.{◌≡◌, IfSome};
+    ghost use Rattle.std.specs.Arc.{arc_value};
+    ghost use Rattle.schedule_law.specs.Worked.{IsCoverFor};
+    ghost use Rattle.worker_results.specs.Results.{Desked, desked_coded, IsSeatAt, IsWithin, KeepsTold};
+
+    ghost Value = { Desked };
+
+    ghost coded = { desked_coded };
+
+    ghost view = { λ d. record {
+      region = arc_value d.region.now;
+      knows = d.seat.knows;
+      cover = d.cover;
+      turns = d.turns;
+      granted = d.granted;
+      refused = d.refused;
+    } };
+
+    ghost invariant = { λ d. (d.beacon.now ≡ B.beacon) × (arc_value d.region.now ≡ B.region)
+        × IsSeatAt B.beacon d.seat × KeepsTold d.cover d.seat.knows.told
+        × IfSome d.cover (IsCoverFor B.region) × IsWithin d.turns d.granted };
+}
+
+impl<'a, B: Naming> PoolDesk<'a, B> {
+    /// A desk that grants so many turns, or any number of them.
+    pub fn new(
+        beacon: &'a Beacon,
+        region: &'a Arc<Region>,
+        seat: Seat,
+        turns: Option<u64>,
+    ) -> PoolDesk<'a, B>
+        requires places { (beacon.now ≡ B.beacon) × (arc_value region.now ≡ B.region) }
+        requires seat { IsNewSeatAt B.beacon seat }
+        ensures { result ≡ record {
+          region = B.region;
+          knows = seat.knows;
+          cover = None;
+          turns = turns;
+          granted = 0;
+          refused = false;
+        } }
+    {
+        PoolDesk {
+            beacon,
+            region,
+            seat,
+            cover: None,
+            turns,
+            granted: 0,
+            refused: false,
+            of: PhantomData,
+        }
+    }
+
+    /// How many turns it granted: at most its limit, and at most the greatest value of a `u64`.
+    pub fn granted(&self) -> u64
+        ensures granted { result ≡ self.now.granted }
+        ensures within { IsWithin self.now.turns result }
+    {
+        self.granted
+    }
+
+    /// Whether a turn was asked for last that it didn't grant.
+    pub fn is_spent(&self) -> bool
+        ensures { result ≡ self.now.refused }
+    {
+        self.refused
+    }
+
+    /// The region.
+    pub fn region(&self) -> &'a Arc<Region>
+        ensures { arc_value result.now ≡ B.region }
+    {
+        self.region
+    }
+
+    /// The seat, and the cover that is kept.
+    pub fn into_parts(self) -> (Seat, Option<Cover>)
+        ensures seat { IsSeatAt B.beacon result.0 × (result.0.knows ≡ self.entry.knows) }
+        ensures cover { (result.1 ≡ self.entry.cover) × IfSome result.1 (IsCoverFor B.region) }
+        ensures kept { KeepsTold result.1 result.0.knows.told }
+    {
+        let PoolDesk {
+            beacon: _,
+            region: _,
+            seat,
+            cover,
+            turns: _,
+            granted: _,
+            refused: _,
+            of: _,
+        } = self;
+        (seat, cover)
+    }
+}
+
+impl<'a, B: Naming> Desk for PoolDesk<'a, B> {
+    ghost use Rattle.std.specs.Prelude.{is_some};
+
+    ghost shown = { λ d. d.knows.seen };
+
+    ghost accepted = { λ d. d.knows.told };
+
+    ghost refused = { λ d. d.refused };
+
+    ghost limited = { λ d. is_some d.turns };
+
+    ghost region = { λ d. d.region };
+
+    fn look(&mut self) -> u64 {
+        self.beacon.look(&mut self.seat)
+    }
+
+    fn offer(&mut self, cover: &Cover) -> Result<(), OutOfMemory> {
+        let size = cover.size();
+        let better = match &self.cover {
+            Some(old) => size < old.size(),
+            None => true,
+        };
+        if better {
+            self.cover = Some(cover.try_clone()?);
+        }
+        self.beacon.tell(&mut self.seat, size);
+        Ok(())
+    }
+
+    fn enter(&mut self) -> bool {
+        match self.turns {
+            Some(limit) if self.granted >= limit => {
+                self.refused = true;
+                false
+            }
+            _ => {
+                self.granted = self.granted.saturating_add(1);
+                self.refused = false;
+                true
+            }
+        }
+    }
+}

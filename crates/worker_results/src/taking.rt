@@ -1,0 +1,51 @@
+//! Taking a piece, to be held until it is closed or opened.
+ghost use Rattle.std.specs.Prelude.{◌≡◌, ◌<◌, length};
+ghost use Rattle.worker_results.specs.Naming.{AreThieves};
+ghost use Rattle.worker_results.specs.Steps.{HoldsMore};
+
+use crate::naming::Naming;
+use crate::share::Share;
+use crate::step::Tried;
+use piece_deque::{Take, Thief};
+
+impl<B: Naming> Share<B> {
+    /// Takes a piece of its own deque, if there is one, and holds it.
+    pub fn take(&mut self) -> Tried
+        ensures worker { self.new.worker ≡ self.old.worker }
+        ensures closed { self.new.closed ≡ self.old.closed }
+        ensures held { HoldsMore result self.old.held self.new.held }
+    {
+        if self.held.reserve(1).is_err() {
+            return Tried::OutOfMemory;
+        }
+        match self.own.take() {
+            Take::Got(piece) => {
+                self.held.push_reserved(piece);
+                Tried::Got
+            }
+            Take::Empty => Tried::Empty,
+            Take::Again => Tried::Again,
+        }
+    }
+
+    /// Takes a piece of the deque of this number, if there is one, and holds it.
+    pub fn steal(&mut self, thieves: &[Thief], deque: usize) -> Tried
+        requires thieves { AreThieves B.deque 0 thieves.now }
+        requires number { deque < length thieves.now }
+        ensures worker { self.new.worker ≡ self.old.worker }
+        ensures closed { self.new.closed ≡ self.old.closed }
+        ensures held { HoldsMore result self.old.held self.new.held }
+    {
+        if self.held.reserve(1).is_err() {
+            return Tried::OutOfMemory;
+        }
+        match self.reaches.steal(thieves, deque) {
+            Take::Got(piece) => {
+                self.held.push_reserved(piece);
+                Tried::Got
+            }
+            Take::Empty => Tried::Empty,
+            Take::Again => Tried::Again,
+        }
+    }
+}
