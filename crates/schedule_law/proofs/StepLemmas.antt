@@ -123,7 +123,7 @@ opens_go region w (s ∷ ss) rest state made used lt of all knows ready go =
             },
             λ next opened.
                 (let kept : Keeps state next =
-            keeps_on state mid next keeps (opened_keeps mid p.name s.cell next opened) in
+                keeps_on state mid next keeps (opened_keeps mid p.name s.cell next opened) in
                 opens_go region w ss rest next (made ++ kids_of s) (used ++ p ∷ [])
                 (subst (λ (l : List ℕ). w < length l) (sym kept.same_seen) lt) (kept.same_region ∙ of)
                 (All-tail (IsOpenedIn region) s ss all)
@@ -234,7 +234,7 @@ closes_go region least w (e ∷ es) rest state made used lt of low all knows rea
               of_it = in_it.of_it ∙ sym (keeps.same_region ∙ of);
               holds = taken.here p.chosen p.barred waiting waits;
               reaches = le_trans (subst (λ (l : List ℕ). slice_index l w ≤ least) (sym keeps.same_seen) low)
-              in_it.reaches;
+                  in_it.reaches;
               proved = in_it.proved;
             },
             λ next done.
