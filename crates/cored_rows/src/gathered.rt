@@ -27,7 +27,7 @@ fn first_kid(alloc: Global, region: &Arc<Region>) -> Result<Vec<Closed>, Fail> {
     let mut found = Vec::new(alloc);
     for kid in kids_on(alloc, region, cell)? {
         if found.is_empty() {
-            found.push(closed(alloc, region, kid)?)?;
+            found.push(closed(alloc, kid)?)?;
         }
     }
     Ok(found)

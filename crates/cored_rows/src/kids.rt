@@ -23,8 +23,8 @@ pub(crate) fn kids_on(alloc: Global, region: &Arc<Region>, cell: Cell) -> Result
 }
 
 /// The piece, closed at a floor of 2.
-pub(crate) fn closed(alloc: Global, region: &Arc<Region>, piece: Piece) -> Result<Closed, Fail> {
-    let cover = first_plan(alloc, region)?;
+pub(crate) fn closed(alloc: Global, piece: Piece) -> Result<Closed, Fail> {
+    let cover = first_plan(alloc, piece.region())?;
     let mut desk = AloneDesk::new(cover, None);
     match close_piece(alloc, piece, &mut desk) {
         Ok(closed) => Ok(closed),
@@ -71,8 +71,8 @@ fn kids_are_taken_closed_and_assembled(rt: HostRuntime) -> Result<(), Fail> {
     let mut number = 0;
     for kid in kids_on(alloc, &region, 188)? {
         events.push(Event::Take(number, kid_name(alloc, number)?))?;
-        events.push(Event::Close(number, closed(alloc, &region, kid)?))?;
-        number += 1;
+        events.push(Event::Close(number, closed(alloc, kid)?))?;
+        number = u32::wrapping_add(number, 1);
     }
     let answers = play(alloc, &mut core, events)?;
     assert_eq!(rt;
