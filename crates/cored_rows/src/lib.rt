@@ -5,6 +5,8 @@
 #[cfg(test)]
 mod beacons;
 #[cfg(test)]
+mod deques;
+#[cfg(test)]
 mod desks;
 #[cfg(test)]
 mod enabled;
@@ -16,5 +18,3 @@ mod gathered;
 mod kids;
 #[cfg(test)]
 mod refused;
-#[cfg(test)]
-mod structure;

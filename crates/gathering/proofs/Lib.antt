@@ -4,3 +4,7 @@ pub mod HoldLemmas
 pub mod LikeLemmas
 pub mod GleanLemmas
 pub mod GatherLemmas
+pub mod WaitLemmas
+pub mod FollowLemmas
+pub mod OpenedLemmas
+pub mod LawLemmas

@@ -3,6 +3,7 @@
 
 mod fault;
 mod gleaning;
+pub mod laws;
 mod merge;
 mod opening;
 mod trying;

@@ -14,7 +14,7 @@ use Rattle.schedule_law.specs.Worked.{IsClosedFrom, IsWork, Worked}
 use Rattle.schedule_law.proofs.PieceLemmas.{weigh-append}
 use Rattle.worker_results.specs.Passes.{Owned, Reached, all_taken}
 use Rattle.worker_results.specs.Results.{Handed, KeepsTold}
-use Rattle.joined_results.specs.Joining.{numbers_of, total, workers_of}
+use Rattle.joined_results.specs.Joining.{numbers_of, total, workers_of, works_of}
 use Rattle.joined_results.specs.Apart.{ArePartsOf, IsOneMore, IsRow, AreApart, told_size, weigh_done}
 
 pub total-push : {A : Type 0} (f : A → ℕ) (xs : List A) (x : A) → total f (xs ++ x ∷ []) ≡ total f xs + f x
@@ -150,3 +150,9 @@ module _ (region : Instance) (start : ℕ → List Subproblem) (workers : ℕ) w
 
     pub rows_more : length more_rows ≡ length rows + 1
     rows_more = ap length one.in_rows ∙ length-push rows one.row
+
+    pub works_more : (rest : List Handed) → more_works ++ works_of rest ≡ works ++ works_of (done ∷ rest)
+    works_more rest =
+        ap (λ (l : List Worked). l ++ works_of rest) one.in_works
+        ∙ append_assoc works (one.work ∷ []) (works_of rest)
+        ∙ ap (λ (w : Worked). works ++ w ∷ works_of rest) one.are.heaps

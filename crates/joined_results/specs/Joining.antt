@@ -4,11 +4,14 @@ use Rattle.atomic_table.specs.Seated.{TableId}
 use Rattle.beacon.specs.Marks.{Seated}
 use Rattle.set_cover.specs.Instance.{Instance}
 use Rattle.proof_tree.specs.Piece.{Subproblem, root_of}
-use Rattle.proof_tree.specs.Opened.{IsSplit, Split}
+use Rattle.proof_tree.specs.Opened.{IsSplit, Split, kids_of}
 use Rattle.proof_tree.specs.Weights.{weigh}
 use Rattle.worker_results.specs.Naming.{numbers_from}
 use Rattle.worker_results.specs.Passes.{Owned}
+use Rattle.schedule_law.specs.Joined.{AreJoined}
+use Rattle.schedule_law.specs.Worked.{Worked}
 use Rattle.worker_results.specs.Results.{Handed}
+use Rattle.worker_results.specs.Shares.{work_of}
 
 -- a number for each item, added up
 abbrev pub total : {A : Type 0} → (A → ℕ) → List A → ℕ
@@ -18,6 +21,10 @@ total number (item ∷ items) = number item + total number items
 -- the workers that handed over
 abbrev pub workers_of : List Handed → List ℕ
 workers_of results = map (λ done. done.share.worker) results
+
+-- what each hands over, without seat and passes
+abbrev pub works_of : List Handed → List Worked
+works_of results = map (λ done. work_of done.share done.cover) results
 
 -- the workers whose deques they own
 abbrev pub numbers_of : List Owned → List ℕ
@@ -42,3 +49,8 @@ pub record IsFirstSeat (named : TableId) (size others : ℕ) (seat : Seated) : T
   pub first : seat.knows.first ≡ true
   pub told : seat.knows.told ≡ Some size
   pub out : seat.knows.out ≡ others
+
+-- where the kids of an opened root lay on the deques at the start, the works and what was left are joined results of it
+abbrev pub JoinUp : Instance → (ℕ → List Subproblem) → ℕ → List ℕ → List Worked → List Subproblem → Type 0
+JoinUp region start workers first works left = (root : Split) → IsRootSplit region root
+    → StartWith start workers (kids_of root) → AreJoined region first root.cell root.places works left

@@ -1,8 +1,6 @@
 //! Joining the results of all workers.
 ghost use Rattle.std.specs.Prelude.{◌≡◌, length, IfOk};
-ghost use Rattle.proof_tree.specs.Opened.{Split, kids_of};
-ghost use Rattle.schedule_law.specs.Joined.{AreJoined};
-ghost use Rattle.joined_results.specs.Joining.{AreOfAll, IsFirstSeat, IsRootSplit, StartWith};
+ghost use Rattle.joined_results.specs.Joining.{AreOfAll, IsFirstSeat, JoinUp, works_of};
 
 use crate::parting::{AllParts, part_all};
 use crate::taking::{drain_all, take_rows};
@@ -23,7 +21,7 @@ pub struct Joined {
 }
 
 /// Joins the seats and passes of all results, closes the beacon and empties the deques. No worker runs any more. The
-/// beacon was opened with the cover's size, and the caller opened the root.
+/// beacon was opened with the cover's size.
 pub fn close_up<B: Naming>(
     alloc: Global,
     beacon: Beacon,
@@ -31,14 +29,12 @@ pub fn close_up<B: Naming>(
     best: &Cover,
     results: Vec<Done<B>>,
 ) -> Result<Joined, OutOfMemory>
-    ghost root: { Split }
     requires beacon { beacon ≡ B.beacon }
     requires seat { IsFirstSeat B.beacon (length best.now.places) B.workers first }
     requires all { AreOfAll B.workers results.items }
-    requires root { IsRootSplit B.region root }
-    requires start { StartWith B.start B.workers (kids_of root) }
-    ensures { IfOk result (λ joined. AreJoined B.region best.now.places root.cell root.places
+    ensures joined { IfOk result (λ joined. JoinUp B.region B.start B.workers best.now.places
         joined.works.items joined.left.items) }
+    ensures works { IfOk result (λ joined. joined.works.items ≡ works_of results.items) }
 {
     let AllParts {
         first,

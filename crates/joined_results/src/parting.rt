@@ -1,7 +1,7 @@
 //! Results are taken apart, and their seats joined.
 ghost use Rattle.std.specs.Prelude.{◌≡◌, ◌++◌, length, true, IfOk};
 ghost use Rattle.beacon.specs.Marks.{together};
-ghost use Rattle.joined_results.specs.Joining.{numbers_of, workers_of};
+ghost use Rattle.joined_results.specs.Joining.{numbers_of, workers_of, works_of};
 ghost use Rattle.joined_results.specs.Apart.{AreApart, ArePartsOf, IsOneMore};
 
 use beacon::{Beacon, Seat};
@@ -33,6 +33,7 @@ pub(crate) fn part_all<B: Naming>(
         parts.owners.items parts.rows.items parts.works.items) }
     ensures numbers { IfOk result (λ parts. numbers_of parts.owners.items ≡ workers_of results.items) }
     ensures rows { IfOk result (λ parts. length parts.rows.items ≡ length results.items) }
+    ensures works { IfOk result (λ parts. parts.works.items ≡ works_of results.items) }
 {
     let mut parts = AllParts {
         first,

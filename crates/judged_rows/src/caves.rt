@@ -1,6 +1,6 @@
 //! The caves of the worked certificates.
 
-use crate::structure::{Block, Fill, Structure};
+use cave_files::{Block, Fill, Structure};
 
 const STONE: Block<'static> = Block {
     name: "minecraft:stone",

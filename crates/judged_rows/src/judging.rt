@@ -1,6 +1,6 @@
 //! Judging a certificate, and what is printed of it.
 
-use crate::structure::Structure;
+use cave_files::Structure;
 use cave_model::Rule;
 use proof_check::check;
 use std::alloc::{AllocError, Global};

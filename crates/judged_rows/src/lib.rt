@@ -18,6 +18,4 @@ mod proofs;
 #[cfg(test)]
 mod streams;
 #[cfg(test)]
-mod structure;
-#[cfg(test)]
 mod worked;

@@ -7,7 +7,7 @@ use crate::naming::Naming;
 use crate::own::Own;
 use crate::reaches::Reaches;
 use cave_regions::Cover;
-use proof_tree::{Closed, Opened, Piece};
+use proof_tree::{Closed, Name, Opened, Piece};
 use schedule_law::Work;
 use std::alloc::Global;
 use std::marker::Model;
@@ -63,8 +63,8 @@ impl<B: Naming> Share<B> {
     }
 
     /// The name of the piece that it took last, if it holds one.
-    pub fn last_name(&self) -> Option<&[u32]> {
-        Some(self.held.last()?.name().as_slice())
+    pub fn last_name(&self) -> Option<&Name> {
+        Some(self.held.last()?.name())
     }
 
     /// Its passes, and what it hands over with this cover.

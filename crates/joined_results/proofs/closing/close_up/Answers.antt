@@ -9,7 +9,7 @@ take_rows-requires-clause-out g c =
     let p = c.in_ok-first.ensures in
     let f = c.in_ok-first.field-0 in
     let workers = g.B.Naming.workers in
-    let long : length f.rows.items ≡ workers = p.rows ∙ results_long c.args.results.items workers c.requires.1.1.1.0 in
+    let long : length f.rows.items ≡ workers = p.rows ∙ results_long c.args.results.items workers c.requires.all in
     subst (λ n. AreOut n f.owners.items) (sym long) p.apart.passes_out
 
 pub close-requires : goal.close-requires
@@ -18,17 +18,17 @@ close-requires g c =
     let f = c.in_ok-first.field-0 in
     let r = c.requires in
     let workers = g.B.Naming.workers in
-    let long : length f.rows.items ≡ workers = p.rows ∙ results_long c.args.results.items workers r.1.1.1.0 in
+    let long : length f.rows.items ≡ workers = p.rows ∙ results_long c.args.results.items workers r.all in
     let out = p.apart.out in
-    let began = r.1.1.0.out in
-    (p.seat ∙ sym r.1.0, p.apart.first, omega arith)
+    let began = r.seat.out in
+    (p.seat ∙ sym r.beacon, p.apart.first, omega arith)
 
-pub returns : goal.returns
-returns g c =
+pub returns-clause-joined : goal.returns-clause-joined
+returns-clause-joined g c = λ root is_root start.
     let f = c.in_ok-first.field-0 in
     let w = c.close.ensures in
     let r = c.requires in
-    joined g.B.Naming.region g.B.Naming.start g.B.Naming.workers g.root c.close.result c.args.best.now.places
+    joined g.B.Naming.region g.B.Naming.start g.B.Naming.workers root c.close.result c.args.best.now.places
     c.args.first.knows f.first.knows f.owners.items c.take_rows.new.owners.items f.rows.items f.works.items
     c.in_ok-left.left.items c.in_ok-first.ensures.apart c.take_rows.ensures.sums c.in_ok-left.ensures
-    r.1.1.0.told w.told w.seen (c.in_ok-first.ensures.numbers ∙ r.1.1.1.0) r.1.1.1.1.0 r.1.1.1.1.1
+    r.seat.told w.told w.seen (c.in_ok-first.ensures.numbers ∙ r.all) is_root start

@@ -1,7 +1,7 @@
 use Rattle.std.proofs.Common.{◌++◌, List, length, sym, ap, ◌∙◌, arith}
 use Rattle.worker_results.specs.Results.{Handed}
-use Rattle.joined_results.specs.Joining.{numbers_of, workers_of}
-use Rattle.joined_results.proofs.PartLemmas.{apart_more, numbers_more, rows_more}
+use Rattle.joined_results.specs.Joining.{numbers_of, workers_of, works_of}
+use Rattle.joined_results.proofs.PartLemmas.{apart_more, numbers_more, rows_more, works_more}
 use Rattle.joined_results.proofs.parting.part_all.Goals as goal
 
 pub loop-done-preserved : goal.loop-done-preserved
@@ -18,4 +18,6 @@ loop-done-preserved g c =
       numbers = numbers_more _ _ _ _ _ _ _ _ _ _ one rest
           ∙ ap (λ (l : List Handed). numbers_of p.owners.items ++ workers_of l) (sym step) ∙ i.numbers;
       rows = (let a = rows_more _ _ _ _ _ _ _ _ _ _ one in let b = ap length step in let e = i.rows in omega arith);
+      works = works_more _ _ _ _ _ _ _ _ _ _ one rest
+          ∙ ap (λ (l : List Handed). p.works.items ++ works_of l) (sym step) ∙ i.works;
     }

@@ -1,5 +1,5 @@
 use Rattle.std.proofs.Common.{◌≡◌, ◌+◌, ◌++◌, length}
-use Rattle.joined_results.specs.Joining.{numbers_of, workers_of}
+use Rattle.joined_results.specs.Joining.{numbers_of, workers_of, works_of}
 use Rattle.joined_results.specs.Apart.{AreApart}
 use Rattle.joined_results.proofs.parting.part_all.Given as goal
 
@@ -11,4 +11,5 @@ invariant-loop-done g l = record {
   numbers : numbers_of l.parts.owners.items ++ workers_of l.done-iterator.rest.items
       ≡ workers_of l.initial.done-iterator.rest.items;
   rows : length l.parts.rows.items + length l.done-iterator.rest.items ≡ length l.initial.done-iterator.rest.items;
+  works : l.parts.works.items ++ works_of l.done-iterator.rest.items ≡ works_of l.initial.done-iterator.rest.items;
 }

@@ -1,0 +1,237 @@
+-- From joined results alone: how many pieces are closed, and by whom.
+use Rattle.std.proofs.Common.{◌≡◌, ◌≢◌, ◌⊎◌, inl, inr, ℕ, ◌+◌, ◌<◌, ◌≤◌, List, [], ◌∷◌, ◌++◌, length, All}
+use Rattle.std.proofs.Common.{refl, sym, ap, ◌∙◌, subst, arith, append_assoc}
+use Rattle.std.proofs.lemmas.Bool.{cases_eq}
+use Rattle.std.proofs.lemmas.List.Elements.{All-head, All-tail, All-cons, All-nil, All-append}
+use Rattle.set_cover.specs.Instance.{Instance}
+use Rattle.proof_tree.specs.Piece.{Subproblem, Fathomed, root_of}
+use Rattle.proof_tree.specs.Opened.{Split, kids_of}
+use Rattle.proof_tree.specs.Weights.{weigh}
+use Rattle.event_core.specs.State.{State, waiting, HasPart, Begins}
+use Rattle.event_core.specs.Plays.{Plays}
+use Rattle.event_core.specs.Events.{Does}
+use Rattle.event_core.specs.declared.event.Event.{Event}
+use Rattle.event_core.specs.declared.event.Event.TheVariants.{Open}
+use Rattle.event_core.proofs.NameLemmas.{same_or_not}
+use Rattle.event_core.proofs.StateLemmas.{not_none}
+use Rattle.schedule_law.specs.Worked.{Worked, IsWork, IsOpenedIn}
+use Rattle.schedule_law.specs.Joined.{AreJoined, root_split, all_kids, all_opened, all_closed, all_back, least_size}
+use Rattle.schedule_law.specs.Joined.{pieces_opened, pieces_closed}
+use Rattle.schedule_law.specs.Listing.{opens, offers, looks, closes, AllEnabled}
+use Rattle.schedule_law.proofs.PieceLemmas.{named, one_named, IsAmong, weigh-append, among_others, count_named_is}
+use Rattle.schedule_law.proofs.KidLemmas.{nil_all}
+use Rattle.schedule_law.proofs.LongLemmas.{all_as_long, all_as_long_are, all_in_long, IsOneOrTwo}
+use Rattle.schedule_law.proofs.LongLemmas.{pieces_by_length, kids_by_length, kids-append, pieces-append}
+use Rattle.schedule_law.proofs.LawLemmas.{law, single_name}
+use Rattle.schedule_law.proofs.TurnLemmas.{opened_keeps}
+use Rattle.gathering.specs.Playing.{tries, tries_before_closes}
+use Rattle.gathering.specs.Gathered.{Gathering, IsGathered}
+use Rattle.gathering.specs.Counted.{AreCounted}
+use Rattle.gathering.proofs.PlayLemmas.{plays_split}
+use Rattle.gathering.proofs.GleanLemmas.{step_done}
+use Rattle.gathering.proofs.WaitLemmas.{many, not_named, AreWaiting, same_waiting, all_gone_waiting, none_waiting}
+use Rattle.gathering.proofs.FollowLemmas.{all_opened-append, enabled_after, follow_tries, follow_all_closes}
+use Rattle.gathering.proofs.FollowLemmas.{same_offers, same_looks, gleans_gone}
+use Rattle.gathering.proofs.OpenedLemmas.{opened_waiting, opened_all}
+
+-- many is the length
+many_are : (ps : List Subproblem) → many ps ≡ length ps
+many_are [] = refl
+many_are (p ∷ ps) = omega (arith, many_are ps)
+
+-- as many pieces as were closed
+many_closed : (ks : List Fathomed) → many (pieces_closed ks) ≡ length ks
+many_closed [] = refl
+many_closed (k ∷ ks) = omega (arith, many_closed ks)
+
+-- ---- what workers opened
+
+-- a list with no element is empty
+nil_of : (x : List ℕ) → length x ≡ 0 → x ≡ []
+nil_of [] e = refl
+nil_of (x ∷ xs) e = absurd (omega arith)
+
+-- each piece that a worker opened is one of the region with a short name
+opened_in_all : (region : Instance) (least : ℕ) (works : List Worked) → All (IsWork region least) works
+    → All (IsOpenedIn region) (all_opened works)
+opened_in_all region least [] all = All-nil (IsOpenedIn region)
+opened_in_all region least (x ∷ xs) all = All-append (IsOpenedIn region) x.opened (all_opened xs)
+    (All-head (IsWork region least) x xs all).opened
+    (opened_in_all region least xs (All-tail (IsWork region least) x xs all))
+
+-- the numbers below three but zero
+one_or_two : (n : ℕ) → n ≢ 0 → n < 3 → (n ≡ 1) ⊎ (n ≡ 2)
+one_or_two n some few = elim (cases_eq n 1) [
+  | inl e ↦ inl e
+  | inr ne ↦ inr (omega arith)
+]
+
+-- short names are of one number or two where none is empty
+all_one_or_two : (region : Instance) (ss : List Split) → All (IsOpenedIn region) ss
+    → weigh (named []) (pieces_opened ss) ≡ 0 → All IsOneOrTwo ss
+all_one_or_two region [] all none = All-nil IsOneOrTwo
+all_one_or_two region (s ∷ ss) all none =
+    let named_so : s.piece.name ≢ [] = λ e. absurd (let one = one_named s.piece in
+    let same = ap (λ x. named x s.piece) e in omega arith) in
+    All-cons IsOneOrTwo s ss
+    (one_or_two (length s.piece.name) (λ e. named_so (nil_of s.piece.name e))
+    (All-head (IsOpenedIn region) s ss all).short)
+    (all_one_or_two region ss (All-tail (IsOpenedIn region) s ss all) (omega arith))
+
+module _ (region : Instance) (first : List ℕ) (cell : ℕ) (places : List ℕ) (works : List Worked)
+    (left : List Subproblem) (j : AreJoined region first cell places works left) where
+  abbrev root : Split
+  root = root_split region cell places
+
+  abbrev came : List Subproblem
+  came = all_kids (root ∷ all_opened works)
+
+  -- those with names of one number, then those with two
+  abbrev turns : List Split
+  turns = all_as_long 1 works ++ all_as_long 2 works
+
+  -- no name stands twice among the pieces that came to be
+  single : (x : List ℕ) → weigh (named x) came ≤ 1
+  single x =
+      let a = single_name region first cell places works left j x in
+      let b = count_named_is x came in
+      omega arith
+
+  -- all that workers opened is of the region
+  all_in_it : All (IsOpenedIn region) (all_opened works)
+  all_in_it = opened_in_all region (least_size (length first) works) works j.fit
+
+  -- its names are of one number or two, as no worker opened the root
+  ones_and_twos : All IsOneOrTwo (all_opened works)
+  ones_and_twos = all_one_or_two region (all_opened works) all_in_it
+      (let a = j.balance (named []) in let b = nil_all (root ∷ all_opened works) in omega arith)
+
+  -- so are those with names of each length
+  in_it : (n : ℕ) → All (IsOpenedIn region) (all_as_long n works)
+  in_it n = subst (All (IsOpenedIn region)) (sym (all_as_long_are n works))
+      (all_in_long (IsOpenedIn region) n (all_opened works) all_in_it)
+
+  -- so are all whose turn comes
+  turns_in_it : All (IsOpenedIn region) turns
+  turns_in_it = All-append (IsOpenedIn region) (all_as_long 1 works) (all_as_long 2 works) (in_it 1) (in_it 2)
+
+  -- those whose turn comes are all that workers opened
+  weigh_pieces : (h : Subproblem → ℕ) → weigh h (pieces_opened turns) ≡ weigh h (pieces_opened (all_opened works))
+  weigh_pieces h =
+      let one = all_as_long 1 works in
+      let two = all_as_long 2 works in
+      ap (weigh h) (pieces-append one two) ∙ weigh-append h (pieces_opened one) (pieces_opened two)
+      ∙ pieces_by_length h works ones_and_twos
+
+  -- their kids and the root's are all pieces that came to be
+  weigh_kids : (h : Subproblem → ℕ) → weigh h (kids_of root) + weigh h (all_kids turns) ≡ weigh h came
+  weigh_kids h =
+      let one = all_as_long 1 works in
+      let two = all_as_long 2 works in
+      let sum : weigh h (all_kids turns) ≡ weigh h (all_kids (all_opened works)) =
+      ap (weigh h) (kids-append one two) ∙ weigh-append h (all_kids one) (all_kids two)
+      ∙ kids_by_length h works ones_and_twos in
+      omega (arith, weigh-append h (kids_of root) (all_kids (all_opened works)))
+
+  -- each of them came to be
+  turns_came : (p : Subproblem) → IsAmong p (pieces_opened turns) → IsAmong p came
+  turns_came p at = among_others p (pieces_opened turns) came
+      (λ h. (let a = weigh_pieces h in let b = j.balance h in omega arith)) at
+
+  -- ---- the root
+
+  -- no name stands twice among the root and its kids
+  once_with_root : (x : List ℕ) → weigh (named x) ((root_of region ∷ []) ++ kids_of root) ≤ 1
+  once_with_root x =
+      let a = single x in
+      let b = weigh_kids (named x) in
+      elim (same_or_not x []) [
+        | inl e ↦ (let none : weigh (named x) came ≡ 0 =
+            ap (λ y. weigh (named y) came) e ∙ nil_all (root ∷ all_opened works) in
+            let one : named x (root_of region) ≡ 1 = ap (λ y. named y (root_of region)) e in
+            omega arith)
+        | inr ne ↦ (let none = not_named x (root_of region) ne in omega arith)
+      ]
+
+  module _ (start : State) (begins : Begins region first (length works + 1) start) where
+    -- at first the root waits alone
+    root_waits : AreWaiting start (root_of region ∷ [])
+    root_waits = record {
+      wait = λ p at. elim at [
+        | inl e ↦ subst (λ (q : Subproblem). HasPart start q.name q.chosen q.barred waiting) (sym e) begins.root
+        | inr none ↦ absurd none
+      ];
+      only = only_root;
+      once = λ x. (let a = once_with_root x in
+          let b = weigh-append (named x) (root_of region ∷ []) (kids_of root) in omega arith);
+    }
+      where
+        only_root : (name chosen barred : List ℕ) → HasPart start name chosen barred waiting
+            → 1 ≤ weigh (named name) (root_of region ∷ [])
+        only_root [] c b h = omega arith
+        only_root (n ∷ ns) c b h =
+            not_none (record { chosen = c; barred = b; status = waiting }) (sym (begins.alone n ns) ∙ h)
+
+    -- once the root is open, its kids wait
+    kids_wait : (next : State) → Does start (Open [] cell) next → AreWaiting next (kids_of root)
+    kids_wait next o = opened_waiting start start next root waiting (root_of region ∷ []) begins.root
+        (λ other ne. refl) begins.of_it j.root o root_waits once_with_root
+
+    -- ---- the whole play
+
+    -- the same events, grouped to the right
+    regroup : (a b c d e : List Event) → (((a ++ b) ++ c) ++ d) ++ e ≡ a ++ (b ++ (c ++ (d ++ e)))
+    regroup a b c d e = append_assoc ((a ++ b) ++ c) d e ∙ append_assoc (a ++ b) c (d ++ e)
+        ∙ append_assoc a b (c ++ (d ++ e))
+
+    -- once workers opened their pieces, so many wait, and each that they closed may be closed
+    record IsPlayed (state : State) : Type 0 where
+      pub now : List Subproblem
+      pub wait : AreWaiting state now
+      pub count : many now + many (pieces_opened (all_opened works)) ≡ many came
+      pub enabled : AllEnabled state (closes 0 works)
+
+    -- the play goes through every event of the list before all closing
+    played : (opened : State) → Plays start (tries_before_closes cell works) opened → IsPlayed opened
+    played opened p =
+        let one = tries 1 0 works in
+        let two = tries 2 0 works in
+        let looked = plays_split p.1 (one ++ two ++ offers 0 works) (looks 0 works) opened p.3 in
+        let offered = plays_split p.1 (one ++ two) (offers 0 works) looked.0 looked.1.0 in
+        let both = plays_split p.1 one two offered.0 offered.1.0 in
+        let e = law region first cell places works left j start begins in
+        let o = step_done start (Open [] cell) p.0 p.1 e.0 p.2 in
+        let e1 = subst (AllEnabled p.1)
+        (regroup (opens 1 0 works) (opens 2 0 works) (offers 0 works) (looks 0 works) (closes 0 works))
+        (e.1 p.1 o.1) in
+        let f = follow_tries 1 0 works _ p.1 both.0 e1 both.1.0 in
+        let g = follow_tries 2 0 works _ both.0 offered.0 f.enabled both.1.1 in
+        let e2 = enabled_after (offers 0 works) _ offered.0 looked.0 g.enabled offered.1.1 in
+        let e3 = enabled_after (looks 0 works) (closes 0 works) looked.0 opened e2 looked.1.1 in
+        let of = (opened_keeps start [] cell p.1 o.1).same_region ∙ begins.of_it in
+        let all = all_opened-append p.1 (all_as_long 1 works) (all_as_long 2 works) both.0 offered.0
+        f.opened_all g.opened_all in
+        let a = opened_all region came single turns p.1 offered.0 (kids_of root) of (kids_wait p.1 o.1) turns_in_it
+        turns_came (λ h. (let b = weigh_kids h in omega arith)) all in
+        let same = same_looks 0 works looked.0 opened looked.1.1 ∙ same_offers 0 works offered.0 looked.0 offered.1.1 in
+        record {
+          now = a.now;
+          wait = same_waiting offered.0 opened a.now same a.wait;
+          count = (let b = a.count in let c = weigh_pieces (λ q. 1) in let d = weigh_kids (λ q. 1) in omega arith);
+          enabled = e3;
+        }
+
+  -- at the end none waits, so that all that waited was closed by a worker or by the caller's thread
+  pub counted : (gathered : Gathering) → IsGathered region first cell works gathered → AreCounted works left gathered
+  counted gathered g =
+      let p = played g.start g.begins g.opened g.opens in
+      let ended = follow_all_closes 0 works g.opened gathered.closed_by g.closed p.enabled g.closes in
+      let one = all_gone_waiting (length (all_closed works)) g.opened g.closed p.now p.wait ended.are_gone in
+      let two = all_gone_waiting (length gathered.gleaned) g.closed g.final one.rest one.wait
+      (gleans_gone (length works) gathered.gleaned g.closed g.final g.gleans) in
+      let none = none_waiting g.final two.rest two.wait g.done in
+      record {
+        by_workers = ended.all;
+        by_caller = (let a = p.count in let b = one.count in let c = two.count in let d = j.balance (λ q. 1) in
+            omega (arith, many_closed (all_closed works), many_are (all_back works), many_are left));
+      }

@@ -1,0 +1,16 @@
+//! Laws over the definitions alone.
+ghost use Rattle.std.specs.Prelude.{ℕ, List};
+ghost use Rattle.set_cover.specs.Instance.{Instance};
+ghost use Rattle.proof_tree.specs.Piece.{Subproblem};
+ghost use Rattle.schedule_law.specs.Joined.{AreJoined};
+ghost use Rattle.schedule_law.specs.Worked.{Worked};
+ghost use Rattle.gathering.specs.Counted.{AreCounted};
+ghost use Rattle.gathering.specs.Gathered.{Gathering, IsGathered};
+
+/// Where the works are those of joined results, each piece that a worker closed counts as its own, and the caller's
+/// thread closed as many pieces as were handed back or left.
+pub fn all_are_counted()
+    ensures { (region : Instance) (first : List ℕ) (cell : ℕ) (places : List ℕ) (works : List Worked)
+        (left : List Subproblem) (gathered : Gathering) → AreJoined region first cell places works left
+        → IsGathered region first cell works gathered → AreCounted works left gathered }
+{}

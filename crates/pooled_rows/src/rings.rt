@@ -1,0 +1,95 @@
+//! Rings of 28 cells round an 8 x 8 square, two high.
+use block_rows::Rows;
+use cave_files::{Block, Fill, Structure};
+use cave_model::{Rule, build};
+use cave_regions::{Region, split, whole};
+use cover_rows::Problem;
+use scan_core::read_scan;
+use std::alloc::{AllocError, Global};
+use std::sync::Arc;
+use std::test::Fail;
+
+const TABLE: &[u8] = b"[[row]]\nname = \"cave:felt\"\nopacity = 15\nstand = true\n";
+
+fn block(name: &str) -> Block<'_> {
+    Block { name, props: &[] }
+}
+
+fn fill(from: [i32; 3], to: [i32; 3], state: i32) -> Fill {
+    Fill {
+        from,
+        to,
+        state: Some(state),
+    }
+}
+
+/// Two rings in felt, one behind the other. Three cells of each have stone below: these are its places.
+fn two_rings() -> [Fill; 11] {
+    [
+        fill([0, 0, 0], [9, 3, 19], 2),
+        fill([1, 1, 1], [8, 2, 8], 1),
+        fill([2, 1, 2], [7, 2, 7], 2),
+        fill([1, 1, 11], [8, 2, 18], 1),
+        fill([2, 1, 12], [7, 2, 17], 2),
+        fill([1, 0, 1], [1, 0, 1], 0),
+        fill([4, 0, 1], [4, 0, 1], 0),
+        fill([8, 0, 1], [8, 0, 1], 0),
+        fill([1, 0, 11], [1, 0, 11], 0),
+        fill([4, 0, 11], [4, 0, 11], 0),
+        fill([8, 0, 11], [8, 0, 11], 0),
+    ]
+}
+
+fn problem(alloc: Global, size: [i32; 3], fills: &[Fill]) -> Result<Problem, Fail> {
+    let structure = Structure {
+        size,
+        palette: &[
+            block("minecraft:stone"),
+            block("minecraft:air"),
+            block("cave:felt"),
+        ],
+        fills,
+        more: &[],
+    };
+    let scan = read_scan(alloc, &structure.bytes(alloc)?)?;
+    let rows = Rows::with_table(alloc, TABLE)?;
+    let world = build(alloc, &scan, &rows, Rule::new(2, 1))?;
+    Ok(Problem::new(alloc, &world)?)
+}
+
+/// The one region of all cells.
+fn region(alloc: Global, size: [i32; 3], fills: &[Fill]) -> Result<Arc<Region>, Fail> {
+    match whole(alloc, &problem(alloc, size, fills)?)? {
+        Some(region) => Ok(Arc::new(alloc, region)?),
+        None => Err(AllocError.into()),
+    }
+}
+
+/// One torch lights it all.
+pub(crate) fn corridor(alloc: Global) -> Result<Arc<Region>, Fail> {
+    let corridor = [
+        fill([0, 0, 0], [28, 3, 2], 0),
+        fill([1, 1, 1], [27, 2, 1], 1),
+    ];
+    region(alloc, [29, 4, 3], &corridor)
+}
+
+/// Torches may hang all about it: each cell is lit by 52 places, and two places are fewest.
+pub(crate) fn stone_ring(alloc: Global) -> Result<Arc<Region>, Fail> {
+    let ring = [
+        fill([0, 0, 0], [9, 3, 9], 0),
+        fill([1, 1, 1], [8, 2, 8], 1),
+        fill([2, 1, 2], [7, 2, 7], 0),
+    ];
+    region(alloc, [10, 4, 10], &ring)
+}
+
+/// Both rings as one region of 56 cells.
+pub(crate) fn both_rings(alloc: Global) -> Result<Arc<Region>, Fail> {
+    region(alloc, [10, 4, 20], &two_rings())
+}
+
+/// Each of the two rings.
+pub(crate) fn each_ring(alloc: Global) -> Result<Vec<Region>, Fail> {
+    Ok(split(alloc, &problem(alloc, [10, 4, 20], &two_rings())?)?)
+}

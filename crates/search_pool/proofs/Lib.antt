@@ -1,0 +1,4 @@
+pub mod CrewLemmas
+pub mod ReportLemmas
+pub mod SlotLemmas
+pub mod StartLemmas

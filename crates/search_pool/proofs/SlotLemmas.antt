@@ -1,0 +1,73 @@
+-- The ends of deques, after a pass at each was handed out.
+use Rattle.std.proofs.Common.{◌≡◌, ℕ, zero, suc, ◌+◌, List, [], ◌∷◌, ◌++◌, length, All, refl, sym, ap, ◌∙◌, append_assoc, arith}
+use Rattle.std.specs.Prelude.{map}
+use Rattle.std.proofs.lemmas.List.Elements.{All-head, All-tail, All-cons, All-push}
+use Rattle.worker_results.specs.Naming.{numbers_from}
+use Rattle.worker_results.specs.Results.{Handed}
+use Rattle.joined_results.specs.Joining.{workers_of}
+use Rattle.search_pool.specs.Rows.{AreFrom}
+use Rattle.search_pool.specs.Deques.{AreStocked, HasPushed}
+use Rattle.proof_tree.specs.Piece.{Subproblem}
+use Rattle.piece_deque.specs.Deals.{one_more_out}
+use Rattle.worker_results.specs.Passes.{Owned, deques, all_taken}
+use Rattle.search_pool.specs.Slots.{IsReady, Owner, handed_out, numbers_of, pass_at, ready}
+
+-- the workers stay who they are
+pub numbers_out : (owned : List Owned) → numbers_of (map handed_out owned) ≡ numbers_of owned
+numbers_out [] = refl
+numbers_out (own ∷ owned) = ap (own.worker ∷◌) (numbers_out owned)
+
+-- the passes are at their deques
+pub deques_out : (owned : List Owned) → deques (map pass_at owned) ≡ numbers_of owned
+deques_out [] = refl
+deques_out (own ∷ owned) = ap (own.worker ∷◌) (deques_out owned)
+
+-- and took nothing
+pub none_taken : (owned : List Owned) → all_taken (map pass_at owned) ≡ []
+none_taken [] = refl
+none_taken (own ∷ owned) = none_taken owned
+
+-- one pass more is out at each deque
+pub one_more : (start : ℕ → List Subproblem) (out : ℕ) (owned : List Owned) → All (IsReady start out) owned
+    → All (IsReady start (out + 1)) (map handed_out owned)
+one_more start out [] all = λ k d lt. absurd (omega (arith, lt))
+one_more start out (own ∷ owned) all =
+    All-cons (IsReady start (out + 1)) (handed_out own) (map handed_out owned)
+    (ap one_more_out (All-head (IsReady start out) own owned all))
+    (one_more start out owned (All-tail (IsReady start out) own owned all))
+
+pub length-push : {A : Type 0} (xs : List A) (x : A) → length (xs ++ x ∷ []) ≡ length xs + 1
+length-push [] x = omega arith
+length-push (y ∷ ys) x = omega (arith, length-push ys x)
+
+-- a deque more, on which nothing lies
+pub stocked_push : (pieces : List Subproblem) (owners : List Owner) (owner : Owner) → AreStocked pieces owners
+    → HasPushed [] owner → AreStocked pieces (owners ++ owner ∷ [])
+stocked_push pieces [] owner stocked new = absurd stocked
+stocked_push pieces (first ∷ owners) owner stocked new =
+    (stocked.0, All-push (HasPushed []) owners owner stocked.1 new)
+
+-- one worker more
+pub numbers_push : (owned : List Owned) (own : Owned) → numbers_of (owned ++ own ∷ []) ≡ numbers_of owned ++ own.worker ∷ []
+numbers_push [] own = refl
+numbers_push (one ∷ owned) own = ap (one.worker ∷◌) (numbers_push owned own)
+
+length-numbers : (first count : ℕ) → length (numbers_from first count) ≡ count
+length-numbers first zero = refl
+length-numbers first (suc count) = omega (arith, length-numbers (first + 1) count)
+
+pub length-map : {A B : Type 0} (f : A → B) (xs : List A) → length (map f xs) ≡ length xs
+length-map f [] = refl
+length-map f (x ∷ xs) = omega (arith, length-map f xs)
+
+-- numbers in a row are as many as the ends
+pub owned_long : (owned : List Owned) (count : ℕ) → numbers_of owned ≡ numbers_from 0 count → length owned ≡ count
+owned_long owned count same =
+    sym (length-map (λ (own : Owned). own.worker) owned) ∙ ap length same ∙ length-numbers 0 count
+
+-- results in a row are of the workers in order
+pub in_a_row : (first : ℕ) (results : List Handed) → AreFrom first results
+    → workers_of results ≡ numbers_from first (length results)
+in_a_row first [] row = refl
+in_a_row first (result ∷ results) row =
+    ap (λ (n : ℕ). n ∷ workers_of results) row.0 ∙ ap (first ∷◌) (in_a_row (first + 1) results row.1)

@@ -1,0 +1,82 @@
+use Rattle.std.proofs.Common.{◌≡◌, ℕ, ◌+◌, List, length, refl, sym, ap, ◌∙◌, subst, arith}
+use Rattle.std.specs.Arc.{arc_value}
+use Rattle.cave_regions.specs.Cover.{Covering}
+use Rattle.proof_rules.specs.Tree.{Tree}
+use Rattle.proof_tree.specs.Shape.{tree_of}
+use Rattle.gathering.specs.Gathered.{Gathering, IsGathered}
+use Rattle.schedule_law.specs.Worked.{Worked}
+use Rattle.search_pool.specs.Reports.{sum_of}
+use Rattle.search_pool.specs.Tallies.{AreCounted}
+use Rattle.search_pool.proofs.ReportLemmas.{all_by_workers, all_came, all_gleaned, counted_at}
+use Rattle.search_pool.proofs.merging.merged.Goals as goal
+
+pub report-requires-clause-gleaned : goal.report-requires-clause-gleaned
+report-requires-clause-gleaned c =
+    let works = c.args.ran.joined.works.items in
+    let left = c.args.ran.joined.left.items in
+    let all = counted_at (arc_value c.args.region.now) c.args.first.places c.args.root.now works left
+    c.requires.run.joined c.cell.result _ c.cell.ensures c.in-Ok.ensures.gathered in
+    let tally = c.counted-counts.result in
+    let told = subst (λ (l : List Worked). AreCounted l tally) c.deref.ensures.value c.counted-counts.ensures.counted in
+    let gleaned = all_gleaned works left _ tally all told in
+    let long = c.len-left.ensures in
+    omega (arith, gleaned, long)
+
+pub returns-in-Ok-clause-counts : goal.returns-in-Ok-clause-counts
+returns-in-Ok-clause-counts c =
+    let works = c.args.ran.joined.works.items in
+    let left = c.args.ran.joined.left.items in
+    let tally = c.counted-counts.result in
+    let told = subst (λ (l : List Worked). AreCounted l tally) c.deref.ensures.value c.counted-counts.ensures.counted in
+    let all = counted_at (arc_value c.args.region.now) c.args.first.places c.args.root.now works left
+    c.requires.run.joined c.cell.result _ c.cell.ensures c.in-Ok.ensures.gathered in
+    let gleaned = all_gleaned works left _ tally all told in
+    let closed = ap sum_of c.report.ensures.same.2 ∙ all_by_workers works left _ tally all told in
+    let r = c.report.ensures in
+    let long = c.len-left.ensures in
+    let a = r.pushed in let b = r.numbers.0 in let d = r.numbers.1 in let e = r.numbers.2 in let f = r.gleaned in
+    record {
+      whole = omega (arith, gleaned, closed, long, a, b, d, e, f);
+      gleaned_few = omega (arith, gleaned, closed, long, a, b, d, e, f);
+    }
+
+pub returns-in-Ok-clause-report : goal.returns-in-Ok-clause-report
+returns-in-Ok-clause-report c =
+    let region = arc_value c.args.region.now in
+    let works = c.args.ran.joined.works.items in
+    let left = c.args.ran.joined.left.items in
+    let root = c.args.root.now in
+    let tally = c.counted-counts.result in
+    let told = subst (λ (l : List Worked). AreCounted l tally) c.deref.ensures.value c.counted-counts.ensures.counted in
+    let run = c.requires.run in
+    let gathered = c.in-Ok.gathered in
+    let came = all_came region c.args.first.places root works left run.joined tally c.requires.root told in
+    let r = c.report.ensures in
+    let long = c.len-left.ensures in
+    let a = r.pushed in let b = r.numbers.0 in let d = r.numbers.1 in let e = r.numbers.2 in let f = r.gleaned in
+    let t0 = told.opened in let t1 = told.back in let t2 = told.refused in
+    record {
+      first = c.args.first;
+      covers = c.requires.first;
+      root = root;
+      is_root = c.requires.root;
+      works = works;
+      left = left;
+      run = run;
+      names = gathered.gleaned.items;
+      gathered = subst (λ (x : ℕ × (Covering × (Tree × List ℕ))).
+          IsGathered region c.args.first.places x.0 works (record {
+            cover = x.1.0;
+            tree = x.1.1.0;
+            closed_by = x.1.1.1;
+            gleaned = gathered.gleaned.items;
+          }))
+          (λ i. (c.cell.ensures i, (sym r.same.0 i, (sym r.same.1 i, sym r.same.2 i)))) c.in-Ok.ensures.gathered;
+      numbers = record {
+        pushed = omega (arith, came, a, long, t2);
+        opened = b ∙ t0;
+        handed_back = d ∙ t1;
+        left_over = omega (arith, e, long);
+        gleaned = omega (arith, f, t2);
+      };
+    }

@@ -1,0 +1,12 @@
+-- public clauses cite
+pub mod Crew
+pub mod Reports
+pub mod Runs
+pub mod Tallies
+-- private
+pub mod Deques
+pub mod Rows
+pub mod Seats
+pub mod Slots
+pub mod Turns
+pub mod Unruns

@@ -1,0 +1,41 @@
+-- What the workers' slots are filled with. This is this project's own.
+use Rattle.std.specs.Prelude.{◌≡◌, ℕ, ◌+◌, true, false, List, [], ◌∷◌, All, map}
+use Rattle.std.specs.declared.alloc.Global.{Global}
+use Rattle.crossbeam_deque.specs.Handles.{worker_deque, worker_flavor, worker_view}
+use Rattle.crossbeam_deque.specs.declared.handles.Worker.{Worker}
+use Rattle.proof_tree.specs.Piece.{Subproblem}
+use Rattle.piece_deque.specs.declared.rule.EachOnce.{EachOnce}
+use Rattle.piece_deque.specs.declared.dealt.Dealt.{Dealt}
+use Rattle.piece_deque.specs.Deals.{thief_pass, one_more_out}
+use Rattle.worker_results.specs.Naming.{DequeId}
+use Rattle.worker_results.specs.Passes.{Owned, Reached}
+
+abbrev pub Owner : Type 0
+Owner = Worker Subproblem Global Dealt EachOnce
+
+-- the owner's pass when these pieces were pushed, none was taken and so many passes are out
+abbrev pub ready : List Subproblem → ℕ → Dealt
+ready pushed out = record { first = true; spent = false; out = out; pushed = pushed; taken = [] }
+
+-- the ends of the deques from this number on, first in, first out, with the pieces that lie there at the start
+abbrev pub AreOwners : (ℕ → DequeId) → (ℕ → List Subproblem) → ℕ → List Owner → Type 0
+AreOwners deque start first [] = Unit {0}
+AreOwners deque start first (owner ∷ owners) =
+    (worker_deque owner ≡ deque first) × (worker_flavor owner ≡ 0) × (worker_view owner ≡ ready (start first) 0)
+    × AreOwners deque start (first + 1) owners
+
+-- the workers' numbers
+abbrev pub numbers_of : List Owned → List ℕ
+numbers_of owned = map (λ own. own.worker) owned
+
+-- so many passes at its deque are out, and else all is as at the start
+abbrev pub IsReady : (ℕ → List Subproblem) → ℕ → Owned → Type 0
+IsReady start out own = own.knows ≡ ready (start own.worker) out
+
+-- a pass at its deque was handed out
+abbrev pub handed_out : Owned → Owned
+handed_out own = record { worker = own.worker; knows = one_more_out own.knows }
+
+-- the pass that was handed out
+abbrev pub pass_at : Owned → Reached
+pass_at own = record { deque = own.worker; knows = thief_pass }

@@ -1,0 +1,17 @@
+-- How many pieces workers handed over. This is this project's own.
+use Rattle.std.specs.Prelude.{◌≡◌, ℕ, ◌+◌, List, length, flat_map}
+use Rattle.proof_tree.specs.Piece.{Subproblem}
+use Rattle.schedule_law.specs.Worked.{Worked}
+use Rattle.schedule_law.specs.Joined.{all_back, all_closed, all_opened}
+use Rattle.search_pool.specs.declared.tally.Tally.{Tally}
+
+-- the kids whose push was refused
+abbrev pub all_refused : List Worked → List Subproblem
+all_refused works = flat_map (λ work. work.refused) works
+
+-- each number is that of such pieces
+pub record AreCounted (works : List Worked) (tally : Tally) : Type 0 where
+  pub closed : tally.closed ≡ length (all_closed works)
+  pub opened : tally.opened ≡ length (all_opened works)
+  pub back : tally.held + tally.refused ≡ length (all_back works)
+  pub refused : tally.refused ≡ length (all_refused works)

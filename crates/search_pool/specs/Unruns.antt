@@ -1,0 +1,9 @@
+-- The fault of a plan where workers didn't run. This is this project's own.
+use Rattle.gathering.specs.declared.fault.PoolFault.{PoolFault}
+use Rattle.gathering.specs.declared.fault.PoolFault.TheVariants as pool
+use Rattle.search_pool.specs.declared.unrun.Unrun.{Unrun}
+use Rattle.search_pool.specs.declared.unrun.Unrun.TheVariants.{NoThread, OutOfMemory}
+
+abbrev pub fault_of : Unrun → PoolFault
+fault_of NoThread = pool.NoThread
+fault_of OutOfMemory = pool.OutOfMemory

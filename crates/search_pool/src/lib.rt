@@ -1,0 +1,24 @@
+//! A region planned by many workers: each has a deque of pieces, and all share the size of the best cover.
+#![tactic(auto)]
+
+mod deques;
+mod ended;
+mod gate;
+mod merging;
+mod planning;
+mod pool;
+mod report;
+mod run;
+mod separating;
+mod slots;
+mod starting;
+mod stock;
+mod tally;
+mod unrun;
+mod worker;
+mod workers;
+
+pub use gate::{Gate, Open};
+pub use planning::plan_with;
+pub use report::Report;
+pub use workers::Workers;

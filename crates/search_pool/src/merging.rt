@@ -1,0 +1,126 @@
+//! What the results of workers merge to, with the caller's own work.
+ghost use Rattle.std.specs.Prelude.{◌≡◌, ◌≤◌, ◌<◌, ◌+◌, ◌^◌, IfErr, IfOk, IfSome, length};
+ghost use Rattle.std.specs.Arc.{arc_value};
+ghost use Rattle.joined_results.specs.Joining.{IsRootSplit};
+ghost use Rattle.proof_tree.specs.Shape.{tree_of};
+ghost use Rattle.schedule_law.specs.Worked.{IsCoverFor};
+ghost use Rattle.search_core.specs.Planned.{IsBest, IsFloor};
+ghost use Rattle.search_pool.specs.Reports.{AddsUp, IsMerged, StopsPool};
+ghost use Rattle.search_pool.specs.Runs.{IsRun};
+ghost use Rattle.search_pool.specs.Turns.{AreLeft};
+
+use crate::pool::Ran;
+use crate::report::Report;
+use crate::tally::{Tally, counted};
+use crate::workers::Workers;
+use cave_regions::{Cover, Region};
+use gathering::{Gathered, PoolFault, gather};
+use joined_results::Joined;
+use proof_tree::Opened;
+use std::alloc::Global;
+use std::sync::Arc;
+
+/// Gathers what workers did, and closes what they left with the turns that are left. Where a share was used up, none
+/// are.
+pub(crate) fn merged(
+    alloc: Global,
+    region: &Arc<Region>,
+    first: Cover,
+    floor: u64,
+    root: &Opened,
+    workers: Workers,
+    ran: Ran,
+    turns: Option<u64>,
+) -> Result<Report, PoolFault>
+    requires first { IsCoverFor (arc_value region.now) first }
+    requires floor { IsFloor (arc_value region.now) floor }
+    requires root { IsRootSplit (arc_value region.now) root.now }
+    requires run { IsRun (arc_value region.now) first.places root.now workers.number
+        ran.joined.works.items ran.joined.left.items }
+    ensures best { IfOk result (λ report. IsBest (arc_value region.now) report.cover (tree_of report.proof)) }
+    ensures counts { IfOk result AddsUp }
+    ensures report { IfOk result (IsMerged (arc_value region.now) workers.number) }
+    ensures granted { IfOk result (λ report. IfSome turns (λ limit. report.turns ≤ limit)) }
+    ensures stopped { IfErr result (StopsPool (arc_value region.now) turns) }
+{
+    let Ran {
+        joined,
+        turns: taken,
+        spent,
+    } = ran;
+    let Joined { works, left } = joined;
+    let counts = counted(&works);
+    let left = left.len() as u128;
+    let granted = within(turns, taken);
+    let rest = left_of(turns, granted, spent);
+    match gather(alloc, region, first, root.cell(), works, rest) {
+        Ok(gathered) => Ok(report(gathered, counts, left, granted)),
+        Err(
+            PoolFault::Stopped {
+                cover,
+                floor: least,
+                turns: more,
+            },
+        ) => Err(PoolFault::Stopped {
+            cover,
+            floor: floor.max(least),
+            turns: sum(granted, more),
+        }),
+        Err(fault) => Err(fault),
+    }
+}
+
+/// The turns granted, at most as many as the limit.
+fn within(turns: Option<u64>, granted: u64) -> u64
+    ensures { IfSome turns (λ limit. result ≤ limit) }
+{
+    match turns {
+        Some(limit) if limit < granted => limit,
+        _ => granted,
+    }
+}
+
+/// The turns that are left where so many were granted, none where a share was used up.
+fn left_of(turns: Option<u64>, granted: u64, spent: bool) -> Option<u64>
+    requires { IfSome turns (λ limit. granted ≤ limit) }
+    ensures { AreLeft turns granted result }
+{
+    match turns {
+        None => None,
+        Some(_) if spent => Some(0),
+        Some(limit) => Some(limit - granted),
+    }
+}
+
+/// The turns of both, or the greatest number.
+fn sum(granted: u64, more: u64) -> u64
+    ensures { result ≤ granted + more }
+{
+    granted.saturating_add(more)
+}
+
+/// What was gathered, with what workers handed over.
+fn report(gathered: Gathered, counts: Tally, left: u128, granted: u64) -> Report
+    requires few { (counts.closed ≤ 2 ^ 70) × (counts.opened ≤ 2 ^ 70) × (counts.held ≤ 2 ^ 70)
+        × (counts.refused ≤ 2 ^ 70) × (left < 2 ^ 64) }
+    requires gleaned { length gathered.gleaned.items ≡ counts.held + counts.refused + left }
+    ensures same { (result.cover ≡ gathered.cover) × (tree_of result.proof ≡ tree_of gathered.proof)
+        × (result.closed_by.items ≡ gathered.closed_by.items) }
+    ensures pushed { result.pushed ≡ counts.closed + counts.opened + counts.held + left }
+    ensures numbers { (result.opened ≡ counts.opened) × (result.handed_back ≡ counts.held + counts.refused)
+        × (result.left ≡ left) }
+    ensures gleaned { result.gleaned + counts.refused ≡ length gathered.gleaned.items }
+    ensures turns { result.turns ≤ granted + gathered.turns }
+{
+    Report {
+        gleaned: gathered.gleaned.len() as u128 - counts.refused,
+        cover: gathered.cover,
+        proof: gathered.proof,
+        turns: sum(granted, gathered.turns),
+        handed_back: counts.held + counts.refused,
+        left,
+        pushed: counts.closed + counts.opened + counts.held + left,
+        opened: counts.opened,
+        closed_by: gathered.closed_by,
+    }
+}

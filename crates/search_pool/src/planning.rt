@@ -1,0 +1,101 @@
+//! Planning a region with many workers.
+ghost use Rattle.std.specs.Prelude.{◌≡◌, ◌≤◌, Contains, IfErr, IfOk, IfSome, length, replicate};
+ghost use Rattle.std.specs.Arc.{arc_value};
+ghost use Rattle.joined_results.specs.Joining.{IsRootSplit};
+ghost use Rattle.proof_tree.specs.Shape.{tree_of};
+ghost use Rattle.search_core.specs.Planned.{IsBest, ProvesAt};
+ghost use Rattle.search_pool.specs.Reports.{AddsUp, IsOneLeaf, IsReport, StopsPool};
+
+use crate::gate::Gate;
+use crate::merging::merged;
+use crate::report::Report;
+use crate::starting::run;
+use crate::workers::Workers;
+use cave_regions::Region;
+use gathering::PoolFault;
+use proof_tree::{Opened, Piece};
+use scan_core::Cell;
+use search_core::{Beginning, begin};
+use std::alloc::{AllocError, Global};
+use std::sync::{Arc, Wait};
+use std::thread::Threads;
+
+/// The fewest places that light every cell of the region, and a tree that proves it, by so many workers. Where one leaf
+/// closes the root no worker starts. One turn is one node worked on, or one piece opened; each worker has the same
+/// share of the turns, and where one share is used up the search stops.
+pub fn plan_with<R: Threads + Wait + Sync, G: Gate>(
+    rt: &R,
+    alloc: Global,
+    region: &Arc<Region>,
+    workers: Workers,
+    gate: &G,
+    turns: Option<u64>,
+) -> Result<Report, PoolFault>
+    ensures best { IfOk result (λ report. IsBest (arc_value region.now) report.cover (tree_of report.proof)) }
+    ensures counts { IfOk result AddsUp }
+    ensures report { IfOk result (IsReport (arc_value region.now) workers.number) }
+    ensures granted { IfOk result (λ report. IfSome turns (λ limit. report.turns ≤ limit)) }
+    ensures stopped { IfErr result (StopsPool (arc_value region.now) turns) }
+{
+    let begun = begin(alloc, region)?;
+    if begun.floor >= begun.cover.size() {
+        let report = one_leaf(alloc, begun, workers)?;
+        return Ok(report);
+    }
+    let root = root_on(alloc, region, begun.cell)?;
+    let ran = run(rt, alloc, region, &begun.cover, &root, workers, gate, turns)?;
+    merged(
+        alloc,
+        region,
+        begun.cover,
+        begun.floor,
+        &root,
+        workers,
+        ran,
+        turns,
+    )
+}
+
+/// The report where one leaf closes the root.
+fn one_leaf(alloc: Global, begun: Beginning, workers: Workers) -> Result<Report, AllocError>
+    requires enough { length begun.cover.places ≤ begun.floor }
+    requires leaf { ProvesAt begun.cover.region begun.floor (tree_of begun.leaf) }
+    ensures best { IfOk result (λ report. IsBest begun.cover.region report.cover (tree_of report.proof)) }
+    ensures counts { IfOk result AddsUp }
+    ensures leaf { IfOk result (IsOneLeaf workers.number) }
+{
+    Ok(Report {
+        cover: begun.cover,
+        proof: begun.leaf,
+        turns: 0,
+        handed_back: 0,
+        left: 0,
+        gleaned: 0,
+        pushed: 0,
+        opened: 0,
+        closed_by: zeros(alloc, workers.number)?,
+    })
+}
+
+/// So many zeros.
+fn zeros(alloc: Global, count: u32) -> Result<Vec<u64>, AllocError>
+    ensures { IfOk result (λ zeros. zeros.items ≡ replicate count 0) }
+{
+    let mut zeros = Vec::new(alloc);
+    for number in 0..count {
+        zeros.push(0)?;
+    }
+    Ok(zeros)
+}
+
+/// The root opened on this cell.
+fn root_on(alloc: Global, region: &Arc<Region>, cell: Cell) -> Result<Opened, AllocError>
+    requires { Contains (arc_value region.now).cells cell }
+    ensures { IfOk result (IsRootSplit (arc_value region.now)) }
+{
+    let piece = Piece::root(alloc, region)?;
+    match piece.places_on(alloc, cell)? {
+        Some(places) => Ok(Opened::new(piece, cell, places)),
+        None => unreachable!(),
+    }
+}

@@ -1,0 +1,39 @@
+//! The deques of all workers with the root's kids on the first one, and their thieves.
+ghost use Rattle.std.specs.Prelude.{◌≡◌, IfOk, length};
+ghost use Rattle.joined_results.specs.Joining.{StartWith};
+ghost use Rattle.proof_tree.specs.Opened.{kids_of};
+ghost use Rattle.search_pool.specs.Deques.{deque_at, pushed_at};
+ghost use Rattle.search_pool.specs.Slots.{AreOwners};
+ghost use Rattle.worker_results.specs.Naming.{AreThieves};
+
+use crate::deques::{stocked_all, thieves_of};
+use crate::workers::Workers;
+use piece_deque::{Owner, Thief};
+use proof_tree::Opened;
+use std::alloc::{AllocError, Global};
+
+/// How many pieces a worker's deque has room for, unless the root has more kids. What it has no room for is kept back,
+/// and the caller closes it.
+const ROOM: usize = 4096;
+
+/// A deque for each worker, and a thief for each deque.
+#[derive(Drop)]
+pub(crate) struct Stock {
+    pub(crate) owners: Vec<Owner>,
+    pub(crate) thieves: Vec<Thief>,
+}
+
+/// The root's kids lie on the first deque, and none on the others.
+pub(crate) fn stock_for(alloc: Global, root: &Opened, workers: Workers) -> Result<Stock, AllocError>
+    ensures each { IfOk result (λ stock. length stock.owners.items ≡ workers.number) }
+    ensures owners { IfOk result (λ stock.
+        AreOwners (deque_at stock.owners.items) (pushed_at stock.owners.items) 0 stock.owners.items) }
+    ensures thieves { IfOk result (λ stock. AreThieves (deque_at stock.owners.items) 0 stock.thieves.items) }
+    ensures start { IfOk result (λ stock.
+        StartWith (pushed_at stock.owners.items) workers.number (kids_of root.now)) }
+{
+    let kids = root.kids(alloc)?;
+    let owners = stocked_all(alloc, workers.number, ROOM, kids)?;
+    let thieves = thieves_of(alloc, &owners)?;
+    Ok(Stock { owners, thieves })
+}

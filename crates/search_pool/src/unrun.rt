@@ -1,0 +1,44 @@
+//! Why workers didn't run.
+ghost use Rattle.std.specs.Prelude.{◌≡◌};
+ghost use Rattle.search_pool.specs.declared.unrun.Unrun.TheVariants.{OutOfMemory};
+
+use gathering::PoolFault;
+use std::alloc::{AllocError, AllocFailed};
+
+/// Why workers didn't run.
+#[derive(Clone, Copy, Debug, PartialEq, Eq)]
+pub(crate) enum Unrun {
+    /// None could be started, or a slot was found wrong.
+    NoThread,
+    OutOfMemory,
+}
+
+impl From<AllocError> for Unrun {
+    ghost from_gives = { λ _ e. e ≡ OutOfMemory };
+
+    fn from(_e: AllocError) -> Unrun {
+        Unrun::OutOfMemory
+    }
+}
+
+impl<T: Drop> From<AllocFailed<T>> for Unrun {
+    ghost from_gives = { λ _ e. e ≡ OutOfMemory };
+
+    fn from(_e: AllocFailed<T>) -> Unrun {
+        Unrun::OutOfMemory
+    }
+}
+
+impl From<Unrun> for PoolFault {
+    ghost use Rattle.std.specs.Prelude.{◌≡◌};
+    ghost use Rattle.search_pool.specs.Unruns.{fault_of};
+
+    ghost from_gives = { λ unrun fault. fault ≡ fault_of unrun };
+
+    fn from(unrun: Unrun) -> PoolFault {
+        match unrun {
+            Unrun::NoThread => PoolFault::NoThread,
+            Unrun::OutOfMemory => PoolFault::OutOfMemory,
+        }
+    }
+}

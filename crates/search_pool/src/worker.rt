@@ -1,0 +1,103 @@
+//! One worker.
+ghost use Rattle.std.specs.Prelude.{◌≡◌, ◌<◌, IfSome, length};
+ghost use Rattle.std.specs.Arc.{arc_value};
+ghost use Rattle.worker_results.specs.Naming.{AreThieves};
+
+use crate::ended::Ended;
+use crate::gate::Gate;
+use beacon::Beacon;
+use cave_regions::Region;
+use piece_deque::Thief;
+use std::alloc::Global;
+use std::sync::{Arc, Mutex, Wait};
+use worker_results::{Berth, Done, Naming, PoolDesk, Share, Step, Tried};
+
+/// How often a worker tries to steal from a deque where other threads are first.
+const TRIES: u32 = 1000;
+
+/// Where a worker's seat and passes wait for it.
+pub(crate) type Slot<B> = Mutex<Option<Berth<B>>>;
+
+/// What all workers share.
+#[derive(Clone, Copy)]
+pub(crate) struct Shared<'e> {
+    pub(crate) beacon: &'e Beacon,
+    pub(crate) region: &'e Arc<Region>,
+    pub(crate) thieves: &'e [Thief],
+}
+
+/// Takes a piece of its own deque, or else of the others in order.
+fn next<B: Naming>(share: &mut Share<B>, thieves: &[Thief]) -> bool
+    requires { AreThieves B.deque 0 thieves.now }
+    ensures worker { share.new.worker ≡ share.old.worker }
+    ensures closed { share.new.closed ≡ share.old.closed }
+{
+    if let Tried::Got = share.take() {
+        return true;
+    }
+    for deque in 0..thieves.len() {
+        if steal_from(share, thieves, deque) {
+            return true;
+        }
+    }
+    false
+}
+
+/// Steals a piece, with so many tries where other threads are first.
+fn steal_from<B: Naming>(share: &mut Share<B>, thieves: &[Thief], deque: usize) -> bool
+    requires thieves { AreThieves B.deque 0 thieves.now }
+    requires number { deque < length thieves.now }
+    ensures worker { share.new.worker ≡ share.old.worker }
+    ensures closed { share.new.closed ≡ share.old.closed }
+{
+    for _ in 0..TRIES {
+        match share.steal(thieves, deque) {
+            Tried::Got => return true,
+            Tried::Again => {}
+            Tried::Empty => return false,
+            Tried::OutOfMemory => return false,
+        }
+    }
+    false
+}
+
+/// Takes its seat and passes from the slot, and works until it finds no piece, or its share of turns is used up. None
+/// where the slot has nothing for it.
+pub(crate) fn work_one<B: Naming, R: Wait, G: Gate>(
+    rt: &R,
+    alloc: Global,
+    shared: Shared<'_>,
+    slot: &Slot<B>,
+    gate: &G,
+    worker: u32,
+    turns: Option<u64>,
+) -> Option<Ended<B>>
+    requires { (shared.beacon.now ≡ B.beacon) × (arc_value shared.region.now ≡ B.region)
+        × AreThieves B.deque 0 shared.thieves.now }
+    ensures { IfSome result (λ ended. ended.share.worker ≡ worker) }
+{
+    let berth = slot.lock(rt).take()?;
+    if berth.worker() != worker {
+        return None;
+    }
+    let (seat, mut share) = berth.into_parts();
+    let mut desk: PoolDesk<'_, B> = PoolDesk::new(shared.beacon, shared.region, seat, turns);
+    for _ in rt.forever() {
+        if !next(&mut share, shared.thieves) {
+            break;
+        }
+        if let Some(name) = share.last_name() {
+            gate.enter(worker, name);
+        }
+        if let Step::NotMade = share.open(alloc, shared.region, &mut desk) {
+            share.close(alloc, shared.region, &mut desk);
+        }
+        if desk.is_spent() {
+            break;
+        }
+    }
+    let granted = desk.granted();
+    let spent = desk.is_spent();
+    let (seat, cover) = desk.into_parts();
+    Some(Ended::new(Done::new(seat, cover, share), granted, spent))
+}
