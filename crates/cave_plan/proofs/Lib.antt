@@ -1,3 +1,4 @@
 pub mod UpToLemmas
 pub mod CourseLemmas
 pub mod OutlineLemmas
+pub mod FaultLemmas

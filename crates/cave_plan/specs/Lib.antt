@@ -2,3 +2,4 @@
 pub mod PlanText
 pub mod Course
 pub mod Outline
+pub mod Faults

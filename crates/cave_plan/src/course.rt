@@ -1,18 +1,22 @@
 //! The regions of a cave, planned one after another.
-ghost use Rattle.std.specs.Prelude.{◌≡◌, ◌≤◌, ◌+◌, [], false, Contains, IfOk, OnOk};
+ghost use Rattle.std.specs.Prelude.{◌≡◌, ◌≢◌, ◌≤◌, ◌<◌, ◌+◌, [], false, Contains, IfOk, IfErr, OnOk};
 ghost use Rattle.std.specs.Arc.{arc_value};
 ghost use Rattle.cave_model.specs.Listing.{Lists};
 ghost use Rattle.proof_tree.specs.PlanOf.{plans_of};
 ghost use Rattle.proof_tree.specs.Shape.{tree_of};
 ghost use Rattle.search_core.specs.Planned.{IsBest, IsStopped};
 ghost use Rattle.cave_plan.specs.Course.{GoesOn, IsCourse, course};
+ghost use Rattle.cave_plan.specs.declared.fault.PlanFault.{PlanFault};
 
+use crate::crew::Crew;
+use crate::fault::{PlanFault, RegionFault};
 use cave_regions::{Cover, Region};
 use proof_tree::{Planned, Proof};
 use scan_core::Cell;
-use search_core::{AloneFault, plan_alone};
+use search_pool::Gate;
 use std::alloc::{AllocError, Global};
-use std::sync::Arc;
+use std::sync::{Arc, Wait};
+use std::thread::Threads;
 
 /// The plans of regions, as far as they go.
 #[derive(Drop)]
@@ -92,37 +96,46 @@ impl Course {
     }
 
     /// Plans one region more, with all the turns.
-    fn plan(
+    fn plan<X: Threads + Wait + Sync, G: Gate>(
         &mut self,
         alloc: Global,
         region: Arc<Region>,
+        crew: &Crew<'_, X, G>,
         turns: Option<u64>,
-    ) -> Result<(), AllocError>
-        ensures { OnOk result (GoesOn turns (arc_value region)
+    ) -> Result<(), PlanFault>
+        ensures done { OnOk result (GoesOn turns (arc_value region)
             (course self.old.torches.items self.old.floor self.old.stopped (plans_of self.old.parts.items))
             (course self.new.torches.items self.new.floor self.new.stopped (plans_of self.new.parts.items))) }
+        ensures fault { IfErr result (λ e. e ≢ PlanFault.OutOfMemory → e ≡ PlanFault.NoThread) }
+        ensures threads { IfErr result (λ e. e ≡ PlanFault.NoThread → 1 < crew.now.workers.number) }
     {
-        match plan_alone(alloc, &region, turns) {
-            Ok((cover, proof)) => self.add_best(turns, region, cover, proof),
-            Err(AloneFault::Stopped { cover, floor }) => self.add_stopped(turns, &cover, floor),
-            Err(AloneFault::OutOfMemory) => Err(AllocError),
+        match crew.plan(alloc, &region, turns) {
+            Ok((cover, proof)) => Ok(self.add_best(turns, region, cover, proof)?),
+            Err(RegionFault::Stopped { cover, floor }) => {
+                Ok(self.add_stopped(turns, &cover, floor)?)
+            }
+            Err(RegionFault::NoThread) => Err(PlanFault::NoThread),
+            Err(RegionFault::OutOfMemory) => Err(PlanFault::OutOfMemory),
         }
     }
 }
 
 /// The plans of all regions, each with all the turns.
-pub fn planned(
+pub fn planned<X: Threads + Wait + Sync, G: Gate>(
     alloc: Global,
     regions: Vec<Region>,
+    crew: &Crew<'_, X, G>,
     turns: Option<u64>,
-) -> Result<Course, AllocError>
-    ensures { IfOk result (λ c. IsCourse regions.items turns
+) -> Result<Course, PlanFault>
+    ensures found { IfOk result (λ c. IsCourse regions.items turns
         (course c.torches.items c.floor c.stopped (plans_of c.parts.items))) }
+    ensures fault { IfErr result (λ e. e ≢ PlanFault.OutOfMemory → e ≡ PlanFault.NoThread) }
+    ensures threads { IfErr result (λ e. e ≡ PlanFault.NoThread → 1 < crew.now.workers.number) }
 {
     let mut course = Course::new(alloc);
     for region in regions {
         let region = Arc::new(alloc, region)?;
-        course.plan(alloc, region, turns)?;
+        course.plan(alloc, region, crew, turns)?;
     }
     Ok(course)
 }

@@ -2,9 +2,13 @@
 #![tactic(auto)]
 
 mod course;
+mod crew;
 mod drawing;
+mod fault;
 pub mod laws;
 mod outline;
 
+pub use crew::Crew;
 pub use drawing::plan_text;
+pub use fault::PlanFault;
 pub use outline::{Outline, plan_cave};

@@ -1,20 +1,24 @@
 //! The plan of a cave.
-ghost use Rattle.std.specs.Prelude.{◌≡◌, ◌≢◌, IfOk, IfErr, string_bytes};
+ghost use Rattle.std.specs.Prelude.{◌≡◌, ◌≢◌, ◌<◌, IfOk, IfErr, string_bytes};
 ghost use Rattle.cave_model.specs.Cave.{IsWorld};
-ghost use Rattle.cover_rows.specs.Answer.{IsRefusal};
-ghost use Rattle.cover_rows.specs.Coverage.{IsUnlightableFault};
-ghost use Rattle.cover_rows.specs.declared.fault.CoverFault.{CoverFault};
 ghost use Rattle.proof_tree.specs.PlanOf.{plans_of};
 ghost use Rattle.cave_plan.specs.Course.{course, floor_if};
+ghost use Rattle.cave_plan.specs.Faults.{IsRefusedPlan, NamesUnlightable};
 ghost use Rattle.cave_plan.specs.Outline.{AreRegionsIn, CountsDark, IsCourseIn, IsOutlineOf};
+ghost use Rattle.cave_plan.specs.declared.fault.PlanFault.{PlanFault};
 
 use crate::course::{Course, in_order, planned};
+use crate::crew::Crew;
 use crate::drawing::plan_text;
+use crate::fault::PlanFault;
 use cave_model::{Rule, World};
 use cave_regions::{Region, split};
-use cover_rows::{CoverFault, Problem};
+use cover_rows::Problem;
 use proof_tree::Planned;
+use search_pool::Gate;
 use std::alloc::{AllocError, Global};
+use std::sync::Wait;
+use std::thread::Threads;
 
 /// The plan of a cave.
 #[derive(Drop)]
@@ -73,38 +77,50 @@ fn outlined(
 }
 
 /// The same of regions that aren't planned yet.
-fn outline_of(
+fn outline_of<X: Threads + Wait + Sync, G: Gate>(
     alloc: Global,
     world: &World,
     regions: Vec<Region>,
     dark: usize,
+    crew: &Crew<'_, X, G>,
     turns: Option<u64>,
-) -> Result<Outline, AllocError>
+) -> Result<Outline, PlanFault>
     requires regions { AreRegionsIn world.now regions.items }
     requires dark { CountsDark world.now dark }
-    ensures { IfOk result (λ o.
+    ensures found { IfOk result (λ o.
         IsOutlineOf world.now turns (string_bytes o.text) o.stopped (plans_of o.parts.items)) }
+    ensures fault { IfErr result (λ e. e ≢ PlanFault.OutOfMemory → e ≡ PlanFault.NoThread) }
+    ensures threads { IfErr result (λ e. e ≡ PlanFault.NoThread → 1 < crew.now.workers.number) }
 {
-    let plans = planned(alloc, regions, turns)?;
-    outlined(alloc, world, plans, dark, turns)
+    let plans = planned(alloc, regions, crew, turns)?;
+    let outline = outlined(alloc, world, plans, dark, turns)?;
+    Ok(outline)
 }
 
 /// The fewest torches that leave no cell of the cave dark: what is printed of them, and for each region a tree which
 /// proves that fewer don't do. The regions are planned one after another, each with all the turns; where those of one
 /// were spent, the torches are the best that were found. The rows of the whole cave are let go before the search.
-pub fn plan_cave(alloc: Global, world: &World, turns: Option<u64>) -> Result<Outline, CoverFault>
+pub fn plan_cave<X: Threads + Wait + Sync, G: Gate>(
+    alloc: Global,
+    world: &World,
+    crew: &Crew<'_, X, G>,
+    turns: Option<u64>,
+) -> Result<Outline, PlanFault>
     // Best torches, or, where turns were limited, safe ones and a number that none are fewer than.
     ensures found { IfOk result (λ o.
         IsOutlineOf world.now turns (string_bytes o.text) o.stopped (plans_of o.parts.items)) }
-    // A fault names the least dark cell that no place lights.
-    ensures fault { IfErr result (λ e. e ≢ CoverFault.OutOfMemory → IsUnlightableFault world.now e) }
-    // Such a fault is answered.
-    ensures refused { (e : CoverFault) → IsUnlightableFault world.now e → IsRefusal result e }
+    // A fault but want of threads names the least dark cell that no place lights.
+    ensures fault { IfErr result (λ e. e ≢ PlanFault.OutOfMemory → e ≢ PlanFault.NoThread
+        → NamesUnlightable world.now e) }
+    // Threads are asked for only where more workers than one are.
+    ensures threads { IfErr result (λ e. e ≡ PlanFault.NoThread → 1 < crew.now.workers.number) }
+    // Such a fault is answered, before any worker is asked for.
+    ensures refused { (e : PlanFault) → NamesUnlightable world.now e → IsRefusedPlan result e }
 {
     let problem = Problem::new(alloc, world)?;
     let dark = problem.dark().len();
     let regions = split(alloc, &problem)?;
     drop(problem);
-    let outline = outline_of(alloc, world, regions, dark, turns)?;
+    let outline = outline_of(alloc, world, regions, dark, crew, turns)?;
     Ok(outline)
 }

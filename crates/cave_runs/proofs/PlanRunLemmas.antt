@@ -13,9 +13,6 @@ use Rattle.cave_model.specs.Listing.{Lists}
 use Rattle.cave_model.specs.Rule.{Rule}
 use Rattle.cave_model.specs.declared.cave_fault.CaveFault.{CaveFault}
 use Rattle.cave_model.specs.declared.cave_fault.CaveFault.TheVariants as cave_faults
-use Rattle.cover_rows.specs.Coverage.{IsUnlightableFault}
-use Rattle.cover_rows.specs.declared.fault.CoverFault.{CoverFault}
-use Rattle.cover_rows.specs.declared.fault.CoverFault.TheVariants as cover
 use Rattle.proof_tree.specs.Planned.{Plan, certificate_of, certificate_text}
 use Rattle.proof_tree.specs.Writing.{AppendsFront, AppendsPart}
 use Rattle.proof_tree.specs.declared.fault.WriteFault.{WriteFault}
@@ -23,7 +20,10 @@ use Rattle.proof_tree.specs.declared.fault.WriteFault.TheVariants as writing
 use Rattle.proof_tree.proofs.SentLemmas.{part_none}
 use Rattle.plan_laws.proofs.AcceptedLemmas.{accepted, best_are_bounded, part_of, section_torches}
 use Rattle.plan_laws.proofs.PartLemmas.{same_number}
+use Rattle.cave_plan.specs.Faults.{NamesUnlightable}
 use Rattle.cave_plan.specs.Outline.{IsPlanned, IsStoppedAt}
+use Rattle.cave_plan.specs.declared.fault.PlanFault.{PlanFault}
+use Rattle.cave_plan.specs.declared.fault.PlanFault.TheVariants as plan
 use Rattle.cave_runs.specs.Faults.{of_cave, of_write}
 use Rattle.cave_runs.specs.Limits.{structure_limit}
 use Rattle.cave_runs.specs.PlanRuns.{WritesBest, WritesFloor, EndsIn, Plans, Begins, BeginsPlan, Leaves}
@@ -190,9 +190,11 @@ plans (Some b) bytes table rule turns cave outcome old new proof_old proof_new s
 
 -- no fault of writing is one of the input
 pub no_plan_unwritten : (bytes : List ℕ) (table : Option (List ℕ)) (rule : Rule) (fault : RunFault)
-    → (fault ≢ faults.OutOfMemory → IsNoPlan bytes table rule fault) → fault ≢ faults.WriteFailed
+    → (fault ≢ faults.OutOfMemory → fault ≢ faults.NoThread → IsNoPlan bytes table rule fault)
+    → fault ≢ faults.WriteFailed
 no_plan_unwritten bytes table rule fault told failed = elim
-    (told (λ e. (let both : faults.WriteFailed ≡ faults.OutOfMemory = sym failed ∙ e in cc))) [
+    (told (λ e. (let both : faults.WriteFailed ≡ faults.OutOfMemory = sym failed ∙ e in cc))
+    (λ e. (let both : faults.WriteFailed ≡ faults.NoThread = sym failed ∙ e in cc))) [
       | inl f ↦ of_cave_unwritten f.0 (sym failed ∙ f.2)
       | inr u ↦ (let both = sym failed ∙ u.2.named in absurd (apart _ _ _ both))
     ]
@@ -234,7 +236,7 @@ no_plan_refused (Some b) bytes table rule Met same within met =
 -- a dark cell that no place lights, as it is told by a run
 pub unlit_named : (cave : Cave) (cell : ℕ) (size result : List ℕ) → point size ≡ cave.size
     → point result ≡ coordinates (point size) cell
-    → IsUnlightableFault cave (cover.Unlightable cell)
+    → NamesUnlightable cave (plan.Unlightable cell)
     → IsUnlit cave (faults.Unlightable (point result).x (point result).y (point result).z)
 unlit_named cave cell size result sized at (other, is, least, same) =
     let e : cell ≡ other = inside same in
@@ -246,12 +248,12 @@ unlit_named cave cell size result sized at (other, is, least, same) =
           (at ∙ ap (λ (s : Point). coordinates s cell) sized ∙ ap (coordinates cave.size) e);
     }
   where
-    inside : {a b : ℕ} → cover.Unlightable a ≡ cover.Unlightable b → a ≡ b
+    inside : {a b : ℕ} → plan.Unlightable a ≡ plan.Unlightable b → a ≡ b
     inside e = cc
 
 -- the least such cell is one
 pub unlit_fault : (cave : Cave) (due : RunFault) → (u : IsUnlit cave due)
-    → IsUnlightableFault cave (cover.Unlightable u.cell)
+    → NamesUnlightable cave (plan.Unlightable u.cell)
 unlit_fault cave due u = (u.cell, u.unlightable, u.least, refl)
 
 pub unlit_same : (cave : Cave) (cell : ℕ) (size result : List ℕ) (due : RunFault) → point size ≡ cave.size
@@ -261,10 +263,16 @@ unlit_same cave cell size result due sized at u e =
     ap (λ (p : Point). faults.Unlightable p.x p.y p.z)
     (at ∙ ap (λ (s : Point). coordinates s cell) sized ∙ ap (coordinates cave.size) e) ∙ sym u.named
 
-pub same_cell : (fault : CoverFault) (a b : ℕ) → fault ≡ cover.Unlightable a → (fault ≡ cover.Unlightable b)
-    ⊎ (fault ≡ cover.OutOfMemory) → a ≡ b
-same_cell fault a b is (inl e) = (let both : cover.Unlightable a ≡ cover.Unlightable b = sym is ∙ e in cc)
-same_cell fault a b is (inr e) = (let both : cover.Unlightable a ≡ cover.OutOfMemory = sym is ∙ e in cc)
+pub same_cell : (fault : PlanFault) (a b : ℕ) → fault ≡ plan.Unlightable a → (fault ≡ plan.Unlightable b)
+    ⊎ (fault ≡ plan.OutOfMemory) → a ≡ b
+same_cell fault a b is (inl e) = (let both : plan.Unlightable a ≡ plan.Unlightable b = sym is ∙ e in cc)
+same_cell fault a b is (inr e) = (let both : plan.Unlightable a ≡ plan.OutOfMemory = sym is ∙ e in cc)
+
+-- no worker is asked for where a cell can't be lit
+pub no_thread_unlit : (fault : PlanFault) (cell : ℕ) → fault ≡ plan.NoThread → (fault ≡ plan.Unlightable cell)
+    ⊎ (fault ≡ plan.OutOfMemory) → ⊥
+no_thread_unlit fault cell is (inl e) = (let both : plan.NoThread ≡ plan.Unlightable cell = sym is ∙ e in cc)
+no_thread_unlit fault cell is (inr e) = (let both : plan.NoThread ≡ plan.OutOfMemory = sym is ∙ e in cc)
 
 -- where the cave is refused, a plan is too
 pub cave_unplanned : (bytes : List ℕ) (table : Option (List ℕ)) (rule : Rule) (e : CaveFault)

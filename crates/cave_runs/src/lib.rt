@@ -17,4 +17,5 @@ pub use fault::{Input, RunFault};
 pub use plan::{Outcome, PlanOpts, run_plan};
 pub use proof_check::Verdict;
 pub use reading::read_table;
+pub use search_pool::{Gate, Open, Workers};
 pub use unkept::Unkept;

@@ -1,5 +1,5 @@
 //! The plan of a structure, from the bytes read to the bytes written.
-ghost use Rattle.std.specs.Prelude.{◌≡◌, ◌≢◌, IfOk, IfErr, IfSome, OnOk, option_copied, string_bytes};
+ghost use Rattle.std.specs.Prelude.{◌≡◌, ◌≢◌, ◌<◌, IfOk, IfErr, IfSome, OnOk, option_copied, string_bytes};
 ghost use Rattle.cave_model.specs.RuleOf.{rule_of};
 ghost use Rattle.cave_plan.specs.Outline.{IsOutlineOf, IsPlanned};
 ghost use Rattle.proof_tree.specs.PlanOf.{plans_of};
@@ -15,17 +15,21 @@ use crate::limits::STRUCTURE_LIMIT;
 use crate::reading::read_all;
 use crate::writing::put_all;
 use cave_model::{Rule, World, read_cave};
-use cave_plan::{Outline, plan_cave};
-use cover_rows::CoverFault;
+use cave_plan::{Crew, Outline, PlanFault, plan_cave};
 use proof_tree::write_certificate;
 use scan_core::coordinates;
+use search_pool::{Gate, Workers};
 use std::alloc::Global;
 use std::io::{Read, Write};
+use std::sync::Wait;
+use std::thread::Threads;
 
-/// What a plan is made by: the rule of spawning, and how many nodes the search of a region may work on.
+/// What a plan is made by: the rule of spawning, how many workers search, and how many nodes the search of a region may
+/// work on.
 #[derive(Clone, Copy, Debug, PartialEq, Eq)]
 pub struct PlanOpts {
     pub rule: Rule,
+    pub workers: Workers,
     pub turns: Option<u64>,
 }
 
@@ -39,16 +43,23 @@ pub enum Outcome {
 }
 
 /// The plan of a world; a dark cell that no place lights is told by its coordinates.
-fn outline_of(alloc: Global, world: &World, turns: Option<u64>) -> Result<Outline, RunFault>
+fn outline_of<X: Threads + Wait + Sync, G: Gate>(
+    alloc: Global,
+    world: &World,
+    crew: &Crew<'_, X, G>,
+    turns: Option<u64>,
+) -> Result<Outline, RunFault>
     ensures found { IfOk result (λ o.
         IsOutlineOf world.now turns (string_bytes o.text) o.stopped (plans_of o.parts.items)) }
-    ensures fault { IfErr result (λ e. e ≢ RunFault.OutOfMemory → IsUnlit world.now e) }
+    ensures fault { IfErr result (λ e. e ≢ RunFault.OutOfMemory → e ≢ RunFault.NoThread → IsUnlit world.now e) }
+    ensures threads { IfErr result (λ e. e ≡ RunFault.NoThread → 1 < crew.now.workers.number) }
     ensures refused { (e : RunFault) → IsUnlit world.now e → IsRefusal result e }
 {
-    match plan_cave(alloc, world, turns) {
+    match plan_cave(alloc, world, crew, turns) {
         Ok(outline) => Ok(outline),
-        Err(CoverFault::OutOfMemory) => Err(RunFault::OutOfMemory),
-        Err(CoverFault::Unlightable { cell }) => {
+        Err(PlanFault::NoThread) => Err(RunFault::NoThread),
+        Err(PlanFault::OutOfMemory) => Err(RunFault::OutOfMemory),
+        Err(PlanFault::Unlightable { cell }) => {
             let [x, y, z] = coordinates(world.size(), cell);
             Err(RunFault::Unlightable { x, y, z })
         }
@@ -56,21 +67,23 @@ fn outline_of(alloc: Global, world: &World, turns: Option<u64>) -> Result<Outlin
 }
 
 /// The cave that the bytes tell, with its plan.
-fn planned(
+fn planned<X: Threads + Wait + Sync, G: Gate>(
     alloc: Global,
     bytes: &[u8],
     table: Option<&[u8]>,
     opts: &PlanOpts,
+    crew: &Crew<'_, X, G>,
 ) -> Result<(World, Outline), RunFault>
     ensures found { IfOk result (λ p. Tells bytes.now (option_copied table.entry) (rule_of opts.now.rule)
         opts.now.turns p.0 (string_bytes p.1.text) p.1.stopped (plans_of p.1.parts.items)) }
-    ensures fault { IfErr result (λ e. e ≢ RunFault.OutOfMemory
+    ensures fault { IfErr result (λ e. e ≢ RunFault.OutOfMemory → e ≢ RunFault.NoThread
         → IsNoPlan bytes.now (option_copied table.entry) (rule_of opts.now.rule) e) }
+    ensures threads { IfErr result (λ e. e ≡ RunFault.NoThread → 1 < crew.now.workers.number) }
     ensures refused { (e : RunFault) → IsNoPlan bytes.now (option_copied table.entry) (rule_of opts.now.rule) e
         → IsRefusal result e }
 {
     let world = read_cave(alloc, bytes, table, opts.rule)?;
-    let outline = outline_of(alloc, &world, opts.turns)?;
+    let outline = outline_of(alloc, &world, crew, opts.turns)?;
     Ok((world, outline))
 }
 
@@ -120,12 +133,15 @@ fn put_plan<W: Write, V: Write>(
 /// the proof's certificate to `proof` and the plan's text to `writer`. All is read before it is judged, all regions are
 /// planned before a byte is written, and the whole text of the plan is made before its first byte is. The rows are
 /// those of the user's table, where there is one, before the shipped ones. Where the turns of a region were spent, the
-/// text says how few torches there might be, and no certificate is written.
-pub fn run_plan<R: Read, W: Write, V: Write>(
+/// text says how few torches there might be, and no certificate is written. Where more workers than one search, each
+/// is a thread of its own, which the gate may hold back.
+pub fn run_plan<X: Threads + Wait + Sync, R: Read, W: Write, V: Write, G: Gate>(
+    rt: &X,
     alloc: Global,
     reader: &mut R,
     table: Option<&[u8]>,
     opts: &PlanOpts,
+    gate: &G,
     writer: &mut W,
     proof: &mut V,
 ) -> Result<Outcome, RunFault>
@@ -139,8 +155,10 @@ pub fn run_plan<R: Read, W: Write, V: Write>(
         (rule_of opts.now.rule) opts.now.turns
         (W.contents writer.old) (W.contents writer.new) (V.contents proof.old) (V.contents proof.new)) }
     // A fault of the input is the one that the definitions name.
-    ensures fault { IfErr result (λ e. IsOfInput e → IfSome (R.remaining reader.old) (λ bytes.
-        IsNoPlanOfInput bytes (option_copied table.entry) (rule_of opts.now.rule) e)) }
+    ensures fault { IfErr result (λ e. IsOfInput e → e ≢ RunFault.NoThread → IfSome (R.remaining reader.old)
+        (λ bytes. IsNoPlanOfInput bytes (option_copied table.entry) (rule_of opts.now.rule) e)) }
+    // Threads are asked for only where more workers than one are.
+    ensures threads { IfErr result (λ e. e ≡ RunFault.NoThread → 1 < opts.now.workers.number) }
     // Such a fault is answered, unless a read failed.
     ensures refused { IfSome (R.remaining reader.old) (λ bytes. (e : RunFault)
         → IsNoPlanOfInput bytes (option_copied table.entry) (rule_of opts.now.rule) e → IsRefusedRun result e) }
@@ -149,6 +167,11 @@ pub fn run_plan<R: Read, W: Write, V: Write>(
         → GivesAtMost structure_limit (R.remaining reader.old) (R.remaining reader.new)) }
 {
     let bytes = read_all(alloc, reader, STRUCTURE_LIMIT, Input::StructureInput)?;
-    let (world, outline) = planned(alloc, &bytes, table, opts)?;
+    let crew = Crew {
+        rt,
+        workers: opts.workers,
+        gate,
+    };
+    let (world, outline) = planned(alloc, &bytes, table, opts, &crew)?;
     put_plan(alloc, &world, &outline, opts.turns, writer, proof)
 }

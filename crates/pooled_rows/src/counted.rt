@@ -59,10 +59,10 @@ fn one_worker_and_64_plan_the_ring(rt: HostRuntime) -> Result<(), Fail> {
 }
 
 #[test]
-fn eight_workers_find_two_torches_20_times(rt: HostRuntime) -> Result<(), Fail> {
+fn eight_workers_find_two_torches_200_times(rt: HostRuntime) -> Result<(), Fail> {
     let alloc = rt.alloc();
     let region = stone_ring(alloc)?;
-    for _ in 0..20 {
+    for _ in 0..200 {
         let report = planned(&rt, alloc, &region, 8, &Open)?;
         assert_eq!(rt; report.cover.size(), 2);
     }

@@ -31,6 +31,11 @@ impl Meeting {
         self.gave_up.load(Ordering::SeqCst)
     }
 
+    /// Whether both workers entered.
+    pub(crate) fn has_both(&self) -> bool {
+        self.entered[0].load(Ordering::SeqCst) > 0 && self.entered[1].load(Ordering::SeqCst) > 0
+    }
+
     /// Whether a kid of one of the root's kids entered.
     pub(crate) fn has_reopened(&self) -> bool {
         self.reopened.load(Ordering::SeqCst)

@@ -10,4 +10,6 @@ mod gates;
 #[cfg(test)]
 mod rings;
 #[cfg(test)]
+mod through;
+#[cfg(test)]
 mod turns;

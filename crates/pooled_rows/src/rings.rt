@@ -23,6 +23,20 @@ fn fill(from: [i32; 3], to: [i32; 3], state: i32) -> Fill {
     }
 }
 
+/// A ring in stone.
+fn ring() -> [Fill; 3] {
+    [
+        fill([0, 0, 0], [9, 3, 9], 0),
+        fill([1, 1, 1], [8, 2, 8], 1),
+        fill([2, 1, 2], [7, 2, 7], 0),
+    ]
+}
+
+/// The file of a ring in stone.
+pub(crate) fn ring_bytes(alloc: Global) -> Result<Vec<u8>, AllocError> {
+    bytes_of(alloc, [10, 4, 10], &ring())
+}
+
 /// Two rings in felt, one behind the other. Three cells of each have stone below: these are its places.
 fn two_rings() -> [Fill; 11] {
     [
@@ -40,7 +54,7 @@ fn two_rings() -> [Fill; 11] {
     ]
 }
 
-fn problem(alloc: Global, size: [i32; 3], fills: &[Fill]) -> Result<Problem, Fail> {
+fn bytes_of(alloc: Global, size: [i32; 3], fills: &[Fill]) -> Result<Vec<u8>, AllocError> {
     let structure = Structure {
         size,
         palette: &[
@@ -51,7 +65,11 @@ fn problem(alloc: Global, size: [i32; 3], fills: &[Fill]) -> Result<Problem, Fai
         fills,
         more: &[],
     };
-    let scan = read_scan(alloc, &structure.bytes(alloc)?)?;
+    structure.bytes(alloc)
+}
+
+fn problem(alloc: Global, size: [i32; 3], fills: &[Fill]) -> Result<Problem, Fail> {
+    let scan = read_scan(alloc, &bytes_of(alloc, size, fills)?)?;
     let rows = Rows::with_table(alloc, TABLE)?;
     let world = build(alloc, &scan, &rows, Rule::new(2, 1))?;
     Ok(Problem::new(alloc, &world)?)
@@ -76,12 +94,7 @@ pub(crate) fn corridor(alloc: Global) -> Result<Arc<Region>, Fail> {
 
 /// Torches may hang all about it: each cell is lit by 52 places, and two places are fewest.
 pub(crate) fn stone_ring(alloc: Global) -> Result<Arc<Region>, Fail> {
-    let ring = [
-        fill([0, 0, 0], [9, 3, 9], 0),
-        fill([1, 1, 1], [8, 2, 8], 1),
-        fill([2, 1, 2], [7, 2, 7], 0),
-    ];
-    region(alloc, [10, 4, 10], &ring)
+    region(alloc, [10, 4, 10], &ring())
 }
 
 /// Both rings as one region of 56 cells.

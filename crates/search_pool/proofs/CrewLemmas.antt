@@ -13,4 +13,6 @@ both false b e = absurd (cc)
 pub few_workers : (number : ℕ) → IsTrue (is_crew number) → (1 ≤ number) × (number ≤ 64)
 few_workers number some =
     let parts = both (nat_lt 0 number) (nat_lt number 65) some in
-    let low = ltb-true 0 number parts.0 in let high = ltb-true number 65 parts.1 in (omega (arith, low), omega (arith, high))
+    let low = ltb-true 0 number parts.0 in
+    let high = ltb-true number 65 parts.1 in
+    (omega (arith, low), omega (arith, high))

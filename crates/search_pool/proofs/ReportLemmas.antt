@@ -1,10 +1,10 @@
 -- What a report's numbers add up to.
-use Rattle.std.proofs.Common.{◌≡◌, ◌≤◌, ℕ, zero, suc, ◌+◌, List, [], ◌∷◌, ◌++◌, length, refl, sym, ap, ◌∙◌, subst, arith}
+use Rattle.std.proofs.Common.{◌≡◌, ℕ, zero, suc, ◌+◌, List, [], ◌∷◌, ◌++◌, length, refl, sym, ap, ◌∙◌, subst, arith}
 use Rattle.std.specs.Prelude.{map, replicate}
 use Rattle.set_cover.specs.Instance.{Instance}
 use Rattle.proof_tree.specs.Opened.{Split}
 use Rattle.proof_tree.specs.Piece.{Subproblem}
-use Rattle.schedule_law.specs.Joined.{AreJoined, all_back, all_closed, all_kids, all_opened, root_split}
+use Rattle.schedule_law.specs.Joined.{AreJoined, all_closed, all_kids, all_opened, root_split}
 use Rattle.schedule_law.specs.Worked.{Worked}
 use Rattle.schedule_law.proofs.LawLemmas.{counts}
 use Rattle.gathering.specs.Counted.{AreCounted}
@@ -12,7 +12,7 @@ use Rattle.gathering.specs.Gathered.{Gathering, IsGathered}
 use Rattle.gathering.proofs.LawLemmas.{counted}
 use Rattle.joined_results.specs.Joining.{IsRootSplit}
 use Rattle.search_pool.specs.Reports.{sum_of}
-use Rattle.search_pool.specs.Tallies.{AreCounted as AreTallied, all_refused}
+use Rattle.search_pool.specs.Tallies.{AreCounted as AreTallied}
 use Rattle.search_pool.specs.declared.tally.Tally.{Tally}
 
 pub no_sum : (count : ℕ) → sum_of (replicate count 0) ≡ 0

@@ -1,5 +1,6 @@
 -- The ends of deques, after a pass at each was handed out.
-use Rattle.std.proofs.Common.{◌≡◌, ℕ, zero, suc, ◌+◌, List, [], ◌∷◌, ◌++◌, length, All, refl, sym, ap, ◌∙◌, append_assoc, arith}
+use Rattle.std.proofs.Common.{◌≡◌, ℕ, zero, suc, ◌+◌, List, [], ◌∷◌, ◌++◌, length, All, refl, sym, ap, ◌∙◌}
+use Rattle.std.proofs.Common.{arith}
 use Rattle.std.specs.Prelude.{map}
 use Rattle.std.proofs.lemmas.List.Elements.{All-head, All-tail, All-cons, All-push}
 use Rattle.worker_results.specs.Naming.{numbers_from}
@@ -10,7 +11,7 @@ use Rattle.search_pool.specs.Deques.{AreStocked, HasPushed}
 use Rattle.proof_tree.specs.Piece.{Subproblem}
 use Rattle.piece_deque.specs.Deals.{one_more_out}
 use Rattle.worker_results.specs.Passes.{Owned, deques, all_taken}
-use Rattle.search_pool.specs.Slots.{IsReady, Owner, handed_out, numbers_of, pass_at, ready}
+use Rattle.search_pool.specs.Slots.{IsReady, Owner, handed_out, numbers_of, pass_at}
 
 -- the workers stay who they are
 pub numbers_out : (owned : List Owned) → numbers_of (map handed_out owned) ≡ numbers_of owned
@@ -48,7 +49,8 @@ stocked_push pieces (first ∷ owners) owner stocked new =
     (stocked.0, All-push (HasPushed []) owners owner stocked.1 new)
 
 -- one worker more
-pub numbers_push : (owned : List Owned) (own : Owned) → numbers_of (owned ++ own ∷ []) ≡ numbers_of owned ++ own.worker ∷ []
+pub numbers_push : (owned : List Owned) (own : Owned)
+    → numbers_of (owned ++ own ∷ []) ≡ numbers_of owned ++ own.worker ∷ []
 numbers_push [] own = refl
 numbers_push (one ∷ owned) own = ap (one.worker ∷◌) (numbers_push owned own)
 

@@ -1,7 +1,7 @@
 -- Owners, their deques and thieves by the numbers of the workers.
-use Rattle.std.proofs.Common.{◌≡◌, ℕ, zero, suc, ◌+◌, List, [], ◌∷◌, length, All, refl, sym, ap, ◌∙◌, arith}
+use Rattle.std.proofs.Common.{◌≡◌, ℕ, suc, ◌+◌, List, [], ◌∷◌, length, All, refl, sym, ap, ◌∙◌, arith}
 use Rattle.std.proofs.lemmas.List.Elements.{All-head, All-tail, All-cons}
-use Rattle.crossbeam_deque.specs.Handles.{worker_deque, worker_flavor, worker_view}
+use Rattle.crossbeam_deque.specs.Handles.{worker_view}
 use Rattle.proof_tree.specs.Piece.{Subproblem}
 use Rattle.proof_tree.specs.Weights.{weigh}
 use Rattle.piece_deque.specs.declared.dealt.Dealt.{Dealt}

@@ -1,5 +1,5 @@
 -- How many pieces workers handed over. This is this project's own.
-use Rattle.std.specs.Prelude.{◌≡◌, ℕ, ◌+◌, List, length, flat_map}
+use Rattle.std.specs.Prelude.{◌≡◌, ◌+◌, List, length, flat_map}
 use Rattle.proof_tree.specs.Piece.{Subproblem}
 use Rattle.schedule_law.specs.Worked.{Worked}
 use Rattle.schedule_law.specs.Joined.{all_back, all_closed, all_opened}

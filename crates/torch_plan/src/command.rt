@@ -1,7 +1,7 @@
 //! The command line.
 use crate::version::need_for;
 use cave_model::Rule;
-use cave_runs::PlanOpts;
+use cave_runs::{PlanOpts, Workers};
 use clap::error::ErrorKind;
 use clap::{Arg, ArgAction, ArgMatches, Command, Error};
 use std::alloc::{AllocError, Global};
@@ -79,8 +79,8 @@ fn workers<'a>(alloc: Global) -> Arg<'a> {
         .long("workers")
         .value_name("N")
         .action(ArgAction::Set)
-        .value_parser(clap::value_parser!(u8).range(1..=1))
-        .help("How many threads search: one, so far [default: 1]")
+        .value_parser(clap::value_parser!(u8).range(1..=64))
+        .help("How many threads search [default: 1]")
 }
 
 fn turns<'a>(alloc: Global) -> Arg<'a> {
@@ -160,12 +160,21 @@ fn dark_of<'a>(matches: &ArgMatches<'a>) -> Option<Request<'a>> {
     })
 }
 
+/// How many workers the words name: one unless told.
+fn workers_of(matches: &ArgMatches) -> Option<Workers> {
+    match matches.get_one::<u8>("workers") {
+        Some(count) => Workers::new(u32::from(count)),
+        None => Workers::new(1),
+    }
+}
+
 fn plan_of<'a>(matches: &ArgMatches<'a>) -> Option<Request<'a>> {
     Some(Request::Plan {
         file: matches.get_str("FILE")?,
         table: matches.get_str("table"),
         opts: PlanOpts {
             rule: rule_of(matches)?,
+            workers: workers_of(matches)?,
             turns: matches.get_one::<u64>("turns"),
         },
         proof: matches.get_str("proof"),

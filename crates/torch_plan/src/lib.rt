@@ -7,7 +7,8 @@ mod version;
 
 pub use cave_model::Rule;
 pub use cave_runs::{
-    Input, Outcome, PlanOpts, RunFault, Unkept, Verdict, read_table, run_check, run_dark, run_plan,
+    Gate, Input, Open, Outcome, PlanOpts, RunFault, Unkept, Verdict, Workers, read_table,
+    run_check, run_dark, run_plan,
 };
 pub use command::{Request, request_of};
 pub use status::status_of;

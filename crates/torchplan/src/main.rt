@@ -8,8 +8,8 @@ use std::os::unix::fs::MetadataExt;
 use std::process::ExitCode;
 use std::{env, io};
 use torch_plan::{
-    Outcome, PlanOpts, Request, Rule, RunFault, Unkept, Verdict, read_table, request_of, run_check,
-    run_dark, run_plan, status_of,
+    Open, Outcome, PlanOpts, Request, Rule, RunFault, Unkept, Verdict, read_table, request_of,
+    run_check, run_dark, run_plan, status_of,
 };
 
 /// The words of the command line. One that is no text is a mistake in usage.
@@ -103,10 +103,28 @@ fn plan_from<R: Read>(
     let alloc = rt.alloc();
     let mut output = io::writer(rt);
     let Some(path) = proof else {
-        return run_plan(alloc, reader, table, opts, &mut output, &mut Unkept);
+        return run_plan(
+            rt,
+            alloc,
+            reader,
+            table,
+            opts,
+            &Open,
+            &mut output,
+            &mut Unkept,
+        );
     };
     match File::create(rt, path) {
-        Ok(mut kept) => run_plan(alloc, reader, table, opts, &mut output, &mut kept),
+        Ok(mut kept) => run_plan(
+            rt,
+            alloc,
+            reader,
+            table,
+            opts,
+            &Open,
+            &mut output,
+            &mut kept,
+        ),
         Err(_) => Err(RunFault::WriteFailed),
     }
 }

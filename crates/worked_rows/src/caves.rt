@@ -1,7 +1,7 @@
 //! The caves of the worked examples.
 
-use crate::structure::{Block, Entry, Fill, Structure};
 use block_rows::Rows;
+use cave_files::{Block, Entry, Fill, Structure};
 use cave_model::{Rule, World, build};
 use scan_core::read_scan;
 use std::alloc::Global;

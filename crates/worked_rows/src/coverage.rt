@@ -4,7 +4,7 @@ use crate::caves::{
     AIR, DUG, EMPTY, FELT, FELT_TABLE, PILLAR, ROCK, STONE, TORCH, fill, long_box, third_at,
     world_by,
 };
-use crate::structure::{Block, Fill, Structure};
+use cave_files::{Block, Fill, Structure};
 use cover_rows::{CoverFault, Problem};
 use std::alloc::Global;
 use std::test::Fail;

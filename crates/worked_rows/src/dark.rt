@@ -5,7 +5,7 @@ use crate::caves::{
     long_box, third_at,
 };
 use crate::running::{prints, refuses, row_of_cells};
-use crate::structure::{Block, Entry, Fill};
+use cave_files::{Block, Entry, Fill};
 use std::alloc::Global;
 use std::process::Abort;
 use std::test::Fail;

@@ -24,8 +24,6 @@ mod running;
 #[cfg(test)]
 mod streams;
 #[cfg(test)]
-mod structure;
-#[cfg(test)]
 mod tables;
 #[cfg(test)]
 mod words;

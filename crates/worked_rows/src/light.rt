@@ -4,7 +4,7 @@ use crate::caves::{
     AIR, CORRIDOR_28, DUG, LANTERN, ROCK, STONE, WATER, block, fill, gap, long_box, third_at,
     world_by,
 };
-use crate::structure::Structure;
+use cave_files::Structure;
 use cave_model::{Hang, World};
 use light_flood::{Levels, light, reach};
 use std::alloc::Global;

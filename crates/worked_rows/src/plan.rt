@@ -4,10 +4,10 @@ use crate::caves::{
     AIR, CORRIDOR_28, DUG, EMPTY, FELT, FELT_TABLE, PILLAR, ROCK, STAIRS, STONE, TORCH, block,
     fill, gap, long_box, third_at,
 };
-use crate::planning::{FREELY, is_accepted, lines_with, plan, plans, plans_so_many};
-use crate::structure::{Fill, Structure};
+use crate::planning::{alone, freely, is_accepted, lines_with, plan, plans, plans_so_many};
+use cave_files::{Fill, Structure};
 use std::test::Fail;
-use torch_plan::{Outcome, PlanOpts, Rule};
+use torch_plan::{Outcome, Rule};
 
 const WALL: &str = "#############################\n";
 
@@ -15,7 +15,7 @@ const WALL: &str = "#############################\n";
 fn an_empty_box_needs_no_torch(rt: HostRuntime) -> Result<(), Fail> {
     let alloc = rt.alloc();
     plans(&rt, alloc, &EMPTY, None, "torches 0\ndark 0\n")?;
-    let planned = plan(alloc, &EMPTY.bytes(alloc)?, None, &FREELY)?;
+    let planned = plan(&rt, alloc, &EMPTY.bytes(alloc)?, None, &freely(&rt))?;
     let proof = b"torchproof 1\nbox 0 0 0\nheadroom 2\nregions 0\nend\n";
     assert_eq!(rt; planned.proof.as_slice(), proof.as_slice());
     Ok(())
@@ -112,7 +112,7 @@ fn two_corridors_are_two_regions(rt: HostRuntime) -> Result<(), Fail> {
         "torches 2\ndark 54\nT 14 1 1 floor\nT 14 1 3 floor\nlayer 1\n{WALL}{row}{WALL}{row}{WALL}"
     )?;
     plans(&rt, alloc, &corridors, None, text.as_str())?;
-    let planned = plan(alloc, &corridors.bytes(alloc)?, None, &FREELY)?;
+    let planned = plan(&rt, alloc, &corridors.bytes(alloc)?, None, &freely(&rt))?;
     let mut lines = planned.proof.split(|byte| *byte == b'\n');
     assert!(rt; lines.any(|line| line == b"regions 2".as_slice()));
     assert!(rt; lines.any(|line| line == b"region 27 1".as_slice()));
@@ -144,7 +144,7 @@ fn a_wildcard_row_gives_stairs_the_opacity_of_stone(rt: HostRuntime) -> Result<(
     let alloc = rt.alloc();
     let fills = [ROCK, DUG, third_at([0, 0, 0])];
     let stairs = long_box(&[STONE, AIR, STAIRS], &fills, &[]);
-    let refused = plan(alloc, &stairs.bytes(alloc)?, None, &FREELY)?;
+    let refused = plan(&rt, alloc, &stairs.bytes(alloc)?, None, &freely(&rt))?;
     assert!(rt;
         matches!(&refused.refusal, Some(line) if line.as_str() == "unknown block minecraft:oak_stairs")
     );
@@ -164,7 +164,7 @@ fn the_pillar_has_one_torch_and_one_proof(rt: HostRuntime) -> Result<(), Fail> {
         None,
         "torches 1\ndark 1\nT 0 1 0 floor\nlayer 1\nT\n",
     )?;
-    let planned = plan(alloc, &PILLAR.bytes(alloc)?, None, &FREELY)?;
+    let planned = plan(&rt, alloc, &PILLAR.bytes(alloc)?, None, &freely(&rt))?;
     let head = b"torchproof 1\nbox 1 3 1\nheadroom 2\nregions 1\nregion 1 1\nD 1\nT 1\n";
     assert!(rt; planned.proof.starts_with(head));
     let tree = &planned.proof[head.len()..];
@@ -187,7 +187,13 @@ fn over_felt_a_torch_hangs_on_a_wall(rt: HostRuntime) -> Result<(), Fail> {
 fn where_nothing_holds_a_torch_the_first_dark_cell_is_told(rt: HostRuntime) -> Result<(), Fail> {
     let alloc = rt.alloc();
     let felt = long_box(&[FELT, AIR], &[ROCK, DUG], &[]);
-    let refused = plan(alloc, &felt.bytes(alloc)?, Some(FELT_TABLE), &FREELY)?;
+    let refused = plan(
+        &rt,
+        alloc,
+        &felt.bytes(alloc)?,
+        Some(FELT_TABLE),
+        &freely(&rt),
+    )?;
     assert!(rt; matches!(&refused.refusal, Some(line) if line.as_str() == "unlightable 1 1 1"));
     assert!(rt; refused.text.is_empty());
     assert!(rt; refused.proof.is_empty());
@@ -197,13 +203,10 @@ fn where_nothing_holds_a_torch_the_first_dark_cell_is_told(rt: HostRuntime) -> R
 #[test]
 fn before_1_18_the_corridor_needs_three_torches(rt: HostRuntime) -> Result<(), Fail> {
     let alloc = rt.alloc();
-    let before = PlanOpts {
-        rule: Rule::new(2, 8),
-        turns: None,
-    };
+    let before = alone(&rt, Rule::new(2, 8), None);
     let corridor = long_box(&[STONE, AIR], &[ROCK, DUG], &[]);
     let bytes = corridor.bytes(alloc)?;
-    let planned = plan(alloc, &bytes, None, &before)?;
+    let planned = plan(&rt, alloc, &bytes, None, &before)?;
     is_accepted(&rt, alloc, &bytes, None, before.rule, &planned)?;
     assert!(rt; planned.text.starts_with(b"torches 3\ndark 27\n"));
     assert!(rt;
@@ -213,7 +216,7 @@ fn before_1_18_the_corridor_needs_three_torches(rt: HostRuntime) -> Result<(), F
     );
     let fills = [ROCK, DUG, third_at([14, 1, 1])];
     let lit = long_box(&[STONE, AIR, TORCH], &fills, &[]);
-    let planned = plan(alloc, &lit.bytes(alloc)?, None, &before)?;
+    let planned = plan(&rt, alloc, &lit.bytes(alloc)?, None, &before)?;
     assert!(rt; planned.text.starts_with(b"torches 2\ndark 14\n"));
     Ok(())
 }
@@ -229,15 +232,7 @@ fn one_turn_stops_the_ring_and_a_million_do_not(rt: HostRuntime) -> Result<(), F
     };
     let bytes = ring.bytes(alloc)?;
     let rule = Rule::new(2, 1);
-    let stopped = plan(
-        alloc,
-        &bytes,
-        None,
-        &PlanOpts {
-            rule,
-            turns: Some(1),
-        },
-    )?;
+    let stopped = plan(&rt, alloc, &bytes, None, &alone(&rt, rule, Some(1)))?;
     assert!(rt; stopped.outcome == Some(Outcome::Stopped));
     assert!(rt; stopped.proof.is_empty());
     assert!(rt; lines_with(&stopped.text, b'T') >= 2);
@@ -245,25 +240,15 @@ fn one_turn_stops_the_ring_and_a_million_do_not(rt: HostRuntime) -> Result<(), F
     assert!(rt;
         matches!(first, Some(line) if line.ends_with(b" at-least 1") || line.ends_with(b" at-least 2"))
     );
-    let ended = plan(
-        alloc,
-        &bytes,
-        None,
-        &PlanOpts {
-            rule,
-            turns: Some(1_000_000),
-        },
-    )?;
+    let ended = plan(&rt, alloc, &bytes, None, &alone(&rt, rule, Some(1_000_000)))?;
     assert!(rt; ended.outcome == Some(Outcome::Done));
     assert!(rt; ended.text.starts_with(b"torches 2\ndark 28\n"));
     let one_leaf = plan(
+        &rt,
         alloc,
         &long_box(&[STONE, AIR], &[ROCK, DUG], &[]).bytes(alloc)?,
         None,
-        &PlanOpts {
-            rule,
-            turns: Some(1),
-        },
+        &alone(&rt, rule, Some(1)),
     )?;
     assert!(rt; one_leaf.outcome == Some(Outcome::Done));
     Ok(())

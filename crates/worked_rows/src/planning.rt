@@ -1,11 +1,13 @@
 //! One run of `plan`, and what is expected of it.
 
 use crate::running::line_of;
-use crate::structure::Structure;
+use cave_files::Structure;
 use std::alloc::{AllocError, Global};
 use std::process::Abort;
+use std::sync::Wait;
 use std::test::Fail;
-use torch_plan::{Outcome, PlanOpts, Rule, run_check, run_plan};
+use std::thread::Threads;
+use torch_plan::{Open, Outcome, PlanOpts, Rule, Workers, run_check, run_plan};
 
 /// How a run ended, or its fault line without `torchplan: `; and what was written to both writers.
 #[derive(Drop)]
@@ -17,7 +19,8 @@ pub struct Planned {
 }
 
 /// Plans these bytes.
-pub fn plan(
+pub fn plan<X: Threads + Wait + Sync>(
+    rt: &X,
     alloc: Global,
     bytes: &[u8],
     table: Option<&[u8]>,
@@ -26,7 +29,16 @@ pub fn plan(
     let mut reader = bytes;
     let mut text = Vec::new(alloc);
     let mut proof = Vec::new(alloc);
-    match run_plan(alloc, &mut reader, table, opts, &mut text, &mut proof) {
+    match run_plan(
+        rt,
+        alloc,
+        &mut reader,
+        table,
+        opts,
+        &Open,
+        &mut text,
+        &mut proof,
+    ) {
         Ok(outcome) => Ok(Planned {
             outcome: Some(outcome),
             refusal: None,
@@ -42,14 +54,24 @@ pub fn plan(
     }
 }
 
-/// With all the turns, under the rule of 1.18.
-pub const FREELY: PlanOpts = PlanOpts {
-    rule: Rule {
-        headroom: 2,
-        need: 1,
-    },
-    turns: None,
-};
+/// So many workers, which are 1 to 64.
+pub fn workers(rt: &impl Abort, count: u32) -> Workers {
+    Workers::new(count).expect(rt, "1 to 64 workers")
+}
+
+/// One worker, with so many turns.
+pub fn alone(rt: &impl Abort, rule: Rule, turns: Option<u64>) -> PlanOpts {
+    PlanOpts {
+        rule,
+        workers: workers(rt, 1),
+        turns,
+    }
+}
+
+/// One worker with all the turns, under the rule of 1.18.
+pub fn freely(rt: &impl Abort) -> PlanOpts {
+    alone(rt, Rule::new(2, 1), None)
+}
 
 /// What a check of the certificate prints, or its fault line.
 pub fn check(
@@ -85,36 +107,38 @@ pub fn is_accepted(
 }
 
 /// The plan has this text.
-pub fn plans(
-    rt: &impl Abort,
+pub fn plans<X: Abort + Threads + Wait + Sync>(
+    rt: &X,
     alloc: Global,
     structure: &Structure<'_>,
     table: Option<&[u8]>,
     text: &str,
 ) -> Result<(), Fail> {
     let bytes = structure.bytes(alloc)?;
-    let planned = plan(alloc, &bytes, table, &FREELY)?;
+    let opts = freely(rt);
+    let planned = plan(rt, alloc, &bytes, table, &opts)?;
     assert!(rt; planned.outcome == Some(Outcome::Done));
     assert_eq!(rt; planned.text.as_slice(), text.as_bytes());
-    is_accepted(rt, alloc, &bytes, table, FREELY.rule, &planned)
+    is_accepted(rt, alloc, &bytes, table, opts.rule, &planned)
 }
 
 /// The plan has so many torches and dark cells.
-pub fn plans_so_many(
-    rt: &impl Abort,
+pub fn plans_so_many<X: Abort + Threads + Wait + Sync>(
+    rt: &X,
     alloc: Global,
     structure: &Structure<'_>,
     table: Option<&[u8]>,
     numbers: [usize; 2],
 ) -> Result<(), Fail> {
     let bytes = structure.bytes(alloc)?;
-    let planned = plan(alloc, &bytes, table, &FREELY)?;
+    let opts = freely(rt);
+    let planned = plan(rt, alloc, &bytes, table, &opts)?;
     let [torches, dark] = numbers;
     let head = format!(in alloc; "torches {torches}\ndark {dark}\nT ")?;
     assert!(rt; planned.outcome == Some(Outcome::Done));
     assert!(rt; planned.text.starts_with(head.as_bytes()));
     assert_eq!(rt; lines_with(&planned.text, b'T'), torches);
-    is_accepted(rt, alloc, &bytes, table, FREELY.rule, &planned)
+    is_accepted(rt, alloc, &bytes, table, opts.rule, &planned)
 }
 
 /// How many lines begin with this byte and a space.

@@ -2,7 +2,7 @@
 
 use crate::caves::{AIR, DUG, EMPTY, FELT_TABLE, ROCK, STONE, fill, gap, long_box, world_by};
 use crate::coverage::{RING, ring_box};
-use crate::structure::{Block, Fill, Structure};
+use cave_files::{Block, Fill, Structure};
 use cave_regions::{split, whole};
 use cover_rows::Problem;
 use std::alloc::Global;

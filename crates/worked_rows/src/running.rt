@@ -1,6 +1,6 @@
 //! One run of `dark`, and what is expected of it.
 
-use crate::structure::Structure;
+use cave_files::Structure;
 use std::alloc::{AllocError, Global};
 use std::process::Abort;
 use std::test::Fail;

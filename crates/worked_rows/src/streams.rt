@@ -1,10 +1,10 @@
 //! Readers and writers that fail.
 
 use crate::caves::PILLAR;
-use crate::planning::FREELY;
+use crate::planning::freely;
 use std::io::{Error, ErrorKind, Read, Result as Done, Write};
 use std::test::Fail;
-use torch_plan::{Rule, RunFault, run_dark, run_plan};
+use torch_plan::{Open, Rule, RunFault, run_dark, run_plan};
 
 /// Gives so many bytes a call, and fails at the call with this number.
 #[derive(Drop)]
@@ -146,6 +146,7 @@ const PLAN: &[u8] = b"torches 1\ndark 1\nT 0 1 0 floor\nlayer 1\nT\n";
 fn a_failed_write_of_a_plan_leaves_a_beginning(rt: HostRuntime) -> Result<(), Fail> {
     let alloc = rt.alloc();
     let bytes = PILLAR.bytes(alloc)?;
+    let opts = freely(&rt);
     for fails_at in 0..PLAN.len() {
         let mut reader = bytes.as_slice();
         let mut writer = Taking {
@@ -154,7 +155,16 @@ fn a_failed_write_of_a_plan_leaves_a_beginning(rt: HostRuntime) -> Result<(), Fa
             fails_at,
         };
         let mut proof = Vec::new(alloc);
-        let ended = run_plan(alloc, &mut reader, None, &FREELY, &mut writer, &mut proof);
+        let ended = run_plan(
+            &rt,
+            alloc,
+            &mut reader,
+            None,
+            &opts,
+            &Open,
+            &mut writer,
+            &mut proof,
+        );
         assert!(rt; matches!(&ended, Err(RunFault::WriteFailed)));
         assert_eq!(rt; writer.taken.as_slice(), &PLAN[..fails_at]);
         assert!(rt; proof.ends_with(b"\nend\n"));
@@ -171,7 +181,18 @@ fn a_failed_write_of_a_certificate_leaves_its_beginning_and_no_plan(
     let mut reader = bytes.as_slice();
     let mut whole = Vec::new(alloc);
     let mut text = Vec::new(alloc);
-    assert!(rt; run_plan(alloc, &mut reader, None, &FREELY, &mut text, &mut whole).is_ok());
+    let opts = freely(&rt);
+    let ended = run_plan(
+        &rt,
+        alloc,
+        &mut reader,
+        None,
+        &opts,
+        &Open,
+        &mut text,
+        &mut whole,
+    );
+    assert!(rt; ended.is_ok());
     assert_eq!(rt; text.as_slice(), PLAN);
     for fails_at in 0..whole.len() {
         let mut reader = bytes.as_slice();
@@ -181,7 +202,16 @@ fn a_failed_write_of_a_certificate_leaves_its_beginning_and_no_plan(
             fails_at,
         };
         let mut text = Vec::new(alloc);
-        let ended = run_plan(alloc, &mut reader, None, &FREELY, &mut text, &mut proof);
+        let ended = run_plan(
+            &rt,
+            alloc,
+            &mut reader,
+            None,
+            &opts,
+            &Open,
+            &mut text,
+            &mut proof,
+        );
         assert!(rt; matches!(&ended, Err(RunFault::WriteFailed)));
         assert_eq!(rt; proof.taken.as_slice(), &whole[..fails_at]);
         assert!(rt; text.is_empty());

@@ -2,7 +2,7 @@
 
 use crate::caves::{AIR, DUG, FELT, FELT_TABLE, ROCK, STONE, long_box, third_at, world_by};
 use crate::running::{dark_by, row_of_cells};
-use crate::structure::{Block, Structure};
+use cave_files::{Block, Structure};
 use cave_model::Hang;
 use light_flood::reach;
 use std::alloc::Global;

@@ -1,5 +1,6 @@
 //! The exact words of faults, and what a command line asks for.
 
+use crate::planning::workers;
 use crate::running::line_of;
 use scan_core::{Field, ScanFault};
 use std::alloc::{AllocError, Global};
@@ -78,7 +79,9 @@ fn dark_asks_for_headroom_2_and_1_18_unless_told(rt: HostRuntime) -> Result<(), 
 }
 
 #[test]
-fn plan_asks_for_no_proof_and_all_turns_unless_told(rt: HostRuntime) -> Result<(), Fail> {
+fn plan_asks_for_no_proof_one_worker_and_all_turns_unless_told(
+    rt: HostRuntime,
+) -> Result<(), Fail> {
     let alloc = rt.alloc();
     let plain = words_of(alloc, "torchplan plan cave.nbt")?;
     let asked = Request::Plan {
@@ -86,19 +89,21 @@ fn plan_asks_for_no_proof_and_all_turns_unless_told(rt: HostRuntime) -> Result<(
         table: None,
         opts: PlanOpts {
             rule: Rule::new(2, 1),
+            workers: workers(&rt, 1),
             turns: None,
         },
         proof: None,
     };
     assert!(rt; request_of(alloc, &plain)? == asked);
     let words =
-        "torchplan plan - --turns 1000000000 --proof out.proof --rule 1.17 --headroom 1 --table t --workers 1";
+        "torchplan plan - --turns 1000000000 --proof out.proof --rule 1.17 --headroom 1 --table t --workers 64";
     let told = words_of(alloc, words)?;
     let asked = Request::Plan {
         file: "-",
         table: Some("t"),
         opts: PlanOpts {
             rule: Rule::new(1, 8),
+            workers: workers(&rt, 64),
             turns: Some(1_000_000_000),
         },
         proof: Some("out.proof"),

@@ -3,5 +3,5 @@ use Rattle.cave_plan.specs.Course.{IsCourse, course}
 use Rattle.cave_plan.proofs.course.planned.Given as goal
 
 abbrev pub invariant-loop-region : goal.invariant-loop-region
-invariant-loop-region l = IsCourse l.yielded l.fn.turns
+invariant-loop-region g l = IsCourse l.yielded l.fn.turns
     (course l.course.torches.items l.course.floor l.course.stopped (plans_of l.course.parts.items))

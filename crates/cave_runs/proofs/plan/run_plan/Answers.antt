@@ -9,10 +9,10 @@ use Rattle.cave_runs.proofs.plan.run_plan.Goals as goal
 pub returns-in_err-world-clause-fault : goal.returns-in_err-world-clause-fault
 returns-in_err-world-clause-fault g c =
     let p = err_from_is_err_and c.from_residual-in_err-world.result c.from_residual-in_err-world.ensures.1 in
-    rw (p.1, p.2) (λ of_input. no_plan_input (g.R.Read.remaining c.args.reader.now) c.in_ok-bytes.bytes.items
+    rw (p.1, p.2) (λ of_input thread. no_plan_input (g.R.Read.remaining c.args.reader.now) c.in_ok-bytes.bytes.items
     (option_copied c.args.table) (rule_of c.args.opts.now.rule) c.in_err-world.field-0.0
     c.in_ok-bytes.ensures.all c.in_ok-bytes.ensures.within
-    (rw c.deref.ensures.value at (c.in_err-world.ensures.fault of_input.2)))
+    (rw c.deref.ensures.value at (c.in_err-world.ensures.fault of_input.2 thread)))
 
 pub returns-in_err-world-clause-refused : goal.returns-in_err-world-clause-refused
 returns-in_err-world-clause-refused g c =

@@ -12,5 +12,6 @@ loop-number-preserved c =
       stocked = subst (AreStocked c.args.pieces.items) (sym pushed)
           (stocked_push c.args.pieces.items owners owner c.loop-number.invariant.stocked
           (subst (λ l. HasPushed l owner) c.new.ensures.items c.in_ok-stocked-2.ensures));
-      each = (let e = ap length pushed ∙ length-push owners owner in let i = c.loop-number.invariant.each in omega (arith, e, i));
+      each = (let e = ap length pushed ∙ length-push owners owner in
+          let i = c.loop-number.invariant.each in omega (arith, e, i));
     }

@@ -1,9 +1,8 @@
-use Rattle.std.proofs.Common.{◌≡◌, ℕ, ◌+◌, List, length, refl, sym, ap, ◌∙◌, subst, arith}
+use Rattle.std.proofs.Common.{ℕ, List, sym, ap, ◌∙◌, subst, arith}
 use Rattle.std.specs.Arc.{arc_value}
 use Rattle.cave_regions.specs.Cover.{Covering}
 use Rattle.proof_rules.specs.Tree.{Tree}
-use Rattle.proof_tree.specs.Shape.{tree_of}
-use Rattle.gathering.specs.Gathered.{Gathering, IsGathered}
+use Rattle.gathering.specs.Gathered.{IsGathered}
 use Rattle.schedule_law.specs.Worked.{Worked}
 use Rattle.search_pool.specs.Reports.{sum_of}
 use Rattle.search_pool.specs.Tallies.{AreCounted}

@@ -1,4 +1,4 @@
-use Rattle.std.proofs.Common.{◌≡◌, ◌+◌, ◌∙◌, refl, ap, arith}
+use Rattle.std.proofs.Common.{◌∙◌, refl, ap, arith}
 use Rattle.proof_tree.specs.Shape.{tree_of}
 use Rattle.search_core.proofs.AloneLemmas.{best_proved}
 use Rattle.search_pool.specs.Reports.{sum_of}

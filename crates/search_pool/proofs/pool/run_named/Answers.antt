@@ -1,4 +1,4 @@
-use Rattle.std.proofs.Common.{◌≡◌, ◌∙◌, length, ap, sym, arith}
+use Rattle.std.proofs.Common.{◌≡◌, ◌∙◌, length, ap, arith}
 use Rattle.search_pool.proofs.SlotLemmas.{in_a_row, length-map, owned_long}
 use Rattle.search_pool.proofs.CrewLemmas.{few_workers}
 use Rattle.worker_results.specs.Naming.{numbers_from}
@@ -35,7 +35,8 @@ returns g c =
     let long = owned_long c.in_ok-passes.passes.owned.items g.B.Naming.workers c.in_ok-passes.ensures.numbers in
     record {
       joined = joined.joined c.args.root.now c.requires.root c.requires.start;
-      each = (let w = ap length joined.works in let m = length-map (λ (done : Handed). work_of done.share done.cover) c.in_ok-separated.separated.results.items in
+      each = (let w = ap length joined.works in
+          let m = length-map (λ (done : Handed). work_of done.share done.cover) c.in_ok-separated.separated.results.items in
           let s = ap length c.in_ok-separated.ensures in let l = c.in_ok-ended.ensures.1 in
           let each = c.in_ok-slots.ensures.each in let same = c.requires.few.0 in
           let slice = c.as_slice.ensures.len in omega (arith, w, m, s, l, long, each, same, slice));

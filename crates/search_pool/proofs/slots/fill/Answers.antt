@@ -1,7 +1,6 @@
-use Rattle.std.proofs.Common.{◌≡◌, ◌∙◌, [], All, List, length, subst, sym, ap, arith}
+use Rattle.std.proofs.Common.{◌≡◌, ◌∙◌, [], List, length, ap, arith}
 use Rattle.std.proofs.lemmas.List.Elements.{All-rest, All-pop}
-use Rattle.beacon.specs.Marks.{Seated}
-use Rattle.worker_results.specs.Passes.{Owned, Reached, all_taken}
+use Rattle.worker_results.specs.Passes.{Reached, all_taken}
 use Rattle.worker_results.specs.Results.{IsNewSeatAt}
 use Rattle.search_pool.specs.Slots.{IsReady}
 use Rattle.search_pool.proofs.SlotLemmas.{length-push}

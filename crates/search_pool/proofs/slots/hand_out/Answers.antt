@@ -1,6 +1,6 @@
 use Rattle.std.proofs.Common.{◌≡◌, ◌+◌, ◌∙◌, [], All, List, length, subst, sym, ap, arith}
 use Rattle.std.proofs.lemmas.List.Elements.{All-push}
-use Rattle.worker_results.specs.Passes.{Owned, Reached, all_taken, deques}
+use Rattle.worker_results.specs.Passes.{Reached, all_taken, deques}
 use Rattle.search_pool.specs.Slots.{IsReady, numbers_of}
 use Rattle.search_pool.proofs.SlotLemmas.{deques_out, length-push, none_taken, numbers_out, one_more}
 use Rattle.search_pool.proofs.slots.hand_out.Goals as goal

@@ -1,4 +1,4 @@
-use Rattle.std.proofs.Common.{◌≡◌, ◌+◌, ◌∷◌, ◌++◌, [], ℕ, List, ◌∙◌, All, append_assoc, length, subst, sym, ap, arith}
+use Rattle.std.proofs.Common.{◌+◌, ◌∷◌, ◌++◌, [], ℕ, List, ◌∙◌, All, append_assoc, length, subst, sym, ap, arith}
 use Rattle.std.proofs.lemmas.List.Elements.{All-push}
 use Rattle.worker_results.specs.Naming.{numbers_from}
 use Rattle.worker_results.specs.Passes.{Owned}

@@ -1,4 +1,4 @@
-use Rattle.std.proofs.Common.{◌≡◌, ◌+◌, All, length, true}
+use Rattle.std.proofs.Common.{◌≡◌, All, length}
 use Rattle.worker_results.specs.Results.{IsNewSeatAt}
 use Rattle.search_pool.specs.Seats.{SplitsOff}
 use Rattle.search_pool.proofs.slots.split_seats.Given as goal

@@ -1,4 +1,4 @@
-use Rattle.std.proofs.Common.{List, ap, subst}
+use Rattle.std.proofs.Common.{List, subst}
 use Rattle.proof_tree.specs.Piece.{Subproblem}
 use Rattle.joined_results.specs.Joining.{StartWith}
 use Rattle.search_pool.specs.Deques.{AreThievesOf, pushed_at}

@@ -1,0 +1,56 @@
+//! Why a region or a cave has no plan.
+ghost use Rattle.std.specs.Prelude.{◌≡◌};
+ghost use Rattle.cave_plan.specs.Faults.{of_cover};
+ghost use Rattle.cave_plan.specs.declared.fault.PlanFault.TheVariants.{OutOfMemory};
+
+use cave_regions::Cover;
+use cover_rows::CoverFault;
+use scan_core::Cell;
+use std::alloc::{AllocError, AllocFailed};
+
+/// Why a region has no plan.
+#[derive(Drop)]
+pub(crate) enum RegionFault {
+    /// The turns were spent: the best cover so far, and a size that no cover is below.
+    Stopped { cover: Cover, floor: u64 },
+    /// No worker could be started.
+    NoThread,
+    OutOfMemory,
+}
+
+/// Why a cave has no plan.
+#[derive(Clone, Copy, Debug, PartialEq, Eq)]
+pub enum PlanFault {
+    /// A dark cell that no place lights.
+    Unlightable { cell: Cell },
+    /// No worker could be started.
+    NoThread,
+    OutOfMemory,
+}
+
+impl From<CoverFault> for PlanFault {
+    ghost from_gives = { λ e r. r ≡ of_cover e };
+
+    fn from(fault: CoverFault) -> PlanFault {
+        match fault {
+            CoverFault::Unlightable { cell } => PlanFault::Unlightable { cell },
+            CoverFault::OutOfMemory => PlanFault::OutOfMemory,
+        }
+    }
+}
+
+impl From<AllocError> for PlanFault {
+    ghost from_gives = { λ _ e. e ≡ OutOfMemory };
+
+    fn from(_e: AllocError) -> PlanFault {
+        PlanFault::OutOfMemory
+    }
+}
+
+impl<T: Drop> From<AllocFailed<T>> for PlanFault {
+    ghost from_gives = { λ _ e. e ≡ OutOfMemory };
+
+    fn from(_e: AllocFailed<T>) -> PlanFault {
+        PlanFault::OutOfMemory
+    }
+}
