@@ -6,6 +6,8 @@ use std::fs::{self, File};
 use std::io::Read;
 use std::os::unix::fs::MetadataExt;
 use std::process::ExitCode;
+use std::sync::Wait;
+use std::thread::Threads;
 use std::{env, io};
 use torch_plan::{
     Open, Outcome, PlanOpts, Request, Rule, RunFault, Unkept, Verdict, read_table, request_of,
@@ -92,9 +94,11 @@ fn is_input(rt: &HostRuntime, proof: &str, file: &str, table: Option<&str>) -> b
     is_same(rt, proof, file) || matches!(table, Some(table) if is_same(rt, proof, table))
 }
 
-/// Plans what the reader has. The file for the proof is made, or emptied, before it is read.
-fn plan_from<R: Read>(
+/// Plans what the reader has. The file for the proof is made, or emptied, before it is read. `threads` is the same
+/// runtime, which may start workers.
+fn plan_from<X: Threads + Wait + Sync, R: Read>(
     rt: &HostRuntime,
+    threads: &X,
     reader: &mut R,
     table: Option<&[u8]>,
     opts: &PlanOpts,
@@ -104,7 +108,7 @@ fn plan_from<R: Read>(
     let mut output = io::writer(rt);
     let Some(path) = proof else {
         return run_plan(
-            rt,
+            threads,
             alloc,
             reader,
             table,
@@ -116,7 +120,7 @@ fn plan_from<R: Read>(
     };
     match File::create(rt, path) {
         Ok(mut kept) => run_plan(
-            rt,
+            threads,
             alloc,
             reader,
             table,
@@ -129,8 +133,9 @@ fn plan_from<R: Read>(
     }
 }
 
-fn plan(
+fn plan<X: Threads + Wait + Sync>(
     rt: &HostRuntime,
+    threads: &X,
     file: &str,
     table: Option<&str>,
     opts: &PlanOpts,
@@ -139,17 +144,18 @@ fn plan(
     let table = table_of(rt, table)?;
     let table = table.as_deref();
     if file == "-" {
-        return plan_from(rt, &mut rt.reader(), table, opts, proof);
+        return plan_from(rt, threads, &mut rt.reader(), table, opts, proof);
     }
     match File::open(rt, file) {
-        Ok(mut input) => plan_from(rt, &mut input, table, opts, proof),
+        Ok(mut input) => plan_from(rt, threads, &mut input, table, opts, proof),
         Err(_) => Err(RunFault::ReadFailed),
     }
 }
 
 /// The status of a plan: 5 where it was stopped.
-fn planned(
+fn planned<X: Threads + Wait + Sync>(
     rt: &HostRuntime,
+    threads: &X,
     file: &str,
     table: Option<&str>,
     opts: &PlanOpts,
@@ -159,7 +165,7 @@ fn planned(
         let _ = eprintln!(rt; "error: --proof would write over a file that is read");
         return ExitCode::from(2);
     }
-    match plan(rt, file, table, opts, proof) {
+    match plan(rt, threads, file, table, opts, proof) {
         Ok(Outcome::Done) => ExitCode::from(0),
         Ok(Outcome::Stopped) => ExitCode::from(5),
         Err(fault) => refused(rt, &fault),
@@ -227,7 +233,7 @@ fn main(rt: HostRuntime) -> ExitCode {
                 opts,
                 proof,
             },
-        ) => planned(&rt, file, table, &opts, proof),
+        ) => planned(&rt, &rt, file, table, &opts, proof),
         Ok(
             Request::Check {
                 file,
