@@ -5,8 +5,6 @@
 #[cfg(test)]
 mod beacons;
 #[cfg(test)]
-mod deques;
-#[cfg(test)]
 mod desks;
 #[cfg(test)]
 mod enabled;
