@@ -13,9 +13,11 @@ use Rattle.beacon.proofs.SeatLemmas.{set_at, unspent_set, unspent_snoc, unspent_
 use Rattle.beacon.proofs.MarkLemmas.{at_least_lesser, lesser_left, lesser_right, told_set}
 use Rattle.beacon.proofs.StepLemmas.{Rule, kept}
 
+-- an unset flag isn't set
 off : false ≡ true → ⊥
 off e = true≢false (sym e)
 
+-- the first seat may be split, and the rule stays
 pub splits : (id : ℕ) (v : Known) → v.first ≡ true → v.spent ≡ false
     → Splits Rule id v (one_more_out v) (newcomer v)
 splits id v first live s h at =
@@ -76,6 +78,7 @@ told_join word seats id v other u at live was apart mine theirs t = here (ℕ_di
           t.4,
         )
 
+-- a seat that comes back may be joined, and the rule stays
 pub joins : (id : ℕ) (v : Known) (other : ℕ) (u : Known) → v.first ≡ true → v.spent ≡ false
     → u.spent ≡ false → Joins Rule id v other u (together v u) nobody
 joins id v other u first live live2 s h at apart there =

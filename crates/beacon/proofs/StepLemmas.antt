@@ -47,6 +47,7 @@ changes n f words seats id v w k at live first alive out is less below told =
     ((λ p. below_less n k.word u less (h.0 p)), (λ p. ((h.1 p).0, count ∙ (h.1 p).1))))
     (at_set seats id j w u e))
 
+-- the word begins as the least size told
 pub begins : (size : ℕ) → IsLeastTold (size ∷ []) (at_first size ∷ [])
 begins size =
     kept size 0 (size ∷ []) (at_first size ∷ []) refl (0, at_first size, refl, refl, refl) one
@@ -57,6 +58,7 @@ begins size =
         ((λ _. (le_refl size, le_refl size)), (λ _. (refl, omega arith)))
     one (suc i) v e = absurd (some-ne-none v (sym e))
 
+-- a look by an unspent seat keeps the rule
 pub looks : (slots id : ℕ) (me : Me ℕ Known) → me.0.spent ≡ false
     → Allows Rule slots id me 0 (λ n. n) (λ n after. Looked me.0 n after.0 × (after.1 ≡ me.1))
 looks slots id me live s h len at small =
@@ -90,6 +92,7 @@ told_min word t seats id v at live below told (no more) =
     subst (λ n. IsTold n (set seats id (told_too v t))) same
     (id, told_too v t, set_at seats id v (told_too v t) at, live, is)
 
+-- a tell by an unspent seat keeps the rule
 pub tells : (slots id : ℕ) (me : Me ℕ Known) (t : ℕ) → me.0.spent ≡ false
     → Allows Rule slots id me 0 (λ n. min n t) (λ n after. (after.0 ≡ told_too me.0 t) × (after.1 ≡ me.1))
 tells slots id me t live s h len at small =

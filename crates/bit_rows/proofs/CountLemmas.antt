@@ -1,5 +1,7 @@
 -- Counting bits, word by word.
-use Rattle.std.proofs.Common.{◌≡◌, ◌≢◌, ℕ, zero, suc, ◌+◌, ◌-◌, ◌*◌, ◌/◌, ◌%◌, ◌^◌, ◌<◌, ◌≤◌, List, [], ◌∷◌, ◌++◌, length, slice_index, Contains, refl, sym, ap, subst, ◌∙◌, arith, inl, inr, length-append, min, count_ones}
+use Rattle.std.proofs.Common.{◌≡◌, ◌≢◌, ℕ, zero, suc, ◌+◌, ◌-◌, ◌*◌, ◌/◌, ◌%◌, ◌^◌, ◌<◌, ◌≤◌, List, [], ◌∷◌, ◌++◌}
+use Rattle.std.proofs.Common.{length, slice_index, Contains, refl, sym, ap, subst, ◌∙◌, arith, inl, inr}
+use Rattle.std.proofs.Common.{length-append, min, count_ones}
 use Rattle.std.specs.Prelude.{◌↔◌, AllPairs}
 use Rattle.std.specs.Int.{bit_at}
 use lib.Bits.{bit_and}
@@ -22,6 +24,7 @@ record OfWord (word base : ℕ) : Type 0 where
   pub exact : (bit : ℕ) → Contains bits bit ↔ ((base ≤ bit) × (bit_at word (bit - base) ≡ 1))
   pub long : length bits ≡ count_ones word
 
+-- the word zero has no bits
 no_bits : (base : ℕ) → OfWord 0 base
 no_bits base = record {
   bits = [];
@@ -43,7 +46,8 @@ with_low word base half = elim (cases_eq (word % 2) 1) [
       ]),
       λ b. (elim (cases_lt base bit) [
         | inl lt ↦ cons_later base half.bits bit ((half.exact bit).1 (omega arith, sym (up bit (omega arith)) ∙ b.1))
-        | inr le ↦ (let e : base ≡ bit = omega (arith, b.0) in subst (Contains (base ∷ half.bits)) e (cons_here base half.bits))
+        | inr le ↦ (let e : base ≡ bit = omega (arith, b.0) in subst (Contains (base ∷ half.bits)) e
+            (cons_here base half.bits))
       ]),
     );
     long = omega (arith, half.long, ones_step word);
@@ -73,6 +77,7 @@ with_low word base half = elim (cases_eq (word % 2) 1) [
         step : (bit : ℕ) → base + 1 ≤ bit → bit - base ≡ suc (bit - (base + 1))
         step bit le = omega arith
 
+-- the bits of a word are as many as its ones
 of_word : (size word base : ℕ) → word ≤ size → OfWord word base
 of_word zero word base le = subst (λ (w : ℕ). OfWord w base) (omega arith) (no_bits base)
 of_word (suc size) word base le = elim (cases_eq word 0) [
@@ -90,6 +95,7 @@ pub record Counting (word : ℕ → ℕ) (index total : ℕ) : Type 0 where
   pub long : length bits ≡ total
   pub small : total ≤ 64 * index
 
+-- before the first word there are no bits
 pub counting_none : (word : ℕ → ℕ) → Counting word 0 0
 counting_none word = record {
   bits = [];
@@ -99,37 +105,51 @@ counting_none word = record {
   small = omega arith;
 }
 
-pub counting_more : (word : ℕ → ℕ) (index total : ℕ) → word index < 2 ^ 64 → Counting word index total → Counting word (index + 1) (total + count_ones (word index))
+-- the next word adds its ones
+pub counting_more : (word : ℕ → ℕ) (index total : ℕ) → word index < 2 ^ 64 → Counting word index total
+    → Counting word (index + 1) (total + count_ones (word index))
 counting_more word index total fits s =
     let here = of_word (word index) (word index) (64 * index) (omega arith) in
-    let inside : (bit : ℕ) → Contains here.bits bit → (bit / 64 ≡ index) × (bit_at (word index) (bit % 64) ≡ 1) = λ (bit : ℕ) (has : Contains here.bits bit). place bit ((here.exact bit).0 has) in
+    let inside : (bit : ℕ) → Contains here.bits bit → (bit / 64 ≡ index) × (bit_at (word index) (bit % 64) ≡ 1) =
+    λ (bit : ℕ) (has : Contains here.bits bit). place bit ((here.exact bit).0 has) in
     record {
       bits = s.bits ++ here.bits;
-      once = once_append s.bits here.bits s.once here.once (λ y h i. (let a = (s.exact y).0 h in let b = inside y i in omega (arith, a.0, b.0)));
+      once = once_append s.bits here.bits s.once here.once
+          (λ y h i. (let a = (s.exact y).0 h in let b = inside y i in omega (arith, a.0, b.0)));
       exact = λ bit. (
         λ has. (elim (Contains-append_cases s.bits here.bits bit has) [
           | inl old ↦ (let a = (s.exact bit).0 old in (omega (arith, a.0), a.1))
-          | inr new ↦ (let b = inside bit new in (omega (arith, b.0), subst (λ (k : ℕ). bit_at (word k) (bit % 64) ≡ 1) (sym b.0) b.1))
+          | inr new ↦ (let b = inside bit new in
+              (omega (arith, b.0), subst (λ (k : ℕ). bit_at (word k) (bit % 64) ≡ 1) (sym b.0) b.1))
         ]),
         λ b. (elim (cases_lt (bit / 64) index) [
           | inl lt ↦ Contains-append_left s.bits here.bits bit ((s.exact bit).1 (lt, b.1))
           | inr le ↦ (let at : bit / 64 ≡ index = omega (arith, b.0) in
               let low : bit % 64 ≡ bit - 64 * index = omega arith in
-              Contains-append_right s.bits here.bits bit ((here.exact bit).1 (omega arith, subst (λ (i : ℕ). bit_at (word index) i ≡ 1) low (subst (λ (k : ℕ). bit_at (word k) (bit % 64) ≡ 1) at b.1))))
+              Contains-append_right s.bits here.bits bit
+              ((here.exact bit).1 (
+                omega arith,
+                subst (λ (i : ℕ). bit_at (word index) i ≡ 1) low
+                    (subst (λ (k : ℕ). bit_at (word k) (bit % 64) ≡ 1) at b.1),
+              )))
         ]),
       );
       long = omega (arith, length-append s.bits here.bits, s.long, here.long);
       small = omega (arith, s.small, ones-le 64 (word index) fits);
     }
   where
-    place : (bit : ℕ) → (64 * index ≤ bit) × (bit_at (word index) (bit - 64 * index) ≡ 1) → (bit / 64 ≡ index) × (bit_at (word index) (bit % 64) ≡ 1)
+    place : (bit : ℕ) → (64 * index ≤ bit) × (bit_at (word index) (bit - 64 * index) ≡ 1)
+        → (bit / 64 ≡ index) × (bit_at (word index) (bit % 64) ≡ 1)
     place bit b = elim (cases_lt (bit - 64 * index) 64) [
-      | inl lt ↦ (let low : bit - 64 * index ≡ bit % 64 = omega (arith, b.0) in (omega (arith, b.0), subst (λ (i : ℕ). bit_at (word index) i ≡ 1) low b.1))
+      | inl lt ↦ (let low : bit - 64 * index ≡ bit % 64 = omega (arith, b.0) in
+          (omega (arith, b.0), subst (λ (i : ℕ). bit_at (word index) i ≡ 1) low b.1))
       | inr past ↦ (let none = bit_at_above (word index) 64 (bit - 64 * index) fits past in absurd (omega (arith, b.1)))
     ]
 
 -- all words are counted
-pub counting_all : (Kind : ℕ → Type 0) (word : ℕ → ℕ) (index total : ℕ) → ((bit : ℕ) → Kind bit ↔ ((bit / 64 < index) × (bit_at (word (bit / 64)) (bit % 64) ≡ 1))) → Counting word index total → IsCount Kind total
+pub counting_all : (Kind : ℕ → Type 0) (word : ℕ → ℕ) (index total : ℕ)
+    → ((bit : ℕ) → Kind bit ↔ ((bit / 64 < index) × (bit_at (word (bit / 64)) (bit % 64) ≡ 1)))
+    → Counting word index total → IsCount Kind total
 counting_all Kind word index total is s = record {
   some = (s.bits, record { once = s.once; exact = same });
   every = λ bits other. (
@@ -143,7 +163,9 @@ counting_all Kind word index total is s = record {
 
 -- ---- of one row, and of two
 
-pub of_row : (words : List ℕ) (index : ℕ) → length words ≤ index → (bit : ℕ) → Has words bit ↔ ((bit / 64 < index) × (bit_at (slice_index words (bit / 64)) (bit % 64) ≡ 1))
+-- the bits of a row are those of its words
+pub of_row : (words : List ℕ) (index : ℕ) → length words ≤ index → (bit : ℕ)
+    → Has words bit ↔ ((bit / 64 < index) × (bit_at (slice_index words (bit / 64)) (bit % 64) ≡ 1))
 of_row words index all bit = (
   λ h. (elim (cases_lt (bit / 64) (length words)) [
     | inl lt ↦ (omega arith, one_if words bit h)
@@ -152,7 +174,10 @@ of_row words index all bit = (
   λ b. has_if words bit b.1,
 )
 
-pub of_two : (one two : List ℕ) (index : ℕ) → length one ≤ index → (bit : ℕ) → (Has one bit × Has two bit) ↔ ((bit / 64 < index) × (bit_at (bit_and (slice_index one (bit / 64)) (slice_index two (bit / 64))) (bit % 64) ≡ 1))
+-- the common bits of two rows are those of their words and-ed
+pub of_two : (one two : List ℕ) (index : ℕ) → length one ≤ index → (bit : ℕ)
+    → (Has one bit × Has two bit)
+    ↔ ((bit / 64 < index) × (bit_at (bit_and (slice_index one (bit / 64)) (slice_index two (bit / 64))) (bit % 64) ≡ 1))
 of_two one two index all bit = (
   λ h. (let a = (of_row one index all bit).0 h.0 in (a.0, omega (arith, both, a.1, one_if two bit h.1))),
   λ b. (
@@ -161,5 +186,6 @@ of_two one two index all bit = (
   ),
 )
   where
-    both : bit_at (bit_and (slice_index one (bit / 64)) (slice_index two (bit / 64))) (bit % 64) ≡ min (bit_at (slice_index one (bit / 64)) (bit % 64)) (bit_at (slice_index two (bit / 64)) (bit % 64))
+    both : bit_at (bit_and (slice_index one (bit / 64)) (slice_index two (bit / 64))) (bit % 64) ≡ min
+        (bit_at (slice_index one (bit / 64)) (bit % 64)) (bit_at (slice_index two (bit / 64)) (bit % 64))
     both = bit_at_and (slice_index one (bit / 64)) (slice_index two (bit / 64)) (bit % 64)

@@ -4,15 +4,18 @@ use Rattle.std.proofs.lemmas.Bool.{eqb-true}
 use Rattle.block_rows.specs.declared.class.Class.{Class}
 use Rattle.block_rows.specs.Class.{IsSoundClass, gives_way_as_air}
 
+-- where both hold each does
 pub both_true : (a b : Bool) → (a && b) ≡ true → (a ≡ true) × (b ≡ true)
 both_true true true e = (refl, refl)
 both_true true false e = absurd (cc)
 both_true false b e = absurd (cc)
 
+-- what follows from what holds, holds
 then_true : (a b : Bool) → (not a || b) ≡ true → IsTrue a → b ≡ true
 then_true true b e h = e
 then_true false b e h = absurd (cc)
 
+-- what isn't so is false
 not_true : (a : Bool) → not a ≡ true → a ≡ false
 not_true true e = absurd (cc)
 not_true false e = refl
@@ -26,6 +29,7 @@ record IsAsAir (class : Class) : Type 0 where
   no_top : class.top ≡ false
   no_side : class.side ≡ false
 
+-- a class that gives way to torches is as air
 as_air : (class : Class) → gives_way_as_air class ≡ true → IsTrue class.put → IsAsAir class
 as_air class e put =
     let all = then_true class.put _ e put in
@@ -43,7 +47,9 @@ as_air class e put =
       no_side = not_true class.side a.1;
     }
 
-pub sound_class : (class : Class) → class.opacity ≤ 15 → class.emission ≤ 15 → gives_way_as_air class ≡ true → IsSoundClass class
+-- levels of at most 15, and giving way as air alone, make a class sound
+pub sound_class : (class : Class) → class.opacity ≤ 15 → class.emission ≤ 15 → gives_way_as_air class ≡ true
+    → IsSoundClass class
 sound_class class thin faint e = record {
   thin = thin;
   faint = faint;

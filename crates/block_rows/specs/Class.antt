@@ -23,4 +23,6 @@ pub record IsSoundClass (class : Class) : Type 0 where
 
 -- the test of it: what gives way to a torch is as air
 abbrev pub gives_way_as_air : Class → Bool
-gives_way_as_air class = not class.put || (nat_eq class.opacity 0 && nat_eq class.emission 0 && class.free && not class.stand && not class.top && not class.side)
+gives_way_as_air class = not class.put
+    || (nat_eq class.opacity 0 && nat_eq class.emission 0 && class.free && not class.stand
+    && not class.top && not class.side)

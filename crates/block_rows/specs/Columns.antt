@@ -1,5 +1,6 @@
 -- The columns of a row of the user's table, as the members of a TOML table tell them. They are this project's own.
-use Rattle.std.specs.Prelude.{ℕ, ℤ, pos, Bool, true, false, ◌&&◌, nat_le, List, [], ◌∷◌, codes, bytes_eq, Option, Some, None, unwrap_or, option_map, option_and_then, if◌then◌else◌}
+use Rattle.std.specs.Prelude.{ℕ, ℤ, pos, Bool, true, false, ◌&&◌, nat_le, List, [], ◌∷◌, codes, bytes_eq, Option}
+use Rattle.std.specs.Prelude.{Some, None, unwrap_or, option_map, option_and_then, if◌then◌else◌}
 use Rattle.std.specs.List.{list_any}
 use Rattle.toml.specs.Data.{Data, Members, no_members, member, get_member, as_str, as_integer, as_bool, as_table}
 use Rattle.block_rows.specs.declared.class.Class.{Class}
@@ -27,7 +28,8 @@ level_of d = option_and_then small (as_integer d)
 -- properties, each with its value, where each value is a text
 abbrev pub texts_of : Members → Option (List (List ℕ × List ℕ))
 texts_of no_members = Some []
-texts_of (member property d ms) = option_and_then (λ value. option_map (λ others. (property, value) ∷ others) (texts_of ms)) (as_str d)
+texts_of (member property d ms) =
+    option_and_then (λ value. option_map (λ others. (property, value) ∷ others) (texts_of ms)) (as_str d)
 
 -- the properties that a table asks for
 abbrev pub conditions_of : Data → Option (List (List ℕ × List ℕ))

@@ -17,4 +17,8 @@ rows_in line = map (λ name. record { name = PREFIX.now ++ name; when = line.whe
 
 -- a line as the code has it
 abbrev pub line_of : Bor (List (Bor (List ℕ))) × Bor (List (Bor (List ℕ) × Bor (List ℕ))) × Class → Line
-line_of line = record { names = map (λ name. name.now) line.0.now; when = map (λ asked. (asked.0.now, asked.1.now)) line.1.now; class = line.2 }
+line_of line = record {
+  names = map (λ name. name.now) line.0.now;
+  when = map (λ asked. (asked.0.now, asked.1.now)) line.1.now;
+  class = line.2;
+}

@@ -5,11 +5,13 @@ use Rattle.block_rows.specs.declared.class.Class.{Class}
 
 -- a row for each name, which stands behind the game's prefix, with the properties that it asks for
 abbrev pub rows_named : List (List ℕ) → List (List ℕ × List ℕ) → Class → List Row
-rows_named names when class = map (λ name. record { name = codes "minecraft:" ++ name; when = when; class = class }) names
+rows_named names when class =
+    map (λ name. record { name = codes "minecraft:" ++ name; when = when; class = class }) names
 
 -- a class by its columns: opacity, emission, free, stand, put, top, side
 abbrev pub columns : ℕ → ℕ → Bool → Bool → Bool → Bool → Bool → Class
-columns opacity emission free stand put top side = record { opacity = opacity; emission = emission; free = free; stand = stand; put = put; top = top; side = side }
+columns opacity emission free stand put top side =
+    record { opacity = opacity; emission = emission; free = free; stand = stand; put = put; top = top; side = side }
 
 -- the blocks that fill their cell, give no light, and hold whatever stands on them or hangs on their sides
 abbrev pub full_blocks : List (List ℕ)
@@ -40,12 +42,15 @@ shipped_rows =
     ++ rows_named (codes "soul_torch" ∷ codes "soul_wall_torch" ∷ []) [] (columns 0 10 true false false false false)
     ++ rows_named (codes "lantern" ∷ []) [] (columns 0 15 false false false false false)
     ++ rows_named (codes "soul_lantern" ∷ []) [] (columns 0 10 false false false false false)
-    ++ rows_named (codes "glowstone" ∷ codes "sea_lantern" ∷ codes "shroomlight" ∷ []) [] (columns 15 15 false false false true true)
+    ++ rows_named (codes "glowstone" ∷ codes "sea_lantern" ∷ codes "shroomlight" ∷ []) []
+    (columns 15 15 false false false true true)
     ++ rows_named (codes "magma_block" ∷ []) [] (columns 15 3 false false false true true)
     ++ rows_named (codes "jack_o_lantern" ∷ []) [] (columns 15 15 false true false true true)
-    ++ rows_named (codes "redstone_lamp" ∷ []) ((codes "lit", codes "true") ∷ []) (columns 15 15 false true false true true)
+    ++ rows_named (codes "redstone_lamp" ∷ []) ((codes "lit", codes "true") ∷ [])
+    (columns 15 15 false true false true true)
     ++ rows_named (codes "redstone_lamp" ∷ []) [] (columns 15 0 false true false true true)
-    ++ rows_named (codes "rail" ∷ codes "powered_rail" ∷ codes "detector_rail" ∷ codes "activator_rail" ∷ []) [] (columns 0 0 false false false false false)
+    ++ rows_named (codes "rail" ∷ codes "powered_rail" ∷ codes "detector_rail" ∷ codes "activator_rail" ∷ []) []
+    (columns 0 0 false false false false false)
 
 -- rows of one name differ in what they ask for
 abbrev pub AreDistinctRows : List Row → Type 0

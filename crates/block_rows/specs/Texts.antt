@@ -2,7 +2,8 @@
 use Rattle.std.specs.Prelude.{ℕ, List, ◌++◌, codes}
 use Rattle.std.specs.Fmt.{decimal}
 use Rattle.block_rows.specs.declared.fault.RowFault.{RowFault}
-use Rattle.block_rows.specs.declared.fault.RowFault.TheVariants.{Shape, UnknownKey, BadName, BadWhen, BadNumber, BadFlag, PutNotPlain}
+use Rattle.block_rows.specs.declared.fault.RowFault.TheVariants.{Shape, UnknownKey, BadName, BadWhen, BadNumber}
+use Rattle.block_rows.specs.declared.fault.RowFault.TheVariants.{BadFlag, PutNotPlain}
 use Rattle.block_rows.specs.declared.fault.RowsFault.{RowsFault}
 use Rattle.block_rows.specs.declared.fault.RowsFault.TheVariants.{Toml, BadRow, OutOfMemory}
 

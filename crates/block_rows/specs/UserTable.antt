@@ -1,15 +1,19 @@
 -- The user's table: a TOML document with an array of tables under `row`, and its first fault.
 -- What a text means is the word of the crate `toml`; the rest is this project's own.
-use Rattle.std.specs.Prelude.{◌≡◌, ℕ, ◌<◌, ◌⊎◌, Bool, true, false, not, ◌&&◌, ◌||◌, List, [], ◌∷◌, ◌++◌, codes, IsUtf8, Option, Some, None, is_some, is_none, unwrap_or, option_map, option_and_then, option_to_list, if◌then◌else◌}
+use Rattle.std.specs.Prelude.{◌≡◌, ℕ, ◌<◌, ◌⊎◌, Bool, true, false, not, ◌&&◌, ◌||◌, List, [], ◌∷◌, ◌++◌, codes}
+use Rattle.std.specs.Prelude.{IsUtf8, Option, Some, None, is_some, is_none, unwrap_or, option_map, option_and_then}
+use Rattle.std.specs.Prelude.{option_to_list, if◌then◌else◌}
 use Rattle.toml.specs.Data.{Data, Items, no_items, item, Members, get_item, get_member, as_array, as_table}
 use Rattle.toml.specs.Parse.{parse_document}
 use Rattle.block_rows.specs.Class.{gives_way_as_air}
 use Rattle.block_rows.specs.declared.row.Row.{Row}
 use Rattle.block_rows.specs.declared.fault.RowFault.{RowFault}
-use Rattle.block_rows.specs.declared.fault.RowFault.TheVariants.{Shape, UnknownKey, BadName, BadWhen, BadNumber, BadFlag, PutNotPlain}
+use Rattle.block_rows.specs.declared.fault.RowFault.TheVariants.{Shape, UnknownKey, BadName, BadWhen, BadNumber}
+use Rattle.block_rows.specs.declared.fault.RowFault.TheVariants.{BadFlag, PutNotPlain}
 use Rattle.block_rows.specs.declared.fault.RowsFault.{RowsFault}
 use Rattle.block_rows.specs.declared.fault.RowsFault.TheVariants.{Toml, BadRow}
-use Rattle.block_rows.specs.Columns.{has_only, in_column, name_in, when_in, opacity_in, emission_in, flag_in, class_in, row_in}
+use Rattle.block_rows.specs.Columns.{has_only, in_column, name_in, when_in, opacity_in, emission_in, flag_in}
+use Rattle.block_rows.specs.Columns.{class_in, row_in}
 use Rattle.block_rows.specs.Rows.{Table}
 use Rattle.block_rows.specs.Shipped.{shipped_rows}
 
@@ -27,11 +31,13 @@ first_met (test ∷ tests) = if test.0 then Some test.1 else first_met tests
 
 -- the columns that a row may have
 abbrev pub row_columns : List (List ℕ)
-row_columns = codes "name" ∷ codes "when" ∷ codes "opacity" ∷ codes "emission" ∷ codes "free" ∷ codes "stand" ∷ codes "put" ∷ codes "top" ∷ codes "side" ∷ []
+row_columns = codes "name" ∷ codes "when" ∷ codes "opacity" ∷ codes "emission" ∷ codes "free" ∷ codes "stand"
+    ∷ codes "put" ∷ codes "top" ∷ codes "side" ∷ []
 
 -- each truth value is one
 abbrev pub has_flags : Members → Bool
-has_flags ms = is_some (flag_in (codes "free") ms) && is_some (flag_in (codes "stand") ms) && is_some (flag_in (codes "put") ms) && is_some (flag_in (codes "top") ms) && is_some (flag_in (codes "side") ms)
+has_flags ms = is_some (flag_in (codes "free") ms) && is_some (flag_in (codes "stand") ms)
+    && is_some (flag_in (codes "put") ms) && is_some (flag_in (codes "top") ms) && is_some (flag_in (codes "side") ms)
 
 -- the first fault of a row
 abbrev pub row_fault : Members → Option RowFault

@@ -1,5 +1,6 @@
 -- Rounds of relaxation give the greatest level over paths.
-use Rattle.std.proofs.Common.{◌≡◌, ℕ, zero, suc, ◌+◌, ◌<◌, ◌≤◌, max, Option, Some, None, refl, subst, arith, ◌⊎◌, inl, inr, eq-zero-or-pos}
+use Rattle.std.proofs.Common.{◌≡◌, ℕ, zero, suc, ◌+◌, ◌<◌, ◌≤◌, max, Option, Some, None, refl, subst, arith, ◌⊎◌, inl}
+use Rattle.std.proofs.Common.{inr, eq-zero-or-pos}
 use Rattle.std.proofs.lemmas.Bool.{cases_lt}
 use Rattle.scan_core.specs.Box.{cell_count}
 use Rattle.cave_model.specs.Cells.{Face, west, east, north, south, below, above, beyond, AreNeighbours}
@@ -29,7 +30,9 @@ pub record ComesFrom (cave : Cave) (levels : ℕ → ℕ) (cell level : ℕ) : T
   pub shared : AreNeighbours cave.size before cell
   pub enough : level + entering_cost cave cell ≤ levels before
 
-came : (cave : Cave) (levels : ℕ → ℕ) (cell level : ℕ) (face : Face) (o : Option ℕ) → beyond cave.size face cell ≡ o → cell < cell_count cave.size → 0 < level → level ≤ brought cave levels cell o → ComesFrom cave levels cell level
+-- a level that is brought over a face came from a neighbour
+came : (cave : Cave) (levels : ℕ → ℕ) (cell level : ℕ) (face : Face) (o : Option ℕ) → beyond cave.size face cell ≡ o
+    → cell < cell_count cave.size → 0 < level → level ≤ brought cave levels cell o → ComesFrom cave levels cell level
 came cave levels cell level face None e h p le = absurd (omega arith)
 came cave levels cell level face (Some before) e h p le = record {
   before = before;
@@ -38,7 +41,8 @@ came cave levels cell level face (Some before) e h p le = record {
 }
 
 -- it was there, or came through one of the faces
-best_from : (cave : Cave) (levels : ℕ → ℕ) (cell level : ℕ) → cell < cell_count cave.size → 0 < level → level ≤ best_of cave levels cell → (level ≤ levels cell) ⊎ ComesFrom cave levels cell level
+best_from : (cave : Cave) (levels : ℕ → ℕ) (cell level : ℕ) → cell < cell_count cave.size → 0 < level
+    → level ≤ best_of cave levels cell → (level ≤ levels cell) ⊎ ComesFrom cave levels cell level
 best_from cave levels cell level h p le =
     of_max level _ _ le (λ le. inl le) λ le.
     of_max level _ _ le (came_by west) λ le.
@@ -47,27 +51,40 @@ best_from cave levels cell level h p le =
     of_max level _ _ le (came_by south) λ le.
     of_max level _ _ le (came_by below) (came_by above)
   where
-    came_by : (face : Face) → level ≤ brought cave levels cell (beyond cave.size face cell) → (level ≤ levels cell) ⊎ ComesFrom cave levels cell level
+    came_by : (face : Face) → level ≤ brought cave levels cell (beyond cave.size face cell)
+        → (level ≤ levels cell) ⊎ ComesFrom cave levels cell level
     came_by face le = inr (came cave levels cell level face (beyond cave.size face cell) refl h p le)
 
-pub relaxed_brings : (cave : Cave) (rounds cell level : ℕ) → cell < cell_count cave.size → 0 < level → level ≤ relaxed cave rounds cell → Brings cave cell level
+-- what a number of rounds gives is brought by a path
+pub relaxed_brings : (cave : Cave) (rounds cell level : ℕ) → cell < cell_count cave.size → 0 < level
+    → level ≤ relaxed cave rounds cell → Brings cave cell level
 unfolding relaxed
 relaxed_brings cave zero cell level h p le = (cell, (0, start h, omega arith))
 relaxed_brings cave (suc rounds) cell level h p le = elim (best_from cave (relaxed cave rounds) cell level h p le) [
   | inl le ↦ relaxed_brings cave rounds cell level h p le
   | inr from ↦
-      let b = relaxed_brings cave rounds from.before (level + entering_cost cave cell) from.shared.inside (omega arith) from.enough in
-      (b.0, (b.1.0 + entering_cost cave cell, onward {before = from.before} {cost = b.1.0} b.1.1 cell from.shared, omega (arith, b.1.2)))
+      let b = relaxed_brings cave rounds from.before (level + entering_cost cave cell) from.shared.inside (omega arith)
+      from.enough in (
+        b.0,
+        (
+          b.1.0 + entering_cost cave cell,
+          onward {before = from.before} {cost = b.1.0} b.1.1 cell from.shared,
+          omega (arith, b.1.2),
+        ),
+      )
 ]
 
 -- ---- paths bring no more than rounds do
 
+-- no round takes a cell below its emission
 relaxed_more : (cave : Cave) (rounds cell : ℕ) → (class_at cave cell).emission ≤ relaxed cave rounds cell
 unfolding relaxed
 relaxed_more cave zero cell = omega arith
 relaxed_more cave (suc rounds) cell = omega (arith, relaxed_more cave rounds cell)
 
-at_face : (cave : Cave) (levels : ℕ → ℕ) (cell : ℕ) (face : Face) → brought cave levels cell (beyond cave.size face cell) ≤ best_of cave levels cell
+-- what comes over one face is at most the best over any
+at_face : (cave : Cave) (levels : ℕ → ℕ) (cell : ℕ) (face : Face)
+    → brought cave levels cell (beyond cave.size face cell) ≤ best_of cave levels cell
 at_face cave levels cell west = omega arith
 at_face cave levels cell east = omega arith
 at_face cave levels cell north = omega arith
@@ -76,13 +93,18 @@ at_face cave levels cell below = omega arith
 at_face cave levels cell above = omega arith
 
 -- one step on from a neighbour
-best_more : (cave : Cave) (levels : ℕ → ℕ) (before cell : ℕ) → AreNeighbours cave.size before cell → levels before ≤ best_of cave levels cell + entering_cost cave cell
+best_more : (cave : Cave) (levels : ℕ → ℕ) (before cell : ℕ) → AreNeighbours cave.size before cell
+    → levels before ≤ best_of cave levels cell + entering_cost cave cell
 best_more cave levels before cell n =
     let m = mutual_beyond cave.size n.face before cell n.inside n.there in
-    let le : brought cave levels cell (Some before) ≤ best_of cave levels cell = subst (λ (o : Option ℕ). brought cave levels cell o ≤ best_of cave levels cell) m.back (at_face cave levels cell (opposite n.face)) in
+    let le : brought cave levels cell (Some before) ≤ best_of cave levels cell =
+    subst (λ (o : Option ℕ). brought cave levels cell o ≤ best_of cave levels cell)
+    m.back (at_face cave levels cell (opposite n.face)) in
     omega arith
 
-pub path_relaxed : (cave : Cave) (source cell cost rounds : ℕ) → Path cave source cell cost → cost ≤ rounds → (class_at cave source).emission ≤ relaxed cave rounds cell + cost
+-- as many rounds as a path costs give at least what it brings
+pub path_relaxed : (cave : Cave) (source cell cost rounds : ℕ) → Path cave source cell cost → cost ≤ rounds
+    → (class_at cave source).emission ≤ relaxed cave rounds cell + cost
 unfolding relaxed
 path_relaxed cave source cell cost rounds (start h) le = omega (arith, relaxed_more cave rounds cell)
 path_relaxed cave source cell cost zero (onward {before = b} {cost = c} p to n) le = absurd (omega arith)
@@ -90,7 +112,8 @@ path_relaxed cave source cell cost (suc rounds) (onward {before = b} {cost = c} 
     omega (arith, path_relaxed cave source b c rounds p (omega arith), best_more cave (relaxed cave rounds) b to n)
 
 -- fourteen rounds give the level of light
-pub relaxed_level : (cave : Cave) (cell : ℕ) → IsSound cave → cell < cell_count cave.size → IsLevelOf cave cell (relaxed cave 14 cell)
+pub relaxed_level : (cave : Cave) (cell : ℕ) → IsSound cave → cell < cell_count cave.size
+    → IsLevelOf cave cell (relaxed cave 14 cell)
 relaxed_level cave cell sound h = record {
   reached = elim (eq-zero-or-pos (relaxed cave 14 cell)) [
     | inl e ↦ inl e
@@ -98,14 +121,17 @@ relaxed_level cave cell sound h = record {
   ];
   most = λ level b. elim (eq-zero-or-pos level) [
     | inl e ↦ omega arith
-    | inr p ↦ (let le : b.1.0 ≤ 14 = omega (arith, b.1.2, (sound.classed b.0).faint) in omega (arith, b.1.2, path_relaxed cave b.0 cell b.1.0 14 b.1.1 le))
+    | inr p ↦ (let le : b.1.0 ≤ 14 = omega (arith, b.1.2, (sound.classed b.0).faint) in
+        omega (arith, b.1.2, path_relaxed cave b.0 cell b.1.0 14 b.1.1 le))
   ];
 }
 
 -- whether light of a level comes there
-pub brings_or_not : (cave : Cave) (cell level : ℕ) → IsSound cave → cell < cell_count cave.size → 0 < level → Brings cave cell level ⊎ ¬ Brings cave cell level
+pub brings_or_not : (cave : Cave) (cell level : ℕ) → IsSound cave → cell < cell_count cave.size → 0 < level
+    → Brings cave cell level ⊎ ¬ Brings cave cell level
 brings_or_not cave cell level sound h p = elim (cases_lt (relaxed cave 14 cell) level) [
-  | inl lt ↦ inr (λ b. let le : level ≤ relaxed cave 14 cell = (relaxed_level cave cell sound h).most level b in omega arith)
+  | inl lt ↦ inr (λ b. let le : level ≤ relaxed cave 14 cell = (relaxed_level cave cell sound h).most level b in
+      omega arith)
   | inr le ↦ inl (relaxed_brings cave 14 cell level h p le)
 ]
 
@@ -113,30 +139,45 @@ brings_or_not cave cell level sound h p = elim (cases_lt (relaxed cave 14 cell) 
 
 -- the levels are brought, cover the sources, and no step raises one
 pub record AreSettled (cave : Cave) (glow levels : ℕ → ℕ) : Type 0 where
-  pub brought_there : (cell : ℕ) → cell < cell_count cave.size → 0 < levels cell → (source : ℕ) × BringsFrom cave source (glow source) cell (levels cell)
+  pub brought_there : (cell : ℕ) → cell < cell_count cave.size → 0 < levels cell
+      → (source : ℕ) × BringsFrom cave source (glow source) cell (levels cell)
   pub covered : (cell : ℕ) → cell < cell_count cave.size → glow cell ≤ levels cell
-  pub settled : (before cell : ℕ) → AreNeighbours cave.size before cell → levels before ≤ levels cell + entering_cost cave cell
+  pub settled : (before cell : ℕ) → AreNeighbours cave.size before cell
+      → levels before ≤ levels cell + entering_cost cave cell
 
-pub path_settled : (cave : Cave) (glow levels : ℕ → ℕ) (source cell cost : ℕ) → AreSettled cave glow levels → Path cave source cell cost → glow source ≤ levels cell + cost
+-- levels that no step raises have at least what any path brings
+pub path_settled : (cave : Cave) (glow levels : ℕ → ℕ) (source cell cost : ℕ) → AreSettled cave glow levels
+    → Path cave source cell cost → glow source ≤ levels cell + cost
 path_settled cave glow levels source cell cost s (start h) = omega (arith, s.covered source h)
 path_settled cave glow levels source cell cost s (onward {before = b} {cost = c} p to n) =
     omega (arith, path_settled cave glow levels source b c s p, s.settled b to n)
 
 -- the level of light is what a flood from all sources leaves
-pub settled_level : (cave : Cave) (levels : ℕ → ℕ) (cell : ℕ) → AreSettled cave (λ source. (class_at cave source).emission) levels → cell < cell_count cave.size → IsLevelOf cave cell (levels cell)
+pub settled_level : (cave : Cave) (levels : ℕ → ℕ) (cell : ℕ)
+    → AreSettled cave (λ source. (class_at cave source).emission) levels → cell < cell_count cave.size
+    → IsLevelOf cave cell (levels cell)
 settled_level cave levels cell s h = record {
   reached = elim (eq-zero-or-pos (levels cell)) [
     | inl e ↦ inl e
     | inr p ↦ inr (s.brought_there cell h p)
   ];
-  most = λ level b. omega (arith, b.1.2, path_settled cave (λ (source : ℕ). (class_at cave source).emission) levels b.0 cell b.1.0 s b.1.1);
+  most = λ level b. omega (
+    arith,
+    b.1.2,
+    path_settled cave (λ (source : ℕ). (class_at cave source).emission) levels
+        b.0 cell b.1.0 s b.1.1,
+  );
 }
 
 -- two levels of one cell are equal
 pub one_greatest : (Kind : ℕ → Type 0) (a b : ℕ) → IsGreatest Kind a → IsGreatest Kind b → a ≡ b
 one_greatest Kind a b p q = elim p.reached [
   | inl e ↦ elim q.reached [ inl f ↦ omega arith | inr k ↦ (let le : b ≤ a = p.most b k in omega arith) ]
-  | inr h ↦ elim q.reached [ inl f ↦ (let le : a ≤ b = q.most a h in omega arith) | inr k ↦ (let le : b ≤ a = p.most b k in let ge : a ≤ b = q.most a h in omega arith) ]
+  | inr h ↦ elim q.reached [
+    | inl f ↦ (let le : a ≤ b = q.most a h in omega arith)
+    | inr k ↦
+        (let le : b ≤ a = p.most b k in let ge : a ≤ b = q.most a h in omega arith)
+  ]
 ]
 
 -- light of a level comes just where the level is as high

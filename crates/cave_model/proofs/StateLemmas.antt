@@ -1,5 +1,7 @@
 -- Which block states the cells name, and the class of each.
-use Rattle.std.proofs.Common.{◌≡◌, ℕ, ◌+◌, ◌<◌, Bool, true, false, Option, Some, None, IfSome, List, [], ◌∷◌, ◌++◌, length, take, get_or, set, option_and_then, All, Contains, refl, sym, ap, subst, ◌∙◌, arith, inl, inr, length-set, get_or-set_same, get_or-set_other}
+use Rattle.std.proofs.Common.{◌≡◌, ℕ, ◌+◌, ◌<◌, Bool, true, false, Option, Some, None, IfSome, List, [], ◌∷◌, ◌++◌}
+use Rattle.std.proofs.Common.{length, take, get_or, set, option_and_then, All, Contains, refl, sym, ap, subst, ◌∙◌}
+use Rattle.std.proofs.Common.{arith, inl, inr, length-set, get_or-set_same, get_or-set_other}
 use Rattle.std.proofs.lemmas.Bool.{cases_lt, cases_eq}
 use Rattle.std.proofs.lemmas.List.{take_more, length_push, get_or_push, get_or_append_left, get_or_default}
 use Rattle.std.proofs.lemmas.List.Elements.{All-push, Contains-append_left, Contains-push, Contains-push_cases}
@@ -17,18 +19,23 @@ use Rattle.cave_model.specs.Building.{AreUsed, AreClassesOf}
 
 -- ---- which states are used
 
-used_some : (cells : List (Option ℕ)) (states index : ℕ) (used : List Bool) → index < states → AreUsed cells states used → AreUsed (cells ++ Some index ∷ []) states (set used index true)
+-- a cell with a state more marks it as used
+used_some : (cells : List (Option ℕ)) (states index : ℕ) (used : List Bool) → index < states → AreUsed cells states used
+    → AreUsed (cells ++ Some index ∷ []) states (set used index true)
 used_some cells states index used lt a =
     let within : index < length used = omega (arith, a.whole) in
     record {
       whole = length-set used index true ∙ a.whole;
       exact = λ other. (
         (λ t. elim (cases_eq other index) [
-          | inl e ↦ subst (λ (n : ℕ). Contains (cells ++ Some index ∷ []) (Some n)) (sym e) (Contains-push cells (Some index))
-          | inr ne ↦ Contains-append_left cells (Some index ∷ []) (Some other) ((a.exact other).0 (sym (get_or-set_other used index other true false ne) ∙ t))
+          | inl e ↦ subst (λ (n : ℕ). Contains (cells ++ Some index ∷ []) (Some n)) (sym e)
+              (Contains-push cells (Some index))
+          | inr ne ↦ Contains-append_left cells (Some index ∷ []) (Some other)
+              ((a.exact other).0 (sym (get_or-set_other used index other true false ne) ∙ t))
         ]),
         (λ c. elim (cases_eq other index) [
-          | inl e ↦ ap (λ (n : ℕ). get_or (set used index true) n false) e ∙ get_or-set_same used index true false within
+          | inl e ↦ ap (λ (n : ℕ). get_or (set used index true) n false) e
+              ∙ get_or-set_same used index true false within
           | inr ne ↦ elim (Contains-push_cases cells (Some index) (Some other) c) [
             | inl before ↦ get_or-set_other used index other true false ne ∙ (a.exact other).1 before
             | inr last ↦ (let same : other ≡ index = cc in absurd (ne same))
@@ -37,7 +44,9 @@ used_some cells states index used lt a =
       );
     }
 
-used_none : (cells : List (Option ℕ)) (states : ℕ) (used : List Bool) → AreUsed cells states used → AreUsed (cells ++ None ∷ []) states used
+-- a cell without one marks none
+used_none : (cells : List (Option ℕ)) (states : ℕ) (used : List Bool) → AreUsed cells states used
+    → AreUsed (cells ++ None ∷ []) states used
 used_none cells states used a = record {
   whole = a.whole;
   exact = λ index. (
@@ -49,32 +58,53 @@ used_none cells states used a = record {
   );
 }
 
-one_more : (cells : List (Option ℕ)) (i states : ℕ) (used : List Bool) (cell : Option ℕ) → i < length cells → get_or cells i None ≡ cell → AreUsed (take i cells ++ cell ∷ []) states used → AreUsed (take (i + 1) cells) states used
+-- the cells up to the next are those before and the cell
+one_more : (cells : List (Option ℕ)) (i states : ℕ) (used : List Bool) (cell : Option ℕ) → i < length cells
+    → get_or cells i None ≡ cell → AreUsed (take i cells ++ cell ∷ []) states used
+    → AreUsed (take (i + 1) cells) states used
 one_more cells i states used cell lt e a =
-    subst (λ (cs : List (Option ℕ)). AreUsed cs states used) (sym (take_more cells i None lt ∙ ap (λ (o : Option ℕ). take i cells ++ o ∷ []) e)) a
+    subst (λ (cs : List (Option ℕ)). AreUsed cs states used)
+    (sym (take_more cells i None lt ∙ ap (λ (o : Option ℕ). take i cells ++ o ∷ []) e)) a
 
-pub used_more_some : (cells : List (Option ℕ)) (i states index : ℕ) (used : List Bool) → i < length cells → get_or cells i None ≡ Some index → index < states → AreUsed (take i cells) states used → AreUsed (take (i + 1) cells) states (set used index true)
+-- the next cell's state is marked as used
+pub used_more_some : (cells : List (Option ℕ)) (i states index : ℕ) (used : List Bool) → i < length cells
+    → get_or cells i None ≡ Some index → index < states → AreUsed (take i cells) states used
+    → AreUsed (take (i + 1) cells) states (set used index true)
 used_more_some cells i states index used lt e small a =
     one_more cells i states (set used index true) (Some index) lt e (used_some (take i cells) states index used small a)
 
+-- an option that is nothing in particular is none
 is_none : (o : Option ℕ) → ((x : ℕ) → ¬ o ≡ Some x) → o ≡ None
 is_none None h = refl
 is_none (Some x) h = absurd (h x refl)
 
-pub used_more_none : (cells : List (Option ℕ)) (i states : ℕ) (used : List Bool) → i < length cells → ((x : ℕ) → ¬ get_or cells i None ≡ Some x) → AreUsed (take i cells) states used → AreUsed (take (i + 1) cells) states used
+-- a next cell without a state marks none
+pub used_more_none : (cells : List (Option ℕ)) (i states : ℕ) (used : List Bool) → i < length cells
+    → ((x : ℕ) → ¬ get_or cells i None ≡ Some x) → AreUsed (take i cells) states used
+    → AreUsed (take (i + 1) cells) states used
 used_more_none cells i states used lt h a =
     one_more cells i states used None lt (is_none (get_or cells i None) h) (used_none (take i cells) states used a)
 
 -- a cell's index is one of the palette's
-pub known_at : (cells : List (Option ℕ)) (i index states : ℕ) → All (λ cell. IfSome cell (λ index. index < states)) cells → i < length cells → get_or cells i None ≡ Some index → index < states
-known_at cells i index states known lt e = subst (λ (o : Option ℕ). IfSome o (λ index. index < states)) e (known i None lt)
+pub known_at : (cells : List (Option ℕ)) (i index states : ℕ)
+    → All (λ cell. IfSome cell (λ index. index < states)) cells → i < length cells → get_or cells i None ≡ Some index
+    → index < states
+known_at cells i index states known lt e = subst (λ (o : Option ℕ). IfSome o (λ index. index < states)) e
+    (known i None lt)
 
-pub contains_at : (cells : List (Option ℕ)) (i index : ℕ) → i < length cells → get_or cells i None ≡ Some index → Contains cells (Some index)
+-- a state that stands at some cell is one of the cells'
+pub contains_at : (cells : List (Option ℕ)) (i index : ℕ) → i < length cells → get_or cells i None ≡ Some index
+    → Contains cells (Some index)
 contains_at cells i index lt e = (i, lt, get_or_default cells i (Some index) None lt ∙ e)
 
 -- ---- the class of each
 
-pub classes_push : (cells : List (Option ℕ)) (palette : List BlockState) (rows : Table) (states : ℕ) (classes : List Class) (class : Class) → IsSoundClass class → (Contains cells (Some states) → IsClassOf rows palette (Some states) class) → AreClassesOf cells palette rows states classes → AreClassesOf cells palette rows (states + 1) (classes ++ class ∷ [])
+-- the next state's class is known
+pub classes_push : (cells : List (Option ℕ)) (palette : List BlockState) (rows : Table) (states : ℕ)
+    (classes : List Class) (class : Class) → IsSoundClass class
+    → (Contains cells (Some states) → IsClassOf rows palette (Some states) class)
+    → AreClassesOf cells palette rows states classes
+    → AreClassesOf cells palette rows (states + 1) (classes ++ class ∷ [])
 classes_push cells palette rows states classes class sound is a = record {
   whole = omega (arith, length_push classes class, a.whole);
   sound = All-push IsSoundClass classes class a.sound sound;
@@ -85,33 +115,51 @@ classes_push cells palette rows states classes class sound is a = record {
     | inr ne ↦
         (let before : index < states = omega arith in
         let within : index < length classes = omega (arith, a.whole) in
-        subst (IsClassOf rows palette (Some index)) (sym (get_or_append_left classes (class ∷ []) void index within)) (a.classed index before c))
+        subst (IsClassOf rows palette (Some index)) (sym (get_or_append_left classes (class ∷ []) void index within))
+        (a.classed index before c))
   ];
 }
 
 -- the row of a state that the palette has
-pub row_at-get_or : (rows : Table) (palette : List BlockState) (index : ℕ) (state : BlockState) → index < length palette → state ≡ get_or palette index state → row_at rows palette index ≡ row_of rows state
-row_at-get_or rows palette index state lt e = ap (option_and_then (row_of rows)) (slice_get-get_or palette index state lt) ∙ ap (row_of rows) (sym e)
+pub row_at-get_or : (rows : Table) (palette : List BlockState) (index : ℕ) (state : BlockState) → index < length palette
+    → state ≡ get_or palette index state → row_at rows palette index ≡ row_of rows state
+row_at-get_or rows palette index state lt e = ap (option_and_then (row_of rows))
+    (slice_get-get_or palette index state lt) ∙ ap (row_of rows) (sym e)
 
+-- an option isn't both none and there
 none_some : (row : Row) (o : Option Row) → o ≡ None → o ≡ Some row → ⊥
 none_some row o e f = absurd (cc)
 
 -- a state without a row, where each one before it that the cells name has a row
-pub unknown_here : (scan : Structure) (rows : Table) (index : ℕ) (classes : List Class) → AreClassesOf scan.cells scan.palette rows index classes → Contains scan.cells (Some index) → row_at rows scan.palette index ≡ None → IsUnknown scan rows index
+pub unknown_here : (scan : Structure) (rows : Table) (index : ℕ) (classes : List Class)
+    → AreClassesOf scan.cells scan.palette rows index classes → Contains scan.cells (Some index)
+    → row_at rows scan.palette index ≡ None → IsUnknown scan rows index
 unknown_here scan rows index classes a c e = record {
   used = c;
   rowless = e;
   first = λ other used rowless. elim (cases_lt other index) [
-    | inl lt ↦ (let is = a.classed other lt used in absurd (none_some is.0 (row_at rows scan.palette other) rowless is.1))
+    | inl lt ↦ (let is = a.classed other lt used in
+        absurd (none_some is.0 (row_at rows scan.palette other) rowless is.1))
     | inr le ↦ le
   ];
 }
 
-pub found_class : (rows : Table) (palette : List BlockState) (index : ℕ) (state : BlockState) (row : Row) (class : Class) → index < length palette → state ≡ get_or palette index state → Some row ≡ row_of rows state → class ≡ row.class → IsClassOf rows palette (Some index) class
+-- the class of the row that is found is that of the state
+pub found_class : (rows : Table) (palette : List BlockState) (index : ℕ) (state : BlockState) (row : Row)
+    (class : Class) → index < length palette → state ≡ get_or palette index state → Some row ≡ row_of rows state
+    → class ≡ row.class → IsClassOf rows palette (Some index) class
 found_class rows palette index state row class lt e f g = (row, row_at-get_or rows palette index state lt e ∙ sym f, g)
 
 -- the fault of such a state
-pub fault_here : (scan : Structure) (rows : Table) (index : ℕ) (classes : List Class) (state : BlockState) (fault : BuildFault) → AreClassesOf scan.cells scan.palette rows index classes → Contains scan.cells (Some index) → index < length scan.palette → state ≡ get_or scan.palette index state → None ≡ row_of rows state → fault ≡ UnknownBlock index state.name → IsUnknownBlock scan rows fault
+pub fault_here : (scan : Structure) (rows : Table) (index : ℕ) (classes : List Class) (state : BlockState)
+    (fault : BuildFault) → AreClassesOf scan.cells scan.palette rows index classes → Contains scan.cells (Some index)
+    → index < length scan.palette → state ≡ get_or scan.palette index state → None ≡ row_of rows state
+    → fault ≡ UnknownBlock index state.name → IsUnknownBlock scan rows fault
 fault_here scan rows index classes state fault a c lt e none is =
-    let named : state ≡ get_or scan.palette index (record { name = []; props = [] }) = e ∙ get_or_default scan.palette index state (record { name = []; props = [] }) lt in
-    (index, unknown_here scan rows index classes a c (row_at-get_or rows scan.palette index state lt e ∙ sym none), is ∙ ap (λ (s : BlockState). UnknownBlock index s.name) named)
+    let named : state ≡ get_or scan.palette index (record { name = []; props = [] }) = e
+    ∙ get_or_default scan.palette index state (record { name = []; props = [] }) lt in (
+      index,
+      unknown_here scan rows index classes a c (row_at-get_or rows scan.palette index state lt e ∙ sym none),
+      is
+          ∙ ap (λ (s : BlockState). UnknownBlock index s.name) named,
+    )

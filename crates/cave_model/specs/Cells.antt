@@ -1,6 +1,7 @@
 -- Which cells of a box share a face. The directions are those of the game:
 -- north is towards lower z, south towards higher z, west towards lower x, east towards higher x.
-use Rattle.std.specs.Prelude.{◌≡◌, ℕ, ◌+◌, ◌-◌, ◌<◌, Bool, List, [], ◌∷◌, map, Option, Some, None, option_map, nat_lt, if◌then◌else◌}
+use Rattle.std.specs.Prelude.{◌≡◌, ℕ, ◌+◌, ◌-◌, ◌<◌, Bool, List, [], ◌∷◌, map, Option, Some, None, option_map, nat_lt}
+use Rattle.std.specs.Prelude.{if◌then◌else◌}
 use Rattle.scan_core.specs.Box.{Point, cell_count, number, coordinates}
 
 -- a face of a cell, by where it looks

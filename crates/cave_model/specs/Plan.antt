@@ -1,5 +1,6 @@
 -- Plans that keep mobs away, and the fewest torches of one. These are this project's own.
-use Rattle.std.specs.Prelude.{◌≡◌, ◌≢◌, ◌≤◌, ℕ, IsTrue, List, [], ◌∷◌, length, map, set, All, AllPairs, Contains, unwrap_or}
+use Rattle.std.specs.Prelude.{◌≡◌, ◌≢◌, ◌≤◌, ℕ, IsTrue, List, [], ◌∷◌, length, map, set, All, AllPairs, Contains}
+use Rattle.std.specs.Prelude.{unwrap_or}
 use Rattle.block_rows.specs.declared.class.Class.{Class}
 use Rattle.block_rows.specs.Class.{new_torch}
 use Rattle.cave_model.specs.Cave.{Cave}
@@ -43,7 +44,8 @@ AreLegal cave torches = All (λ torch. IsTrue (is_legal cave torch.cell torch.ha
 pub record IsSafe (cave : Cave) (torches : List Torch) : Type 0 where
   pub legal : AreLegal cave torches
   pub distinct : AreDistinct (cells_of torches)
-  pub lit : (cell : ℕ) → IsTrue (is_spawnable (cave_with cave (cells_of torches)) cell) → Brings (cave_with cave (cells_of torches)) cell cave.rule.need
+  pub lit : (cell : ℕ) → IsTrue (is_spawnable (cave_with cave (cells_of torches)) cell)
+      → Brings (cave_with cave (cells_of torches)) cell cave.rule.need
 
 -- legal torches at distinct cells that light each dark cell
 pub record LightsDarkness (cave : Cave) (torches : List Torch) : Type 0 where

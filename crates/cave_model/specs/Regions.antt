@@ -11,7 +11,8 @@ all_cells regions = flat_map (λ cells. cells) regions
 
 -- no place covers cells of two of the lists
 abbrev pub AreApart : Coverage → List (List ℕ) → Type 0
-AreApart coverage regions = (place a b i j : ℕ) → coverage.Place place → coverage.Covers place a → coverage.Covers place b
+AreApart coverage regions = (place a b i j : ℕ) → coverage.Place place → coverage.Covers place a
+    → coverage.Covers place b
     → Contains (slice_index_or regions i []) a → Contains (slice_index_or regions j []) b → i ≡ j
 
 -- lists of cells, none empty, that hold each cell of the kind once and nothing else; no place covers cells of two

@@ -1,5 +1,6 @@
 -- What is printed of a fault of building: the words of docs/FORMATS.md.
-use Rattle.std.specs.Prelude.{ℕ, List, [], ◌∷◌, ◌++◌, ◌&&◌, ◌-◌, ◌^◌, false, nat_eq, nat_le, codes, flat_map, if◌then◌else◌}
+use Rattle.std.specs.Prelude.{ℕ, List, [], ◌∷◌, ◌++◌, ◌&&◌, ◌-◌, ◌^◌, false, nat_eq, nat_le, codes, flat_map}
+use Rattle.std.specs.Prelude.{if◌then◌else◌}
 use Rattle.std.specs.Fmt.{digits, padded_integral, format_spec}
 use Rattle.cave_model.specs.declared.fault.BuildFault.{BuildFault}
 use Rattle.cave_model.specs.declared.fault.BuildFault.TheVariants.{UnknownBlock, OutOfMemory}
@@ -10,7 +11,8 @@ two_digits byte = padded_integral (format_spec 32 0 4 2 (2 ^ 64 - 1)) false [] (
 
 -- a byte of a name: printable ASCII other than the backslash as it is, any other byte as `\x` and two digits
 abbrev pub shown_byte : ℕ → List ℕ
-shown_byte byte = if nat_eq byte 92 then codes "\\x5c" else (if nat_le 32 byte && nat_le byte 126 then byte ∷ [] else codes "\\x" ++ two_digits byte)
+shown_byte byte = if nat_eq byte 92 then codes "\\x5c" else
+    (if nat_le 32 byte && nat_le byte 126 then byte ∷ [] else codes "\\x" ++ two_digits byte)
 
 -- the text of a fault
 abbrev pub fault_text : BuildFault → List ℕ

@@ -1,5 +1,6 @@
 -- The cave that a structure tells, by a table of rows. This is this project's own.
-use Rattle.std.specs.Prelude.{◌≡◌, ℕ, ◌<◌, ◌≤◌, List, [], length, Contains, slice_get, slice_index_or, Option, Some, None, option_and_then}
+use Rattle.std.specs.Prelude.{◌≡◌, ℕ, ◌<◌, ◌≤◌, List, [], length, Contains, slice_get, slice_index_or, Option, Some}
+use Rattle.std.specs.Prelude.{None, option_and_then}
 use Rattle.scan_core.specs.Box.{cell_count}
 use Rattle.scan_core.specs.Scan.{Structure}
 use Rattle.scan_core.specs.declared.state.BlockState.{BlockState}
@@ -26,7 +27,8 @@ pub record IsCaveOf (scan : Structure) (rows : Table) (rule : Rule) (cave : Cave
   pub sized : cave.size ≡ scan.size
   pub ruled : cave.rule ≡ rule
   pub whole : length cave.classes ≡ cell_count scan.size
-  pub classed : (cell : ℕ) → cell < cell_count scan.size → IsClassOf rows scan.palette (slice_index_or scan.cells cell None) (class_at cave cell)
+  pub classed : (cell : ℕ) → cell < cell_count scan.size
+      → IsClassOf rows scan.palette (slice_index_or scan.cells cell None) (class_at cave cell)
 
 -- the least index that a cell names and no row fits
 pub record IsUnknown (scan : Structure) (rows : Table) (index : ℕ) : Type 0 where
@@ -40,4 +42,5 @@ name_at scan index = (slice_index_or scan.palette index (record { name = []; pro
 
 -- an unknown block, with its index and its name
 abbrev pub IsUnknownBlock : Structure → Table → BuildFault → Type 0
-IsUnknownBlock scan rows fault = (index : ℕ) × IsUnknown scan rows index × (fault ≡ UnknownBlock index (name_at scan index))
+IsUnknownBlock scan rows fault = (index : ℕ) × IsUnknown scan rows index
+    × (fault ≡ UnknownBlock index (name_at scan index))

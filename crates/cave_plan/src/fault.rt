@@ -2,7 +2,9 @@
 ghost use Rattle.std.specs.Prelude.{◌≡◌};
 ghost use Rattle.cave_plan.specs.Faults.{of_cover};
 ghost use Rattle.cave_plan.specs.declared.fault.PlanFault.TheVariants.{OutOfMemory};
+ghost use Rattle.cave_plan.specs.declared.fault.RegionFault.TheVariants as region;
 
+use cave_model::OutOfMemory;
 use cave_regions::Cover;
 use cover_rows::CoverFault;
 use scan_core::Cell;
@@ -16,6 +18,22 @@ pub(crate) enum RegionFault {
     /// No worker could be started.
     NoThread,
     OutOfMemory,
+}
+
+impl From<OutOfMemory> for RegionFault {
+    ghost from_gives = { λ _ e. e ≡ region.OutOfMemory };
+
+    fn from(_e: OutOfMemory) -> RegionFault {
+        RegionFault::OutOfMemory
+    }
+}
+
+impl<T: Drop> From<AllocFailed<T>> for RegionFault {
+    ghost from_gives = { λ _ e. e ≡ region.OutOfMemory };
+
+    fn from(_e: AllocFailed<T>) -> RegionFault {
+        RegionFault::OutOfMemory
+    }
 }
 
 /// Why a cave has no plan.

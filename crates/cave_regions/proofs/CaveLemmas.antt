@@ -12,24 +12,33 @@ use Rattle.cave_regions.proofs.FlatLemmas.{in_all}
 
 -- the number of a place that lights something is one of the places
 pub place_of : (instance : Instance) (place cell : ℕ) → LightsIn instance place cell → Contains instance.places place
-place_of instance place cell by = element_of instance.places place by.place_index by.place_there.inside by.place_there.there
+place_of instance place cell by =
+    element_of instance.places place by.place_index by.place_there.inside by.place_there.there
 
+-- a cell that a place of the instance lights is one of the instance
 pub cell_of : (instance : Instance) (place cell : ℕ) → LightsIn instance place cell → Contains instance.cells cell
 cell_of instance place cell by = element_of instance.cells cell by.cell_index by.cell_there.inside by.cell_there.there
 
-pub regions_are : (cave : Cave) (problem : Instance) (regions : List Instance) → IsProblemOf cave problem → AreRegionsOf problem regions → AreRegions cave (cells_of_each regions)
+-- the regions of a cave's problem are regions of the cave
+pub regions_are : (cave : Cave) (problem : Instance) (regions : List Instance) → IsProblemOf cave problem
+    → AreRegionsOf problem regions → AreRegions cave (cells_of_each regions)
 regions_are cave problem regions is split = record {
   filled = split.parts.filled;
   once = split.parts.once;
-  exact = λ cell. (λ has. (is.dark.exact cell).0 ((split.parts.exact cell).0 has), λ dark. (split.parts.exact cell).1 ((is.dark.exact cell).1 dark));
+  exact = λ cell. (
+    λ has. (is.dark.exact cell).0 ((split.parts.exact cell).0 has),
+    λ dark. (split.parts.exact cell).1 ((is.dark.exact cell).1 dark),
+  );
   apart = λ place a b i j legal lights_a lights_b in_i in_j.
       (let dark_a = (is.dark.exact a).0 ((split.parts.exact a).0 (in_all (cells_of_each regions) i a in_i)) in
       let dark_b = (is.dark.exact b).0 ((split.parts.exact b).0 (in_all (cells_of_each regions) j b in_j)) in
-      split.parts.apart place a b i j ((is.legal.exact place).1 legal) ((is.lit place a).1 (legal, dark_a, lights_a)) ((is.lit place b).1 (legal, dark_b, lights_b)) in_i in_j);
+      split.parts.apart place a b i j ((is.legal.exact place).1 legal) ((is.lit place a).1 (legal, dark_a, lights_a))
+      ((is.lit place b).1 (legal, dark_b, lights_b)) in_i in_j);
 }
 
 -- each place of a region lights one of its cells
-lights_some : (region : Instance) → IsRegion region → (place : ℕ) → Contains region.places place → (cell : ℕ) × LightsIn region place cell
+lights_some : (region : Instance) → IsRegion region → (place : ℕ) → Contains region.places place
+    → (cell : ℕ) × LightsIn region place cell
 lights_some region kept place has =
     let lit = kept.lighting has.0 has.1 in
     let inside = kept.kept.of_cells has.0 lit.0 has.1 lit.1 in (
@@ -44,9 +53,11 @@ lights_some region kept place has =
     )
 
 -- a part of the problem has of the cave's light what falls on its cells
-agrees : (cave : Cave) (problem region : Instance) → IsProblemOf cave problem → IsPartOf problem region → Agrees (of_instance region) (of_cave cave) region.cells
+agrees : (cave : Cave) (problem region : Instance) → IsProblemOf cave problem → IsPartOf problem region
+    → Agrees (of_instance region) (of_cave cave) region.cells
 agrees cave problem region is part = record {
-  wider = λ place has. (let lit = lights_some region part.kept place has in ((is.lit place lit.0).0 ((part.exact place lit.0).0 lit.1).1).0);
+  wider = λ place has. (let lit = lights_some region part.kept place has in
+      ((is.lit place lit.0).0 ((part.exact place lit.0).0 lit.1).1).0);
   there = λ place cell in_cells has lit. ((is.lit place cell).0 ((part.exact place cell).0 lit).1).2;
   back = λ place cell in_cells legal lights.
       (let dark = (is.dark.exact cell).0 (part.of_it cell in_cells) in
@@ -54,5 +65,7 @@ agrees cave problem region is part = record {
       (place_of region place cell lit, lit));
 }
 
-pub regions_agree : (cave : Cave) (problem : Instance) (regions : List Instance) → IsProblemOf cave problem → AreRegionsOf problem regions → All (λ region. Agrees (of_instance region) (of_cave cave) region.cells) regions
+-- and each agrees with the cave on which places light its cells
+pub regions_agree : (cave : Cave) (problem : Instance) (regions : List Instance) → IsProblemOf cave problem
+    → AreRegionsOf problem regions → All (λ region. Agrees (of_instance region) (of_cave cave) region.cells) regions
 regions_agree cave problem regions is split = λ k d h. agrees cave problem (get_or regions k d) is (split.each k d h)

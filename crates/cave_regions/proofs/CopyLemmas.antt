@@ -1,5 +1,6 @@
 -- Rows are copied, bit by bit and place by place.
-use Rattle.std.proofs.Common.{◌≡◌, ℕ, ◌+◌, ◌*◌, ◌<◌, ◌≤◌, List, length, slice_index, refl, sym, ap, subst, ◌∙◌, ◌⊎◌, arith, inl, inr, mul-le-mul_left}
+use Rattle.std.proofs.Common.{◌≡◌, ℕ, ◌+◌, ◌*◌, ◌<◌, ◌≤◌, List, length, slice_index, refl, sym, ap, subst, ◌∙◌, ◌⊎◌}
+use Rattle.std.proofs.Common.{arith, inl, inr, mul-le-mul_left}
 use Rattle.std.specs.Prelude.{◌↔◌}
 use Rattle.std.proofs.lemmas.Bool.{cases_lt}
 use Rattle.bit_rows.specs.Bits.{Has, IsWith, IsNext, HasNoneFrom}
@@ -12,15 +13,20 @@ use Rattle.cave_regions.specs.Restricting.{IsClosed, Copies, HasRoom, AreCopied,
 -- the bits of the row before this one are copied
 pub record CopiedTo (old row ranks : List ℕ) (base from : ℕ) (new : List ℕ) : Type 0 where
   pub whole : length new ≡ length old
-  pub exact : (bit : ℕ) → Has new bit ↔ (Has old bit ⊎ ((c : ℕ) × (c < from) × Has row c × (bit ≡ base + slice_index ranks c)))
+  pub exact : (bit : ℕ) → Has new bit
+      ↔ (Has old bit ⊎ ((c : ℕ) × (c < from) × Has row c × (bit ≡ base + slice_index ranks c)))
 
+-- before the first bit nothing is copied
 pub copied_none : (old row ranks : List ℕ) (base : ℕ) → CopiedTo old row ranks base 0 old
 copied_none old row ranks base = record {
   whole = refl;
   exact = λ bit. (λ h. inl h, λ h. elim h [ inl was ↦ was | inr some ↦ absurd (omega (arith, some.1)) ]);
 }
 
-pub copied_next : (old row ranks new next : List ℕ) (base from bit : ℕ) → IsNext row from bit → IsWith new (base + slice_index ranks bit) next → CopiedTo old row ranks base from new → CopiedTo old row ranks base (bit + 1) next
+-- the next bit of the row is copied to its rank
+pub copied_next : (old row ranks new next : List ℕ) (base from bit : ℕ) → IsNext row from bit
+    → IsWith new (base + slice_index ranks bit) next → CopiedTo old row ranks base from new
+    → CopiedTo old row ranks base (bit + 1) next
 copied_next old row ranks new next base from bit is more s = record {
   whole = more.whole ∙ s.whole;
   exact = λ other. (
@@ -43,7 +49,9 @@ copied_next old row ranks new next base from bit is more s = record {
   );
 }
 
-pub copied_all : (old row ranks new : List ℕ) (base from : ℕ) → HasNoneFrom row from → CopiedTo old row ranks base from new → Copies old row ranks base new
+-- after the last the whole row is copied
+pub copied_all : (old row ranks new : List ℕ) (base from : ℕ) → HasNoneFrom row from
+    → CopiedTo old row ranks base from new → Copies old row ranks base new
 copied_all old row ranks new base from none s = record {
   whole = s.whole;
   exact = λ bit. (
@@ -63,50 +71,67 @@ copied_all old row ranks new base from none s = record {
 
 -- ---- all rows
 
-same_row : (width p q c d : ℕ) → c < 64 * width → d < 64 * width → 64 * (p * width) + c ≡ 64 * (q * width) + d → (p ≡ q) × (c ≡ d)
+-- a bit stands in one row, at one cell
+same_row : (width p q c d : ℕ) → c < 64 * width → d < 64 * width → 64 * (p * width) + c ≡ 64 * (q * width) + d
+    → (p ≡ q) × (c ≡ d)
 same_row width p q c d small_c small_d e = elim (cases_lt p q) [
   | inl lt ↦ (let more : width * (p + 1) ≤ width * q = mul-le-mul_left width (omega arith) in absurd (omega arith))
   | inr le ↦ elim (cases_lt q p) [
     | inl lt ↦ (let more : width * (q + 1) ≤ width * p = mul-le-mul_left width (omega arith) in absurd (omega arith))
-    | inr ge ↦ (let same : p ≡ q = omega arith in (same, (let rows : p * width ≡ q * width = ap (λ (n : ℕ). n * width) same in omega arith)))
+    | inr ge ↦ (let same : p ≡ q = omega arith in
+        (same, (let rows : p * width ≡ q * width = ap (λ (n : ℕ). n * width) same in omega arith)))
   ]
 ]
 
 -- a row's end is within those of all rows
 pub row_room : (rows width row : ℕ) → row < rows → 64 * (row * width) + 64 * width ≤ 64 * (rows * width)
-row_room rows width row lt = (let more : width * (row + 1) ≤ width * rows = mul-le-mul_left width (omega arith) in omega arith)
+row_room rows width row lt = (let more : width * (row + 1) ≤ width * rows = mul-le-mul_left width (omega arith) in
+    omega arith)
 
-module _ (instance : Instance) (own placed ranks : List ℕ) (closed : IsClosed instance own placed) (ranked : AreRanks instance own ranks) where
+module _ (instance : Instance) (own placed ranks : List ℕ) (closed : IsClosed instance own placed)
+    (ranked : AreRanks instance own ranks) where
   -- a lit cell is one of these, by its rank
-  rank_of : (row cell : ℕ) → row < length placed → LightsAt instance (slice_index placed row) cell → (slice_index ranks cell < length own) × (slice_index own (slice_index ranks cell) ≡ cell)
+  rank_of : (row cell : ℕ) → row < length placed → LightsAt instance (slice_index placed row) cell
+      → (slice_index ranks cell < length own) × (slice_index own (slice_index ranks cell) ≡ cell)
   rank_of row cell h lit =
-      let has = closed.to_own (slice_index placed row) cell (element_of placed (slice_index placed row) row h refl) lit in
+      let has = closed.to_own (slice_index placed row) cell
+      (element_of placed (slice_index placed row) row h refl) lit in
       let at = element_at own cell has in
       let rank : slice_index ranks cell ≡ has.0 = sym (ap (slice_index ranks) at) ∙ ranked.listed has.0 has.1 in
       (omega (arith, rank, has.1), ap (slice_index own) rank ∙ at)
 
-  pub has_room : (words : List ℕ) (row base : ℕ) → row < length placed → base ≡ 64 * (row * words_for (length own)) → length words ≡ length placed * words_for (length own)
+  -- the words have room for the next row
+  pub has_room : (words : List ℕ) (row base : ℕ) → row < length placed → base ≡ 64 * (row * words_for (length own))
+      → length words ≡ length placed * words_for (length own)
       → HasRoom (row_of instance (slice_index placed row)) ranks base words
   has_room words row base h e whole = record {
     each = λ bit lit. (let r = rank_of row bit h lit in
         let inside = closed.cells.inside (slice_index ranks bit) 0 r.0 in
-        let in_row : 64 * (row * words_for (length own)) + 64 * words_for (length own) ≤ 64 * (length placed * words_for (length own)) = row_room (length placed) (words_for (length own)) row h in
+        let in_row : 64 * (row * words_for (length own)) + 64 * words_for
+        (length own) ≤ 64 * (length placed * words_for (length own)) = row_room (length placed)
+        (words_for (length own)) row h in
         (omega (arith, inside, r.1, ranked.whole), omega (arith, r.0, in_row, e, whole)));
   }
 
-  pub copied_more : (words next : List ℕ) (row base : ℕ) → row < length placed → base ≡ 64 * (row * words_for (length own)) → Copies words (row_of instance (slice_index placed row)) ranks base next
-      → AreCopied instance own placed (words_for (length own)) row words → AreCopied instance own placed (words_for (length own)) (row + 1) next
+  -- the next row was copied to its place
+  pub copied_more : (words next : List ℕ) (row base : ℕ) → row < length placed
+      → base ≡ 64 * (row * words_for (length own))
+      → Copies words (row_of instance (slice_index placed row)) ranks base next
+      → AreCopied instance own placed (words_for (length own)) row words → AreCopied instance own placed
+      (words_for (length own)) (row + 1) next
   copied_more words next row base h e copies s = record {
     whole = copies.whole ∙ s.whole;
     exact = λ place cell inside small. (
       λ has. (elim ((copies.exact (64 * (place * width) + cell)).0 has) [
         | inl was ↦ (let b = (s.exact place cell inside small).0 was in (omega (arith, b.0), b.1, b.2))
         | inr copy ↦ (let r = rank_of row copy.from h copy.had in
-            let same = same_row width place row cell (slice_index ranks copy.from) small (omega (arith, r.0)) (copy.there ∙ ap (λ (n : ℕ). n + slice_index ranks copy.from) e) in
+            let same = same_row width place row cell (slice_index ranks copy.from) small (omega (arith, r.0))
+            (copy.there ∙ ap (λ (n : ℕ). n + slice_index ranks copy.from) e) in
             let at : copy.from ≡ slice_index own cell = sym r.1 ∙ ap (slice_index own) (sym same.1) in (
               omega (arith, same.0),
               omega (arith, same.1, r.0),
-              subst (λ (p : ℕ). LightsAt instance (slice_index placed p) (slice_index own cell)) (sym same.0) (subst (λ (c : ℕ). LightsAt instance (slice_index placed row) c) at copy.had),
+              subst (λ (p : ℕ). LightsAt instance (slice_index placed p) (slice_index own cell)) (sym same.0)
+                  (subst (λ (c : ℕ). LightsAt instance (slice_index placed row) c) at copy.had),
             ))
       ]),
       λ b. (copies.exact (64 * (place * width) + cell)).1 (elim (cases_lt place row) [
@@ -126,8 +151,11 @@ module _ (instance : Instance) (own placed ranks : List ℕ) (closed : IsClosed 
       width : ℕ
       width = words_for (length own)
 
-pub copied_start : (instance : Instance) (own placed words : List ℕ) → AreEmpty (length placed) (length own) words → AreCopied instance own placed (words_for (length own)) 0 words
+-- before the first place all rows are empty
+pub copied_start : (instance : Instance) (own placed words : List ℕ) → AreEmpty (length placed) (length own) words
+    → AreCopied instance own placed (words_for (length own)) 0 words
 copied_start instance own placed words empty = record {
   whole = empty.whole;
-  exact = λ place cell inside small. (λ has. absurd (empty.none (64 * (place * words_for (length own)) + cell) has), λ b. absurd (omega (arith, b.0)));
+  exact = λ place cell inside small.
+      (λ has. absurd (empty.none (64 * (place * words_for (length own)) + cell) has), λ b. absurd (omega (arith, b.0)));
 }

@@ -10,21 +10,35 @@ use Rattle.cave_regions.specs.Joining.{AreAlone}
 use Rattle.cave_regions.specs.Restricting.{IsClosed, IsLighting}
 use Rattle.cave_regions.proofs.RestrictLemmas.{chosen_at, chosen_count}
 
-pub closed_whole : (instance : Instance) (own placed : List ℕ) → IsInstance instance → 0 < length instance.cells → AreAlone (length instance.cells) own → Lists (IsLighting instance) placed → IsClosed instance own placed
+-- all cells, with the places that light any, are closed
+pub closed_whole : (instance : Instance) (own placed : List ℕ) → IsInstance instance → 0 < length instance.cells
+    → AreAlone (length instance.cells) own → Lists (IsLighting instance) placed → IsClosed instance own placed
 closed_whole instance own placed is filled alone places = record {
   filled = omega (arith, alone.whole);
   cells = record {
-    ascending = λ k h. omega (arith, alone.each k (omega (arith, alone.whole)), alone.each (k + 1) (omega (arith, alone.whole)));
-    inside = λ k d h. (let same = get_or_default_zero own k d h in omega (arith, same, alone.each k (omega (arith, alone.whole)), alone.whole));
+    ascending = λ k h. omega (
+      arith,
+      alone.each k (omega (arith, alone.whole)),
+      alone.each (k + 1)
+          (omega (arith, alone.whole)),
+    );
+    inside = λ k d h. (let same = get_or_default_zero own k d h in
+        omega (arith, same, alone.each k (omega (arith, alone.whole)), alone.whole));
   };
-  places = record { ascending = places.ascending; inside = λ k d h. ((places.exact _).0 (Contains-get_or placed k d h)).inside };
+  places = record {
+    ascending = places.ascending;
+    inside = λ k d h.
+        ((places.exact _).0 (Contains-get_or placed k d h)).inside;
+  };
   lighting = λ place has. (let kind = (places.exact place).0 has in (kind.cell, kind.lit));
   to_own = λ place cell has lit. (let kind = (places.exact place).0 has in
-      let inside = is.of_cells place cell kind.inside lit in element_of own cell cell (omega (arith, alone.whole)) (alone.each cell inside));
+      let inside = is.of_cells place cell kind.inside lit in element_of own cell cell (omega (arith, alone.whole))
+      (alone.each cell inside));
   by_placed = λ place cell h has lit. (places.exact place).1 (record { inside = h; cell = cell; lit = lit });
 }
 
 -- all items chosen are the items
 pub chosen_all : (items own : List ℕ) → AreAlone (length items) own → map (slice_index items) own ≡ items
 chosen_all items own alone = ext_get_or 0 (map (slice_index items) own) items (chosen_count items own ∙ alone.whole)
-    (λ i h. (let inside : i < length own = omega (arith, chosen_count items own) in chosen_at items own i inside ∙ ap (slice_index items) (alone.each i (omega (arith, alone.whole)))))
+    (λ i h. (let inside : i < length own = omega (arith, chosen_count items own) in chosen_at items own i inside
+    ∙ ap (slice_index items) (alone.each i (omega (arith, alone.whole)))))

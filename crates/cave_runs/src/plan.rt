@@ -157,11 +157,11 @@ pub fn run_plan<X: Threads + Wait + Sync, R: Read, W: Write, V: Write, G: Gate>(
     // A fault of the input is the one that the definitions name.
     ensures fault { IfErr result (λ e. IsOfInput e → e ≢ RunFault.NoThread → IfSome (R.remaining reader.old)
         (λ bytes. IsNoPlanOfInput bytes (option_copied table.entry) (rule_of opts.now.rule) e)) }
-    // Threads are asked for only where more workers than one are.
-    ensures threads { IfErr result (λ e. e ≡ RunFault.NoThread → 1 < opts.now.workers.number) }
     // Such a fault is answered, unless a read failed.
     ensures refused { IfSome (R.remaining reader.old) (λ bytes. (e : RunFault)
         → IsNoPlanOfInput bytes (option_copied table.entry) (rule_of opts.now.rule) e → IsRefusedRun result e) }
+    // Threads are asked for only where more workers than one are.
+    ensures threads { IfErr result (λ e. e ≡ RunFault.NoThread → 1 < opts.now.workers.number) }
     // A failed read comes before more than the limit was read.
     ensures before { IfErr result (λ e. e ≡ RunFault.ReadFailed
         → GivesAtMost structure_limit (R.remaining reader.old) (R.remaining reader.new)) }

@@ -1,5 +1,6 @@
 -- Line feeds: where lines are cut, and that no line of a certificate has one.
-use Rattle.std.proofs.Common.{◌≡◌, ◌≢◌, ℕ, zero, suc, ◌+◌, ◌<◌, ◌≤◌, inl, inr, List, [], ◌∷◌, ◌++◌, length, take, drop, get_or, All, refl, sym, subst, ap, arith, append_assoc, add-one, ◌∙◌}
+use Rattle.std.proofs.Common.{◌≡◌, ◌≢◌, ℕ, zero, suc, ◌+◌, ◌<◌, ◌≤◌, inl, inr, List, [], ◌∷◌, ◌++◌, length, take}
+use Rattle.std.proofs.Common.{drop, get_or, All, refl, sym, subst, ap, arith, append_assoc, add-one, ◌∙◌}
 use Rattle.std.specs.Prelude.{Bool, true, not, codes, decimal, nat_eq, ◌&&◌}
 use Rattle.std.proofs.lemmas.Bool.{eq-eqb}
 use Rattle.std.proofs.lemmas.List.Elements.{All-head, All-tail}
@@ -10,15 +11,19 @@ use Rattle.certificate_lines.specs.Sound.{IsSound}
 use Rattle.certificate_lines.specs.Steps.{Takes, Leads, Says}
 use Rattle.certificate_lines.proofs.Digits.{AreDigits, digits_of}
 use Rattle.certificate_lines.proofs.Walk.{sound_after}
-use Rattle.certificate_lines.proofs.Lift.{AreSmall, and_both, start_small, box_small, headroom_small, need_small, regions_small, end_small, region_small, dark_small, torches_small, leaf_small, branch_small, bar_small}
+use Rattle.certificate_lines.proofs.Lift.{AreSmall, and_both, start_small, box_small, headroom_small, need_small}
+use Rattle.certificate_lines.proofs.Lift.{regions_small, end_small, region_small, dark_small, torches_small}
+use Rattle.certificate_lines.proofs.Lift.{leaf_small, branch_small, bar_small}
 use Rattle.certificate_lines.specs.declared.stage.Stage.{Stage}
 use Rattle.certificate_lines.specs.declared.stage.Stage.TheVariants as stage
 
 -- ---- the place of the first one
 
-pub cut_at : (bytes : List ℕ) (i : ℕ) → i < length bytes → get_or bytes i 0 ≡ 10 → ((k : ℕ) → k < i → get_or bytes k 0 ≢ 10) → IsCutLine bytes (take i bytes) (drop (i + 1) bytes)
+pub cut_at : (bytes : List ℕ) (i : ℕ) → i < length bytes → get_or bytes i 0 ≡ 10
+    → ((k : ℕ) → k < i → get_or bytes k 0 ≢ 10) → IsCutLine bytes (take i bytes) (drop (i + 1) bytes)
 cut_at [] i h e f = absurd (omega arith)
-cut_at (b ∷ bytes) zero h e f = record { parts = (let g : b ≡ 10 = e in let d : drop (0 + 1) (b ∷ bytes) ≡ bytes = refl in cc); clean = tt }
+cut_at (b ∷ bytes) zero h e f =
+    record { parts = (let g : b ≡ 10 = e in let d : drop (0 + 1) (b ∷ bytes) ≡ bytes = refl in cc); clean = tt }
 cut_at (b ∷ bytes) (suc i) h e f =
     let r = cut_at bytes i (omega arith) e (λ k l. f (suc k) (omega arith)) in
     let d : drop (suc i + 1) (b ∷ bytes) ≡ drop (i + 1) bytes = rw (add-one, add-one) refl in
@@ -58,7 +63,11 @@ clean_digits (c ∷ cs) d = ((λ e. (let f = d.0 in omega arith)), clean_digits 
 
 clean_numbers : (numbers : List ℕ) → All IsSmall numbers → HasNoFeed (numbers_text numbers)
 clean_numbers [] a = tt
-clean_numbers (n ∷ ns) a = ((λ e. omega arith), clean_append (decimal n) (numbers_text ns) (clean_digits (decimal n) (digits_of n (All-head IsSmall n ns a))) (clean_numbers ns (All-tail IsSmall n ns a)))
+clean_numbers (n ∷ ns) a = (
+  (λ e. omega arith),
+  clean_append (decimal n) (numbers_text ns)
+      (clean_digits (decimal n) (digits_of n (All-head IsSmall n ns a))) (clean_numbers ns (All-tail IsSmall n ns a)),
+)
 
 abbrev is_clean : List ℕ → Bool
 is_clean [] = true
@@ -67,33 +76,48 @@ is_clean (c ∷ cs) = not (nat_eq c 10) && is_clean cs
 clean_word : (word : List ℕ) → is_clean word ≡ true → HasNoFeed word
 clean_word [] e = tt
 clean_word (c ∷ cs) e =
-    let r = and_both (not (nat_eq c 10)) (is_clean cs) e in
-    ((λ f. (let g = eq-eqb c 10 f in let h : not (nat_eq c 10) ≡ not true = ap not g in let i = r.0 in cc)), clean_word cs r.1)
+    let r = and_both (not (nat_eq c 10)) (is_clean cs) e in (
+      (λ f. (let g = eq-eqb c 10 f in let h : not (nat_eq c 10) ≡ not true = ap not g in let i = r.0 in cc)),
+      clean_word cs r.1,
+    )
 
-clean_says : (word text : List ℕ) (Means : List ℕ → Stage → Type 0) (next : Stage) → is_clean word ≡ true → AreSmall Means → Says word Means text next → HasNoFeed text
-clean_says word text Means next w small s = subst HasNoFeed (sym s.1) (clean_append word (numbers_text s.0) (clean_word word w) (clean_numbers s.0 (small.each s.0 next s.2)))
+clean_says : (word text : List ℕ) (Means : List ℕ → Stage → Type 0) (next : Stage) → is_clean word ≡ true
+    → AreSmall Means → Says word Means text next → HasNoFeed text
+clean_says word text Means next w small s = subst HasNoFeed (sym s.1)
+    (clean_append word (numbers_text s.0) (clean_word word w) (clean_numbers s.0 (small.each s.0 next s.2)))
 
 pub clean_takes : (s next : Stage) (text : List ℕ) → IsSound s → Takes s text next → HasNoFeed text
 clean_takes stage.Start next text h t = clean_says (codes "torchproof") text _ next refl start_small t
 clean_takes (stage.Box second) next text h t = clean_says (codes "box") text _ next refl (box_small second) t
-clean_takes (stage.Headroom second count) next text h t = clean_says (codes "headroom") text _ next refl (headroom_small second count) t
+clean_takes (stage.Headroom second count) next text h t = clean_says (codes "headroom") text _ next refl
+    (headroom_small second count) t
 clean_takes (stage.Need count) next text h t = clean_says (codes "need") text _ next refl (need_small count) t
-clean_takes (stage.Regions second count) next text h t = clean_says (codes "regions") text _ next refl (regions_small second count h) t
-clean_takes (stage.Region second count to_come) next text h (inl t) = clean_says (codes "end") text _ next refl (end_small to_come) t
-clean_takes (stage.Region second count to_come) next text h (inr t) = clean_says (codes "region") text _ next refl (region_small second count to_come h.0) t
-clean_takes (stage.Dark second count to_come n m) next text h t = clean_says (codes "D") text _ next refl (dark_small second count to_come n m h.0) t
-clean_takes (stage.Torches second count to_come m) next text h t = clean_says (codes "T") text _ next refl (torches_small second count to_come m h.0) t
-clean_takes (stage.Node second count to_come pending) next text h (inl t) = clean_says (codes "L") text _ next refl (leaf_small second count to_come pending h.0) t
-clean_takes (stage.Node second count to_come pending) next text h (inr (inl t)) = clean_says (codes "B") text _ next refl (branch_small second count to_come pending h.0) t
-clean_takes (stage.Node second count to_come pending) next text h (inr (inr t)) = clean_says (codes "E") text _ next refl (bar_small second count to_come pending h.0) t
+clean_takes (stage.Regions second count) next text h t = clean_says (codes "regions") text _ next refl
+    (regions_small second count h) t
+clean_takes (stage.Region second count to_come) next text h (inl t) = clean_says (codes "end") text _ next refl
+    (end_small to_come) t
+clean_takes (stage.Region second count to_come) next text h (inr t) = clean_says (codes "region") text _ next refl
+    (region_small second count to_come h.0) t
+clean_takes (stage.Dark second count to_come n m) next text h t = clean_says (codes "D") text _ next refl
+    (dark_small second count to_come n m h.0) t
+clean_takes (stage.Torches second count to_come m) next text h t = clean_says (codes "T") text _ next refl
+    (torches_small second count to_come m h.0) t
+clean_takes (stage.Node second count to_come pending) next text h (inl t) = clean_says (codes "L") text _ next refl
+    (leaf_small second count to_come pending h.0) t
+clean_takes (stage.Node second count to_come pending) next text h (inr (inl t)) =
+    clean_says (codes "B") text _ next refl (branch_small second count to_come pending h.0) t
+clean_takes (stage.Node second count to_come pending) next text h (inr (inr t)) =
+    clean_says (codes "E") text _ next refl (bar_small second count to_come pending h.0) t
 clean_takes stage.Done next text h t = absurd t
 
 pub clean_leads : (lines : List (List ℕ)) (s u : Stage) → IsSound s → Leads lines s u → AreClean lines
 clean_leads [] s u h l = tt
-clean_leads (text ∷ lines) s u h (next, t, rest) = (clean_takes s next text h t, clean_leads lines next u (sound_after s next text h t) rest)
+clean_leads (text ∷ lines) s u h (next, t, rest) =
+    (clean_takes s next text h t, clean_leads lines next u (sound_after s next text h t) rest)
 
 -- clean lines in front are the front of any clean lines with this text
-pub same_front : (before lines : List (List ℕ)) (rest : List ℕ) → AreClean before → AreClean lines → ended before ++ rest ≡ ended lines → (later : List (List ℕ)) × (lines ≡ before ++ later) × (rest ≡ ended later)
+pub same_front : (before lines : List (List ℕ)) (rest : List ℕ) → AreClean before → AreClean lines
+    → ended before ++ rest ≡ ended lines → (later : List (List ℕ)) × (lines ≡ before ++ later) × (rest ≡ ended later)
 same_front [] lines rest n m e = (lines, refl, e)
 same_front (a ∷ before) [] rest n m e = absurd (empty a (ended before) rest e) where
   empty : (a b rest : List ℕ) → ((a ++ 10 ∷ []) ++ b) ++ rest ≡ [] → ⊥
@@ -109,7 +133,9 @@ same_front (a ∷ before) (b ∷ lines) rest n m e =
     (r.0, cc, r.2)
 
 -- a text without a line feed is no longer than the line that it begins
-pub clean_length : (front line after later : List ℕ) → HasNoFeed front → front ++ after ≡ line ++ 10 ∷ later → length front ≤ length line
+pub clean_length : (front line after later : List ℕ) → HasNoFeed front → front ++ after ≡ line ++ 10 ∷ later
+    → length front ≤ length line
 clean_length [] line after later n e = omega arith
 clean_length (b ∷ front) [] after later n e = absurd (n.0 cc)
-clean_length (b ∷ front) (c ∷ line) after later n e = (let r = clean_length front line after later n.1 cc in omega arith)
+clean_length (b ∷ front) (c ∷ line) after later n e =
+    (let r = clean_length front line after later n.1 cc in omega arith)

@@ -6,44 +6,62 @@ use Rattle.certificate_lines.specs.Decides.{IsLineOf, IsNoLineOf, IsNone, Decide
 use Rattle.certificate_lines.specs.Steps.{Takes, Says, RegionMeans, LeafMeans}
 use Rattle.certificate_lines.specs.Sound.{IsSound}
 use Rattle.certificate_lines.specs.Kinds.{word_of, kind_at, node_kind, region_kind, MeansAt}
-use Rattle.certificate_lines.proofs.Lift.{AreSmall, lift, lift_none, at_end, at_region, at_leaf, at_branch, at_bar, start_small, box_small, headroom_small, need_small, regions_small, end_small, region_small, dark_small, torches_small, leaf_small, branch_small, bar_small}
+use Rattle.certificate_lines.proofs.Lift.{AreSmall, lift, lift_none, at_end, at_region, at_leaf, at_branch, at_bar}
+use Rattle.certificate_lines.proofs.Lift.{start_small, box_small, headroom_small, need_small, regions_small}
+use Rattle.certificate_lines.proofs.Lift.{end_small, region_small, dark_small, torches_small, leaf_small}
+use Rattle.certificate_lines.proofs.Lift.{branch_small, bar_small}
 use Rattle.certificate_lines.specs.declared.kind.Kind.{Kind}
 use Rattle.certificate_lines.specs.declared.kind.Kind.TheVariants as kind
 use Rattle.certificate_lines.specs.declared.stage.Stage.{Stage}
 use Rattle.certificate_lines.specs.declared.stage.Stage.TheVariants as stage
 
+-- numbers that a test tells apart differ
 not_equal : (a b : ℕ) → nat_eq a b ≡ false → a ≢ b
 not_equal a b off e = true≢false (sym (eq-eqb a b e) ∙ off)
 
 -- whatever kind of line it is, it may be one where a tree is to come
-node_decides : (second : Bool) (count to_come pending : ℕ) (text : List ℕ) (r : Option Stage) (b d : Bool) → nat_eq (get_or text 0 0) 66 ≡ b → nat_eq (get_or text 0 0) 69 ≡ d
-    → Decides r (Says (word_of (if b then kind.Branch else (if d then kind.Bar else kind.Leaf))) (MeansAt (stage.Node second count to_come pending) (if b then kind.Branch else (if d then kind.Bar else kind.Leaf))) text)
+node_decides : (second : Bool) (count to_come pending : ℕ) (text : List ℕ) (r : Option Stage) (b d : Bool)
+    → nat_eq (get_or text 0 0) 66 ≡ b → nat_eq (get_or text 0 0) 69 ≡ d
+    → Decides r (Says (word_of (if b then kind.Branch else (if d then kind.Bar else kind.Leaf)))
+    (MeansAt (stage.Node second count to_come pending)
+    (if b then kind.Branch else (if d then kind.Bar else kind.Leaf))) text)
     → Decides r (Takes (stage.Node second count to_come pending) text)
-node_decides second count to_come pending text r true d p q h = at_branch second count to_come pending text r (eqb-true (get_or text 0 0) 66 p) h
-node_decides second count to_come pending text r false true p q h = at_bar second count to_come pending text r (eqb-true (get_or text 0 0) 69 q) h
-node_decides second count to_come pending text r false false p q h = at_leaf second count to_come pending text r (not_equal (get_or text 0 0) 66 p) (not_equal (get_or text 0 0) 69 q) h
+node_decides second count to_come pending text r true d p q h = at_branch second count to_come pending text r
+    (eqb-true (get_or text 0 0) 66 p) h
+node_decides second count to_come pending text r false true p q h = at_bar second count to_come pending text r
+    (eqb-true (get_or text 0 0) 69 q) h
+node_decides second count to_come pending text r false false p q h = at_leaf second count to_come pending text r
+    (not_equal (get_or text 0 0) 66 p) (not_equal (get_or text 0 0) 69 q) h
 
-region_decides : (second : Bool) (count to_come : ℕ) (text : List ℕ) (r : Option Stage) (b : Bool) → nat_eq to_come 0 ≡ b
-    → Decides r (Says (word_of (if b then kind.End else kind.Region)) (MeansAt (stage.Region second count to_come) (if b then kind.End else kind.Region)) text)
+-- where a region or the end is to come, the line of that kind decides
+region_decides : (second : Bool) (count to_come : ℕ) (text : List ℕ) (r : Option Stage) (b : Bool)
+    → nat_eq to_come 0 ≡ b
+    → Decides r (Says (word_of (if b then kind.End else kind.Region))
+    (MeansAt (stage.Region second count to_come) (if b then kind.End else kind.Region)) text)
     → Decides r (Takes (stage.Region second count to_come) text)
 region_decides second count to_come text r true p h = at_end second count to_come text r (eqb-true to_come 0 p) h
 region_decides second count to_come text r false p h = at_region second count to_come text r (not_equal to_come 0 p) h
 
 -- what is decided of a line of the kind is decided of the line
-kind_decides : (s : Stage) (text : List ℕ) (r : Option Stage) → Decides r (Says (word_of (kind_at s text)) (MeansAt s (kind_at s text)) text) → Decides r (Takes s text)
+kind_decides : (s : Stage) (text : List ℕ) (r : Option Stage)
+    → Decides r (Says (word_of (kind_at s text)) (MeansAt s (kind_at s text)) text) → Decides r (Takes s text)
 kind_decides stage.Start text r h = h
 kind_decides (stage.Box second) text r h = h
 kind_decides (stage.Headroom second count) text r h = h
 kind_decides (stage.Need count) text r h = h
 kind_decides (stage.Regions second count) text r h = h
-kind_decides (stage.Region second count to_come) text r h = region_decides second count to_come text r (nat_eq to_come 0) refl h
+kind_decides (stage.Region second count to_come) text r h = region_decides second count to_come text r
+    (nat_eq to_come 0) refl h
 kind_decides (stage.Dark second count to_come n t) text r h = h
 kind_decides (stage.Torches second count to_come t) text r h = h
-kind_decides (stage.Node second count to_come pending) text r h = node_decides second count to_come pending text r (nat_eq (get_or text 0 0) 66) (nat_eq (get_or text 0 0) 69) refl refl h
+kind_decides (stage.Node second count to_come pending) text r h = node_decides second count to_come pending text r
+    (nat_eq (get_or text 0 0) 66) (nat_eq (get_or text 0 0) 69) refl refl h
 kind_decides stage.Done text None h = record { none = λ other t. t }
 kind_decides stage.Done text (Some next) h = absurd h.is.2
 
-node_small : (second : Bool) (count to_come pending : ℕ) (k : Kind) → count ≤ 262144 → AreSmall (MeansAt (stage.Node second count to_come pending) k)
+-- the numbers of a node that fits are small
+node_small : (second : Bool) (count to_come pending : ℕ) (k : Kind) → count ≤ 262144
+    → AreSmall (MeansAt (stage.Node second count to_come pending) k)
 node_small second count to_come pending kind.Branch few = branch_small second count to_come pending few
 node_small second count to_come pending kind.Bar few = bar_small second count to_come pending few
 node_small second count to_come pending kind.Version few = leaf_small second count to_come pending few
@@ -57,7 +75,9 @@ node_small second count to_come pending kind.Torches few = leaf_small second cou
 node_small second count to_come pending kind.Leaf few = leaf_small second count to_come pending few
 node_small second count to_come pending kind.End few = leaf_small second count to_come pending few
 
-a_region_small : (second : Bool) (count to_come : ℕ) (k : Kind) → count ≤ 262144 → AreSmall (MeansAt (stage.Region second count to_come) k)
+-- the number of regions, of a line that fits, is small
+a_region_small : (second : Bool) (count to_come : ℕ) (k : Kind) → count ≤ 262144
+    → AreSmall (MeansAt (stage.Region second count to_come) k)
 a_region_small second count to_come kind.Version few = region_small second count to_come few
 a_region_small second count to_come kind.Size few = region_small second count to_come few
 a_region_small second count to_come kind.Headroom few = region_small second count to_come few
@@ -72,7 +92,9 @@ a_region_small second count to_come kind.Bar few = region_small second count to_
 a_region_small second count to_come kind.End few = end_small to_come
 
 -- what the numbers of a region's line mean, and of a leaf's
-pub region_means : (second : Bool) (count to_come : ℕ) (numbers : List ℕ) (r : Option Stage) (k : Kind) → (k ≢ kind.End) → Decides r (RegionMeans second count to_come numbers) → Decides r (MeansAt (stage.Region second count to_come) k numbers)
+pub region_means : (second : Bool) (count to_come : ℕ) (numbers : List ℕ) (r : Option Stage) (k : Kind) → (k ≢ kind.End)
+    → Decides r (RegionMeans second count to_come numbers)
+    → Decides r (MeansAt (stage.Region second count to_come) k numbers)
 region_means second count to_come numbers r kind.Version other h = h
 region_means second count to_come numbers r kind.Size other h = h
 region_means second count to_come numbers r kind.Headroom other h = h
@@ -86,7 +108,10 @@ region_means second count to_come numbers r kind.Branch other h = h
 region_means second count to_come numbers r kind.Bar other h = h
 region_means second count to_come numbers r kind.End other h = absurd (other refl)
 
-pub leaf_means : (second : Bool) (count to_come pending : ℕ) (numbers : List ℕ) (r : Option Stage) (k : Kind) → (k ≢ kind.Branch) → (k ≢ kind.Bar) → Decides r (LeafMeans second count to_come pending numbers) → Decides r (MeansAt (stage.Node second count to_come pending) k numbers)
+-- among nodes, what is no branch and no bar means a leaf
+pub leaf_means : (second : Bool) (count to_come pending : ℕ) (numbers : List ℕ) (r : Option Stage) (k : Kind)
+    → (k ≢ kind.Branch) → (k ≢ kind.Bar) → Decides r (LeafMeans second count to_come pending numbers)
+    → Decides r (MeansAt (stage.Node second count to_come pending) k numbers)
 leaf_means second count to_come pending numbers r kind.Version no_branch no_bar h = h
 leaf_means second count to_come pending numbers r kind.Size no_branch no_bar h = h
 leaf_means second count to_come pending numbers r kind.Headroom no_branch no_bar h = h
@@ -100,6 +125,7 @@ leaf_means second count to_come pending numbers r kind.Branch no_branch no_bar h
 leaf_means second count to_come pending numbers r kind.Bar no_branch no_bar h = absurd (no_bar refl)
 leaf_means second count to_come pending numbers r kind.End no_branch no_bar h = h
 
+-- the numbers of any line that fits are small
 kind_small : (s : Stage) (text : List ℕ) → IsSound s → AreSmall (MeansAt s (kind_at s text))
 kind_small stage.Start text i = start_small
 kind_small (stage.Box second) text i = box_small second
@@ -109,15 +135,23 @@ kind_small (stage.Regions second count) text i = regions_small second count i
 kind_small (stage.Region second count to_come) text i = a_region_small second count to_come (region_kind to_come) i.0
 kind_small (stage.Dark second count to_come n t) text i = dark_small second count to_come n t i.0
 kind_small (stage.Torches second count to_come t) text i = torches_small second count to_come t i.0
-kind_small (stage.Node second count to_come pending) text i = node_small second count to_come pending (node_kind (get_or text 0 0)) i.0
+kind_small (stage.Node second count to_come pending) text i = node_small second count to_come pending
+    (node_kind (get_or text 0 0)) i.0
 kind_small stage.Done text i = record { each = λ ns next m. absurd m; few = λ ns next m. absurd m }
 
-pub line_fits : (s : Stage) (k : Kind) (text numbers : List ℕ) (r : Option Stage) → IsSound s → k ≡ kind_at s text → IsLineOf text (word_of k) numbers → Decides r (MeansAt s k numbers) → Decides r (Takes s text)
+-- a line of the kind that may come fits where its numbers mean something
+pub line_fits : (s : Stage) (k : Kind) (text numbers : List ℕ) (r : Option Stage) → IsSound s → k ≡ kind_at s text
+    → IsLineOf text (word_of k) numbers → Decides r (MeansAt s k numbers) → Decides r (Takes s text)
 line_fits s k text numbers r sound is l h =
     let small = kind_small s text sound in
-    kind_decides s text r (subst (λ (j : Kind). Decides r (Says (word_of j) (MeansAt s j) text)) is (lift (word_of k) text numbers (MeansAt s k) r (subst (λ (j : Kind). AreSmall (MeansAt s j)) (sym is) small) l h))
+    kind_decides s text r (subst (λ (j : Kind). Decides r (Says (word_of j) (MeansAt s j) text)) is
+    (lift (word_of k) text numbers (MeansAt s k) r
+    (subst (λ (j : Kind). AreSmall (MeansAt s j)) (sym is) small) l h))
 
-pub line_fits_not : (s : Stage) (k : Kind) (text : List ℕ) → IsSound s → k ≡ kind_at s text → IsNoLineOf text (word_of k) → IsNone (Takes s text)
+-- a line that isn't of that kind doesn't fit
+pub line_fits_not : (s : Stage) (k : Kind) (text : List ℕ) → IsSound s → k ≡ kind_at s text
+    → IsNoLineOf text (word_of k) → IsNone (Takes s text)
 line_fits_not s k text sound is l =
     let small = kind_small s text sound in
-    kind_decides s text None (lift_none (word_of (kind_at s text)) text (MeansAt s (kind_at s text)) small (subst (λ (j : Kind). IsNoLineOf text (word_of j)) is l))
+    kind_decides s text None (lift_none (word_of (kind_at s text)) text (MeansAt s (kind_at s text)) small
+    (subst (λ (j : Kind). IsNoLineOf text (word_of j)) is l))

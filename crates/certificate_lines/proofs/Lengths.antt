@@ -6,7 +6,9 @@ use Rattle.std.proofs.lemmas.List.Elements.{All-head, All-tail}
 use Rattle.certificate_lines.specs.Numbers.{IsSmall, numbers_text, longest_line}
 use Rattle.certificate_lines.specs.Sound.{IsSound}
 use Rattle.certificate_lines.specs.Steps.{Takes, Says}
-use Rattle.certificate_lines.proofs.Lift.{AreSmall, start_small, box_small, headroom_small, need_small, regions_small, end_small, region_small, dark_small, torches_small, leaf_small, branch_small, bar_small}
+use Rattle.certificate_lines.proofs.Lift.{AreSmall, start_small, box_small, headroom_small, need_small, regions_small}
+use Rattle.certificate_lines.proofs.Lift.{end_small, region_small, dark_small, torches_small, leaf_small}
+use Rattle.certificate_lines.proofs.Lift.{branch_small, bar_small}
 use Rattle.certificate_lines.specs.declared.stage.Stage.{Stage}
 use Rattle.certificate_lines.specs.declared.stage.Stage.TheVariants as stage
 
@@ -22,7 +24,8 @@ short_numbers (n ∷ ns) a = omega (
   length-append (decimal n) (numbers_text ns),
 )
 
-short_says : (word text : List ℕ) (Means : List ℕ → Stage → Type 0) (next : Stage) → AreSmall Means → length word ≤ 10 → Says word Means text next → length text ≤ longest_line
+short_says : (word text : List ℕ) (Means : List ℕ → Stage → Type 0) (next : Stage) → AreSmall Means → length word ≤ 10
+    → Says word Means text next → length text ≤ longest_line
 short_says word text Means next small w s = omega (
   arith,
   ap length s.1,
@@ -34,14 +37,23 @@ short_says word text Means next small w s = omega (
 pub short_line : (s next : Stage) (text : List ℕ) → IsSound s → Takes s text next → length text ≤ longest_line
 short_line stage.Start next text h t = short_says (codes "torchproof") text _ next start_small (omega arith) t
 short_line (stage.Box second) next text h t = short_says (codes "box") text _ next (box_small second) (omega arith) t
-short_line (stage.Headroom second count) next text h t = short_says (codes "headroom") text _ next (headroom_small second count) (omega arith) t
+short_line (stage.Headroom second count) next text h t = short_says (codes "headroom") text _ next
+    (headroom_small second count) (omega arith) t
 short_line (stage.Need count) next text h t = short_says (codes "need") text _ next (need_small count) (omega arith) t
-short_line (stage.Regions second count) next text h t = short_says (codes "regions") text _ next (regions_small second count h) (omega arith) t
-short_line (stage.Region second count to_come) next text h (inl t) = short_says (codes "end") text _ next (end_small to_come) (omega arith) t
-short_line (stage.Region second count to_come) next text h (inr t) = short_says (codes "region") text _ next (region_small second count to_come h.0) (omega arith) t
-short_line (stage.Dark second count to_come n m) next text h t = short_says (codes "D") text _ next (dark_small second count to_come n m h.0) (omega arith) t
-short_line (stage.Torches second count to_come m) next text h t = short_says (codes "T") text _ next (torches_small second count to_come m h.0) (omega arith) t
-short_line (stage.Node second count to_come pending) next text h (inl t) = short_says (codes "L") text _ next (leaf_small second count to_come pending h.0) (omega arith) t
-short_line (stage.Node second count to_come pending) next text h (inr (inl t)) = short_says (codes "B") text _ next (branch_small second count to_come pending h.0) (omega arith) t
-short_line (stage.Node second count to_come pending) next text h (inr (inr t)) = short_says (codes "E") text _ next (bar_small second count to_come pending h.0) (omega arith) t
+short_line (stage.Regions second count) next text h t = short_says (codes "regions") text _ next
+    (regions_small second count h) (omega arith) t
+short_line (stage.Region second count to_come) next text h (inl t) = short_says (codes "end") text _ next
+    (end_small to_come) (omega arith) t
+short_line (stage.Region second count to_come) next text h (inr t) = short_says (codes "region") text _ next
+    (region_small second count to_come h.0) (omega arith) t
+short_line (stage.Dark second count to_come n m) next text h t = short_says (codes "D") text _ next
+    (dark_small second count to_come n m h.0) (omega arith) t
+short_line (stage.Torches second count to_come m) next text h t = short_says (codes "T") text _ next
+    (torches_small second count to_come m h.0) (omega arith) t
+short_line (stage.Node second count to_come pending) next text h (inl t) = short_says (codes "L") text _ next
+    (leaf_small second count to_come pending h.0) (omega arith) t
+short_line (stage.Node second count to_come pending) next text h (inr (inl t)) = short_says (codes "B") text _ next
+    (branch_small second count to_come pending h.0) (omega arith) t
+short_line (stage.Node second count to_come pending) next text h (inr (inr t)) = short_says (codes "E") text _ next
+    (bar_small second count to_come pending h.0) (omega arith) t
 short_line stage.Done next text h t = absurd t

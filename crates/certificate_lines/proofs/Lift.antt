@@ -1,6 +1,8 @@
 -- From the numbers of a line to the line.
-use Rattle.std.proofs.Common.{◌≡◌, ◌≢◌, ℕ, ◌≤◌, ◌⊎◌, inl, inr, List, [], ◌∷◌, length, get_or, All, refl, sym, subst, ap, arith}
-use Rattle.std.specs.Prelude.{Bool, true, false, IsTrue, Option, Some, None, Result, Ok, Err, IfOk, MatchBool, MatchOption, is_some, codes, nat_le, ◌&&◌}
+use Rattle.std.proofs.Common.{◌≡◌, ◌≢◌, ℕ, ◌≤◌, ◌⊎◌, inl, inr, List, [], ◌∷◌, length, get_or, All, refl, sym, subst}
+use Rattle.std.proofs.Common.{ap, arith}
+use Rattle.std.specs.Prelude.{Bool, true, false, IsTrue, Option, Some, None, Result, Ok, Err, IfOk, MatchBool}
+use Rattle.std.specs.Prelude.{MatchOption, is_some, codes, nat_le, ◌&&◌}
 use Rattle.std.proofs.lemmas.List.Elements.{All-nil, All-cons}
 use Rattle.std.proofs.lemmas.Bool.{leb-true}
 use Rattle.scan_core.specs.Box.{cell_count}
@@ -8,7 +10,9 @@ use Rattle.proof_rules.specs.Text.{line}
 use Rattle.proof_rules.specs.Certificate.{AreListed}
 use Rattle.certificate_lines.specs.Numbers.{IsSmall, most_numbers}
 use Rattle.certificate_lines.specs.Decides.{IsLineOf, IsNoLineOf, IsNone, Decides}
-use Rattle.certificate_lines.specs.Steps.{Says, StartMeans, BoxMeans, HeadroomMeans, NeedMeans, RegionsMeans, EndMeans, RegionMeans, DarkMeans, TorchesMeans, LeafMeans, BranchMeans, BarMeans}
+use Rattle.certificate_lines.specs.Steps.{Says, StartMeans, BoxMeans, HeadroomMeans, NeedMeans, RegionsMeans}
+use Rattle.certificate_lines.specs.Steps.{EndMeans, RegionMeans, DarkMeans, TorchesMeans, LeafMeans, BranchMeans}
+use Rattle.certificate_lines.specs.Steps.{BarMeans}
 use Rattle.certificate_lines.proofs.Complete.{listed_few}
 use Rattle.certificate_lines.specs.declared.stage.Stage.{Stage}
 
@@ -16,17 +20,26 @@ pub record AreSmall (Means : List ℕ → Stage → Type 0) : Type 0 where
   pub each : (numbers : List ℕ) (next : Stage) → Means numbers next → All IsSmall numbers
   pub few : (numbers : List ℕ) (next : Stage) → Means numbers next → length numbers ≤ most_numbers
 
-pub lift : (word text numbers : List ℕ) (Means : List ℕ → Stage → Type 0) (r : Option Stage) → AreSmall Means → IsLineOf text word numbers → Decides r (Means numbers) → Decides r (Says word Means text)
-lift word text numbers Means None small l h = record { none = λ other s. h.none other (subst (λ (ns : List ℕ). Means ns other) (l.only s.0 (small.each s.0 other s.2) s.1) s.2) }
+pub lift : (word text numbers : List ℕ) (Means : List ℕ → Stage → Type 0) (r : Option Stage) → AreSmall Means
+    → IsLineOf text word numbers → Decides r (Means numbers) → Decides r (Says word Means text)
+lift word text numbers Means None small l h =
+    record {
+      none = λ other s. h.none other
+          (subst (λ (ns : List ℕ). Means ns other) (l.only s.0 (small.each s.0 other s.2) s.1) s.2);
+    }
 lift word text numbers Means (Some next) small l h = record {
   is = (numbers, l.is, h.is);
-  only = λ other s. h.only other (subst (λ (ns : List ℕ). Means ns other) (l.only s.0 (small.each s.0 other s.2) s.1) s.2);
+  only = λ other s. h.only other
+      (subst (λ (ns : List ℕ). Means ns other) (l.only s.0 (small.each s.0 other s.2) s.1) s.2);
 }
 
-pub lift_none : (word text : List ℕ) (Means : List ℕ → Stage → Type 0) → AreSmall Means → IsNoLineOf text word → IsNone (Says word Means text)
-lift_none word text Means small l = record { none = λ other s. l.none s.0 (small.each s.0 other s.2) (small.few s.0 other s.2) s.1 }
+pub lift_none : (word text : List ℕ) (Means : List ℕ → Stage → Type 0) → AreSmall Means → IsNoLineOf text word
+    → IsNone (Says word Means text)
+lift_none word text Means small l =
+    record { none = λ other s. l.none s.0 (small.each s.0 other s.2) (small.few s.0 other s.2) s.1 }
 
-pub pick_left : (P Q : Stage → Type 0) (r : Option Stage) → ((s : Stage) → Q s → ⊥) → Decides r P → Decides r (λ s. P s ⊎ Q s)
+pub pick_left : (P Q : Stage → Type 0) (r : Option Stage) → ((s : Stage) → Q s → ⊥) → Decides r P
+    → Decides r (λ s. P s ⊎ Q s)
 pick_left P Q None no_other h = record {
   none = λ other s. elim s [
     | inl p ↦ h.none other p
@@ -41,7 +54,8 @@ pick_left P Q (Some next) no_other h = record {
   ];
 }
 
-pub pick_right : (P Q : Stage → Type 0) (r : Option Stage) → ((s : Stage) → P s → ⊥) → Decides r Q → Decides r (λ s. P s ⊎ Q s)
+pub pick_right : (P Q : Stage → Type 0) (r : Option Stage) → ((s : Stage) → P s → ⊥) → Decides r Q
+    → Decides r (λ s. P s ⊎ Q s)
 pick_right P Q None no_other h = record {
   none = λ other s. elim s [
     | inl p ↦ no_other other p
@@ -64,8 +78,10 @@ one_small a numbers e h = subst (All IsSmall) (sym e) (All-cons IsSmall a [] h (
 two_small : (a b : ℕ) (numbers : List ℕ) → numbers ≡ a ∷ b ∷ [] → a ≤ 262144 → b ≤ 262144 → All IsSmall numbers
 two_small a b numbers e h i = subst (All IsSmall) (sym e) (All-cons IsSmall a (b ∷ []) h (one_small b (b ∷ []) refl i))
 
-three_small : (a b c : ℕ) (numbers : List ℕ) → numbers ≡ a ∷ b ∷ c ∷ [] → a ≤ 262144 → b ≤ 262144 → c ≤ 262144 → All IsSmall numbers
-three_small a b c numbers e h i j = subst (All IsSmall) (sym e) (All-cons IsSmall a (b ∷ c ∷ []) h (two_small b c (b ∷ c ∷ []) refl i j))
+three_small : (a b c : ℕ) (numbers : List ℕ) → numbers ≡ a ∷ b ∷ c ∷ [] → a ≤ 262144 → b ≤ 262144 → c ≤ 262144
+    → All IsSmall numbers
+three_small a b c numbers e h i j = subst (All IsSmall) (sym e)
+    (All-cons IsSmall a (b ∷ c ∷ []) h (two_small b c (b ∷ c ∷ []) refl i j))
 
 listed_small : (count : ℕ) (cells : List ℕ) → count ≤ 262144 → AreListed count cells → All IsSmall cells
 listed_small count cells few a = λ k d h. (let b = a.below k d h in omega arith)
@@ -86,7 +102,8 @@ pub and_both : (b c : Bool) → IsTrue (b && c) → IsTrue b × IsTrue c
 and_both true c h = (refl, h)
 and_both false c h = absurd cc
 
-pub sides : (x y z n : ℕ) → IsTrue (nat_le x 128 && nat_le y 128 && nat_le z 128 && nat_le n 262144) → (x ≤ 128) × (y ≤ 128) × (z ≤ 128)
+pub sides : (x y z n : ℕ) → IsTrue (nat_le x 128 && nat_le y 128 && nat_le z 128 && nat_le n 262144)
+    → (x ≤ 128) × (y ≤ 128) × (z ≤ 128)
 sides x y z n h =
     let a = and_both (nat_le x 128 && nat_le y 128 && nat_le z 128) (nat_le n 262144) h in
     let b = and_both (nat_le x 128 && nat_le y 128) (nat_le z 128) a.0 in
@@ -94,7 +111,11 @@ sides x y z n h =
     (leb-true x 128 c.0, leb-true y 128 c.1, leb-true z 128 b.1)
 
 pub box_small : (second : Bool) → AreSmall (BoxMeans second)
-box_small second = record { each = λ ns s m. let h = sides m.0.x m.0.y m.0.z (cell_count m.0) m.2 in three_small m.0.x m.0.y m.0.z ns m.1 (omega (arith, h.0)) (omega (arith, h.1)) (omega (arith, h.2)); few = λ ns s m. omega (arith, ap length m.1) }
+box_small second = record {
+  each = λ ns s m. let h = sides m.0.x m.0.y m.0.z (cell_count m.0) m.2 in
+      three_small m.0.x m.0.y m.0.z ns m.1 (omega (arith, h.0)) (omega (arith, h.1)) (omega (arith, h.2));
+  few = λ ns s m. omega (arith, ap length m.1);
+}
 
 pub headroom_small : (second : Bool) (count : ℕ) → AreSmall (HeadroomMeans second count)
 headroom_small second count = record {
@@ -121,38 +142,73 @@ need_small count = record {
 }
 
 pub regions_small : (second : Bool) (count : ℕ) → count ≤ 262144 → AreSmall (RegionsMeans second count)
-regions_small second count few = record { each = λ ns s m. one_small m.0 ns m.1 (omega (arith, m.2)); few = λ ns s m. omega (arith, ap length m.1) }
+regions_small second count few =
+    record { each = λ ns s m. one_small m.0 ns m.1 (omega (arith, m.2)); few = λ ns s m. omega (arith, ap length m.1) }
 
 pub end_small : (to_come : ℕ) → AreSmall (EndMeans to_come)
-end_small to_come = record { each = λ ns s m. subst (All IsSmall) (sym m.1) (All-nil IsSmall); few = λ ns s m. omega (arith, ap length m.1) }
+end_small to_come = record {
+  each = λ ns s m. subst (All IsSmall) (sym m.1) (All-nil IsSmall);
+  few = λ ns s m. omega (arith, ap length m.1);
+}
 
 pub region_small : (second : Bool) (count to_come : ℕ) → count ≤ 262144 → AreSmall (RegionMeans second count to_come)
-region_small second count to_come few = record { each = λ ns s m. two_small m.1 m.2 ns m.4 (omega (arith, m.6)) (omega (arith, m.8)); few = λ ns s m. omega (arith, ap length m.4) }
+region_small second count to_come few =
+    record {
+      each = λ ns s m. two_small m.1 m.2 ns m.4 (omega (arith, m.6)) (omega (arith, m.8));
+      few = λ ns s m. omega (arith, ap length m.4);
+    }
 
-pub dark_small : (second : Bool) (count to_come n t : ℕ) → count ≤ 262144 → AreSmall (DarkMeans second count to_come n t)
-dark_small second count to_come n t few = record { each = λ ns s m. listed_small count ns few m.0; few = λ ns s m. omega (arith, listed_few count ns m.0) }
+pub dark_small : (second : Bool) (count to_come n t : ℕ) → count ≤ 262144
+    → AreSmall (DarkMeans second count to_come n t)
+dark_small second count to_come n t few =
+    record { each = λ ns s m. listed_small count ns few m.0; few = λ ns s m. omega (arith, listed_few count ns m.0) }
 
-pub torches_small : (second : Bool) (count to_come t : ℕ) → count ≤ 262144 → AreSmall (TorchesMeans second count to_come t)
-torches_small second count to_come t few = record { each = λ ns s m. listed_small count ns few m.0; few = λ ns s m. omega (arith, listed_few count ns m.0) }
+pub torches_small : (second : Bool) (count to_come t : ℕ) → count ≤ 262144
+    → AreSmall (TorchesMeans second count to_come t)
+torches_small second count to_come t few =
+    record { each = λ ns s m. listed_small count ns few m.0; few = λ ns s m. omega (arith, listed_few count ns m.0) }
 
-pub leaf_small : (second : Bool) (count to_come pending : ℕ) → count ≤ 262144 → AreSmall (LeafMeans second count to_come pending)
-leaf_small second count to_come pending few = record { each = λ ns s m. subst (All IsSmall) (sym m.3) (All-cons IsSmall (length m.1) m.1 (omega (arith, listed_few count m.1 m.4)) (listed_small count m.1 few m.4)); few = λ ns s m. omega (arith, ap length m.3, listed_few count m.1 m.4) }
+pub leaf_small : (second : Bool) (count to_come pending : ℕ) → count ≤ 262144
+    → AreSmall (LeafMeans second count to_come pending)
+leaf_small second count to_come pending few =
+    record {
+      each = λ ns s m. subst (All IsSmall) (sym m.3)
+          (All-cons IsSmall (length m.1) m.1 (omega (arith, listed_few count m.1 m.4))
+          (listed_small count m.1 few m.4));
+      few = λ ns s m. omega (arith, ap length m.3, listed_few count m.1 m.4);
+    }
 
-pub branch_small : (second : Bool) (count to_come pending : ℕ) → count ≤ 262144 → AreSmall (BranchMeans second count to_come pending)
-branch_small second count to_come pending few = record { each = λ ns s m. two_small m.1 m.2 ns m.4 (omega (arith, m.5)) (omega (arith, m.6)); few = λ ns s m. omega (arith, ap length m.4) }
+pub branch_small : (second : Bool) (count to_come pending : ℕ) → count ≤ 262144
+    → AreSmall (BranchMeans second count to_come pending)
+branch_small second count to_come pending few =
+    record {
+      each = λ ns s m. two_small m.1 m.2 ns m.4 (omega (arith, m.5)) (omega (arith, m.6));
+      few = λ ns s m. omega (arith, ap length m.4);
+    }
 
-pub bar_small : (second : Bool) (count to_come pending : ℕ) → count ≤ 262144 → AreSmall (BarMeans second count to_come pending)
-bar_small second count to_come pending few = record { each = λ ns s m. two_small m.1 m.2 ns m.5 (omega (arith, m.6)) (omega (arith, m.7)); few = λ ns s m. omega (arith, ap length m.5) }
+pub bar_small : (second : Bool) (count to_come pending : ℕ) → count ≤ 262144
+    → AreSmall (BarMeans second count to_come pending)
+bar_small second count to_come pending few =
+    record {
+      each = λ ns s m. two_small m.1 m.2 ns m.5 (omega (arith, m.6)) (omega (arith, m.7));
+      few = λ ns s m. omega (arith, ap length m.5);
+    }
 
 -- ---- the two lines that may come where a region may, and the three where a node does
 
-pub at_end : (second : Bool) (count to_come : ℕ) (text : List ℕ) (r : Option Stage) → to_come ≡ 0 → Decides r (Says (codes "end") (EndMeans to_come) text)
-    → Decides r (λ s. Says (codes "end") (EndMeans to_come) text s ⊎ Says (codes "region") (RegionMeans second count to_come) text s)
-at_end second count to_come text r e h = pick_left (Says (codes "end") (EndMeans to_come) text) (Says (codes "region") (RegionMeans second count to_come) text) r (λ s m. let f = m.2.3 in omega arith) h
+pub at_end : (second : Bool) (count to_come : ℕ) (text : List ℕ) (r : Option Stage) → to_come ≡ 0
+    → Decides r (Says (codes "end") (EndMeans to_come) text)
+    → Decides r (λ s. Says (codes "end") (EndMeans to_come) text s ⊎ Says (codes "region")
+    (RegionMeans second count to_come) text s)
+at_end second count to_come text r e h = pick_left (Says (codes "end") (EndMeans to_come) text)
+    (Says (codes "region") (RegionMeans second count to_come) text) r (λ s m. let f = m.2.3 in omega arith) h
 
-pub at_region : (second : Bool) (count to_come : ℕ) (text : List ℕ) (r : Option Stage) → to_come ≢ 0 → Decides r (Says (codes "region") (RegionMeans second count to_come) text)
-    → Decides r (λ s. Says (codes "end") (EndMeans to_come) text s ⊎ Says (codes "region") (RegionMeans second count to_come) text s)
-at_region second count to_come text r e h = pick_right (Says (codes "end") (EndMeans to_come) text) (Says (codes "region") (RegionMeans second count to_come) text) r (λ s m. e m.2.0) h
+pub at_region : (second : Bool) (count to_come : ℕ) (text : List ℕ) (r : Option Stage) → to_come ≢ 0
+    → Decides r (Says (codes "region") (RegionMeans second count to_come) text)
+    → Decides r (λ s. Says (codes "end") (EndMeans to_come) text s ⊎ Says (codes "region")
+    (RegionMeans second count to_come) text s)
+at_region second count to_come text r e h = pick_right (Says (codes "end") (EndMeans to_come) text)
+    (Says (codes "region") (RegionMeans second count to_come) text) r (λ s m. e m.2.0) h
 
 head_of : (text other : List ℕ) → text ≡ other → get_or text 0 0 ≡ get_or other 0 0
 head_of text other e = ap (λ (t : List ℕ). get_or t 0 0) e
@@ -167,26 +223,34 @@ module _ (second : Bool) (count to_come pending : ℕ) (text : List ℕ) (r : Op
   abbrev Bar : Stage → Type 0
   Bar = Says (codes "E") (BarMeans second count to_come pending) text
 
-  pub at_leaf : get_or text 0 0 ≢ 66 → get_or text 0 0 ≢ 69 → Decides r (Says (codes "L") (LeafMeans second count to_come pending) text)
-      → Decides r (λ s. Says (codes "L") (LeafMeans second count to_come pending) text s ⊎ Says (codes "B") (BranchMeans second count to_come pending) text s ⊎ Says (codes "E") (BarMeans second count to_come pending) text s)
+  pub at_leaf : get_or text 0 0 ≢ 66 → get_or text 0 0 ≢ 69
+      → Decides r (Says (codes "L") (LeafMeans second count to_come pending) text)
+      → Decides r (λ s. Says (codes "L") (LeafMeans second count to_come pending) text s
+      ⊎ Says (codes "B") (BranchMeans second count to_come pending) text s
+      ⊎ Says (codes "E") (BarMeans second count to_come pending) text s)
   at_leaf no_branch no_bar h = pick_left Leaf (λ s. Branch s ⊎ Bar s) r (λ s m. elim m [
     | inl b ↦ no_branch (head_of text (line (codes "B") b.0) b.1)
     | inr b ↦ no_bar (head_of text (line (codes "E") b.0) b.1)
   ]) h
 
   pub at_branch : get_or text 0 0 ≡ 66 → Decides r (Says (codes "B") (BranchMeans second count to_come pending) text)
-      → Decides r (λ s. Says (codes "L") (LeafMeans second count to_come pending) text s ⊎ Says (codes "B") (BranchMeans second count to_come pending) text s ⊎ Says (codes "E") (BarMeans second count to_come pending) text s)
+      → Decides r (λ s. Says (codes "L") (LeafMeans second count to_come pending) text s
+      ⊎ Says (codes "B") (BranchMeans second count to_come pending) text s
+      ⊎ Says (codes "E") (BarMeans second count to_come pending) text s)
   at_branch is h = pick_right Leaf (λ s. Branch s ⊎ Bar s) r
       (λ s m. let f = head_of text (line (codes "L") m.0) m.1 in omega arith)
       (pick_left Branch Bar r (λ s m. let f = head_of text (line (codes "E") m.0) m.1 in omega arith) h)
 
   pub at_bar : get_or text 0 0 ≡ 69 → Decides r (Says (codes "E") (BarMeans second count to_come pending) text)
-      → Decides r (λ s. Says (codes "L") (LeafMeans second count to_come pending) text s ⊎ Says (codes "B") (BranchMeans second count to_come pending) text s ⊎ Says (codes "E") (BarMeans second count to_come pending) text s)
+      → Decides r (λ s. Says (codes "L") (LeafMeans second count to_come pending) text s
+      ⊎ Says (codes "B") (BranchMeans second count to_come pending) text s
+      ⊎ Says (codes "E") (BarMeans second count to_come pending) text s)
   at_bar is h = pick_right Leaf (λ s. Branch s ⊎ Bar s) r
       (λ s m. let f = head_of text (line (codes "L") m.0) m.1 in omega arith)
       (pick_right Branch Bar r (λ s m. let f = head_of text (line (codes "B") m.0) m.1 in omega arith) h)
 
-pub if_ok : {E : Type 0} (r : Result (Option Stage) E) (P Q : Option Stage → Type 0) → ((o : Option Stage) → P o → Q o) → IfOk r P → IfOk r Q
+pub if_ok : {E : Type 0} (r : Result (Option Stage) E) (P Q : Option Stage → Type 0) → ((o : Option Stage) → P o → Q o)
+    → IfOk r P → IfOk r Q
 if_ok (Ok o) P Q f h = f o h
 if_ok (Err e) P Q f h = h
 
@@ -203,7 +267,8 @@ pub nothing : {K : Type 0} (r : Option K) (A : Type 0) (B : K → Type 0) → is
 nothing None A B e h = h
 nothing (Some k) A B e h = absurd cc
 
-pub something : {K : Type 0} (r : Option K) (A : Type 0) (B : K → Type 0) → is_some r ≡ true → MatchOption r A B → (k : K) × B k
+pub something : {K : Type 0} (r : Option K) (A : Type 0) (B : K → Type 0) → is_some r ≡ true → MatchOption r A B
+    → (k : K) × B k
 something None A B e h = absurd cc
 something (Some k) A B e h = (k, h)
 

@@ -1,9 +1,11 @@
 -- What the lines of a certificate say, and that no other lines say it.
-use Rattle.std.proofs.Common.{◌≡◌, ℕ, ◌≤◌, inl, inr, List, [], ◌∷◌, ◌++◌, length, get_or, map, All, refl, sym, ap, subst, ◌∙◌, arith, append_assoc}
+use Rattle.std.proofs.Common.{◌≡◌, ℕ, ◌≤◌, inl, inr, List, [], ◌∷◌, ◌++◌, length, get_or, map, All, refl, sym, ap}
+use Rattle.std.proofs.Common.{subst, ◌∙◌, arith, append_assoc}
 use Rattle.std.specs.Prelude.{codes, flat_map, nat_eq, if◌then◌else◌}
 use Rattle.std.proofs.lemmas.List.Elements.{All-nil, All-cons, All-head, All-tail}
 use Rattle.proof_rules.specs.Tree.{Tree, Forest, leaf, branch, bar, none, more, tree_count}
-use Rattle.proof_rules.specs.Certificate.{Section, Version, first, second, Certificate, AreListed, IsTreeIn, AreTreesIn, IsSectionIn, IsInRange, IsVersionOf}
+use Rattle.proof_rules.specs.Certificate.{Section, Version, first, second, Certificate, AreListed, IsTreeIn}
+use Rattle.proof_rules.specs.Certificate.{AreTreesIn, IsSectionIn, IsInRange, IsVersionOf}
 use Rattle.proof_rules.specs.Text.{line, tree_lines, forest_lines, section_lines, lines_of}
 use Rattle.certificate_lines.specs.Numbers.{IsSmall}
 use Rattle.certificate_lines.specs.Decides.{IsLineOf}
@@ -19,6 +21,7 @@ use Rattle.certificate_lines.specs.declared.kind.Kind.TheVariants as kind
 
 -- ---- the kind of a line, by two of its bytes
 
+-- a number for each kind
 code_of : Kind → ℕ
 code_of kind.Version = 116
 code_of kind.Size = 98
@@ -33,6 +36,7 @@ code_of kind.Branch = 66
 code_of kind.Bar = 69
 code_of kind.End = 101
 
+-- the kind of such a number
 from_code : ℕ → Kind
 from_code n =
     if nat_eq n 116 then kind.Version else
@@ -48,9 +52,12 @@ from_code n =
     if nat_eq n 69 then kind.Bar else
     kind.End
 
+-- the number of the kind whose line begins with these bytes
 code_at : List ℕ → ℕ
-code_at text = if nat_eq (get_or text 0 0) 114 then (if nat_eq (get_or text 6 0) 115 then 115 else 114) else get_or text 0 0
+code_at text = if nat_eq (get_or text 0 0) 114 then (if nat_eq (get_or text 6 0) 115 then 115 else 114)
+    else get_or text 0 0
 
+-- the bytes of a line tell the number of its kind
 coded : (k : Kind) (numbers : List ℕ) → code_at (line (word_of k) numbers) ≡ code_of k
 unfolding code_at code_of
 coded kind.Version numbers = refl
@@ -67,6 +74,7 @@ coded kind.Branch numbers = refl
 coded kind.Bar numbers = refl
 coded kind.End numbers = refl
 
+-- the number of a kind tells the kind
 back : (k : Kind) → from_code (code_of k) ≡ k
 unfolding from_code code_of
 back kind.Version = refl
@@ -82,18 +90,23 @@ back kind.Branch = refl
 back kind.Bar = refl
 back kind.End = refl
 
+-- lines with the same text are of one kind
 one_kind : (j k : Kind) (a b : List ℕ) → line (word_of j) a ≡ line (word_of k) b → j ≡ k
 one_kind j k a b e = sym (back j) ∙ ap from_code (sym (coded j a) ∙ ap code_at e ∙ coded k b) ∙ back k
 
 -- ---- one meaning
 
+-- the numbers of all lines are small
 AreAllSmall : List Said → Type 0
 AreAllSmall all = All (λ s. All IsSmall s.numbers) all
 
+-- of the same kind, the same numbers say the same
 same_said : (j k : Kind) (a b : List ℕ) → j ≡ k → a ≡ b → said j a ≡ said k b
 same_said j k a b e f = cc
 
-pub one_said : (lines : List (List ℕ)) (all others : List Said) → AreSaid lines all → All (λ s. All IsSmall s.numbers) others → lines ≡ map text_of others → others ≡ all
+-- lines say one thing
+pub one_said : (lines : List (List ℕ)) (all others : List Said) → AreSaid lines all
+    → All (λ s. All IsSmall s.numbers) others → lines ≡ map text_of others → others ≡ all
 one_said [] [] [] a small e = refl
 one_said [] [] (o ∷ os) a small e = absurd cc
 one_said [] (s ∷ all) others a small e = absurd a
@@ -103,17 +116,21 @@ one_said (t ∷ ts) (s ∷ all) (o ∷ os) a small e =
     let here : t ≡ text_of o = cc in
     let later : ts ≡ map text_of os = cc in
     let kinds : o.kind ≡ s.kind = one_kind o.kind s.kind o.numbers s.numbers (sym here ∙ a.0.is) in
-    let numbers : o.numbers ≡ s.numbers = a.0.only o.numbers (All-head (λ (s : Said). All IsSmall s.numbers) o os small) (here ∙ ap (λ (k : Kind). line (word_of k) o.numbers) kinds) in
+    let numbers : o.numbers ≡ s.numbers = a.0.only o.numbers (All-head (λ (s : Said). All IsSmall s.numbers) o os small)
+    (here ∙ ap (λ (k : Kind). line (word_of k) o.numbers) kinds) in
     let rest : os ≡ all = one_said ts all os a.1 (All-tail (λ (s : Said). All IsSmall s.numbers) o os small) later in
     let first : o ≡ s = same_said o.kind s.kind o.numbers s.numbers kinds numbers in
     cc
 
-pub said_push : (lines : List (List ℕ)) (all : List Said) (text : List ℕ) (k : Kind) (numbers : List ℕ) → AreSaid lines all → IsLineOf text (word_of k) numbers → AreSaid (lines ++ text ∷ []) (all ++ said k numbers ∷ [])
+-- a line more says its kind and its numbers
+pub said_push : (lines : List (List ℕ)) (all : List Said) (text : List ℕ) (k : Kind) (numbers : List ℕ)
+    → AreSaid lines all → IsLineOf text (word_of k) numbers → AreSaid (lines ++ text ∷ []) (all ++ said k numbers ∷ [])
 said_push [] [] text k numbers a l = (l, tt)
 said_push [] (s ∷ all) text k numbers a l = absurd a
 said_push (t ∷ ts) [] text k numbers a l = absurd a
 said_push (t ∷ ts) (s ∷ all) text k numbers a l = (a.0, said_push ts all text k numbers a.1 l)
 
+-- as many lines as things said
 pub said_many : (lines : List (List ℕ)) (all : List Said) → AreSaid lines all → length lines ≡ length all
 said_many [] [] a = refl
 said_many [] (s ∷ all) a = absurd a
@@ -122,6 +139,7 @@ said_many (t ∷ ts) (s ∷ all) a = (let e = said_many ts all a.1 in omega arit
 
 -- ---- the lines of a certificate
 
+-- the text of lines before and after is that of all
 map_on : (xs ys : List Said) → map text_of (xs ++ ys) ≡ map text_of xs ++ map text_of ys
 map_on [] ys = refl
 map_on (x ∷ xs) ys = ap (λ (l : List (List ℕ)). text_of x ∷ l) (map_on xs ys)
@@ -129,17 +147,22 @@ map_on (x ∷ xs) ys = ap (λ (l : List (List ℕ)). text_of x ∷ l) (map_on xs
 mutual
   tree_text : (t : Tree) → map text_of (tree_said t) ≡ tree_lines t
   tree_text (leaf cells) = refl
-  tree_text (branch cell kids) = ap (λ (l : List (List ℕ)). line (codes "B") (cell ∷ tree_count kids ∷ []) ∷ l) (forest_text kids)
+  tree_text (branch cell kids) = ap (λ (l : List (List ℕ)). line (codes "B") (cell ∷ tree_count kids ∷ []) ∷ l)
+      (forest_text kids)
   tree_text (bar place by kid) = ap (λ (l : List (List ℕ)). line (codes "E") (place ∷ by ∷ []) ∷ l) (tree_text kid)
 
   forest_text : (ts : Forest) → map text_of (forest_said ts) ≡ forest_lines ts
   forest_text none = refl
-  forest_text (more t ts) = map_on (tree_said t) (forest_said ts) ∙ (let a = tree_text t in let b = forest_text ts in cc)
+  forest_text (more t ts) = map_on (tree_said t) (forest_said ts)
+      ∙ (let a = tree_text t in let b = forest_text ts in cc)
 
+-- what a section says is written as its lines
 section_text : (s : Section) → map text_of (section_said s) ≡ section_lines s
 section_text s = (let a = tree_text s.tree in cc)
 
-sections_text : (ss : List Section) → map text_of (flat_map section_said ss ++ said kind.End [] ∷ []) ≡ flat_map section_lines ss ++ codes "end" ∷ []
+-- what all sections say is written as their lines, with the end
+sections_text : (ss : List Section)
+    → map text_of (flat_map section_said ss ++ said kind.End [] ∷ []) ≡ flat_map section_lines ss ++ codes "end" ∷ []
 sections_text [] = refl
 sections_text (s ∷ ss) =
     ap (map text_of) (append_assoc (section_said s) (flat_map section_said ss) (said kind.End [] ∷ []))
@@ -147,35 +170,52 @@ sections_text (s ∷ ss) =
     ∙ (let a = section_text s in let b = sections_text ss in
     let c = append_assoc (section_lines s) (flat_map section_lines ss) (codes "end" ∷ []) in cc)
 
+-- what a certificate says is written as its lines
 pub said_text : (c : Certificate) → map text_of (said_of c) ≡ lines_of c
 said_text c = go c.version where
-  rest : map text_of (flat_map section_said c.sections ++ said kind.End [] ∷ []) ≡ flat_map section_lines c.sections ++ codes "end" ∷ []
+  rest : map text_of (flat_map section_said c.sections ++ said kind.End [] ∷ []) ≡ flat_map section_lines
+      c.sections ++ codes "end" ∷ []
   rest = sections_text c.sections
 
   go : (v : Version) → map text_of (said_of (record c { version = v })) ≡ lines_of (record c { version = v })
-  go first = ap (λ (l : List (List ℕ)). line (codes "torchproof") (1 ∷ []) ∷ line (codes "box") (c.size.x ∷ c.size.y ∷ c.size.z ∷ []) ∷ line (codes "headroom") (c.headroom ∷ []) ∷ line (codes "regions") (length c.sections ∷ []) ∷ l) rest
-      ∙ ap (λ (t : List ℕ). t ∷ line (codes "box") (c.size.x ∷ c.size.y ∷ c.size.z ∷ []) ∷ line (codes "headroom") (c.headroom ∷ []) ∷ line (codes "regions") (length c.sections ∷ []) ∷ (flat_map section_lines c.sections ++ codes "end" ∷ [])) magic_first
-  go (second need) = ap (λ (l : List (List ℕ)). line (codes "torchproof") (2 ∷ []) ∷ line (codes "box") (c.size.x ∷ c.size.y ∷ c.size.z ∷ []) ∷ line (codes "headroom") (c.headroom ∷ []) ∷ line (codes "need") (need ∷ []) ∷ line (codes "regions") (length c.sections ∷ []) ∷ l) rest
-      ∙ ap (λ (t : List ℕ). t ∷ line (codes "box") (c.size.x ∷ c.size.y ∷ c.size.z ∷ []) ∷ line (codes "headroom") (c.headroom ∷ []) ∷ line (codes "need") (need ∷ []) ∷ line (codes "regions") (length c.sections ∷ []) ∷ (flat_map section_lines c.sections ++ codes "end" ∷ [])) magic_second
+  go first = ap (λ (l : List (List ℕ)). line (codes "torchproof") (1 ∷ []) ∷ line (codes "box")
+      (c.size.x ∷ c.size.y ∷ c.size.z ∷ []) ∷ line (codes "headroom") (c.headroom ∷ []) ∷ line (codes "regions")
+      (length c.sections ∷ []) ∷ l) rest
+      ∙ ap (λ (t : List ℕ). t ∷ line (codes "box") (c.size.x ∷ c.size.y ∷ c.size.z ∷ []) ∷ line (codes "headroom")
+      (c.headroom ∷ []) ∷ line (codes "regions")
+      (length c.sections ∷ []) ∷ (flat_map section_lines c.sections ++ codes "end" ∷ [])) magic_first
+  go (second need) = ap (λ (l : List (List ℕ)). line (codes "torchproof") (2 ∷ []) ∷ line (codes "box")
+      (c.size.x ∷ c.size.y ∷ c.size.z ∷ []) ∷ line (codes "headroom") (c.headroom ∷ []) ∷ line (codes "need")
+      (need ∷ []) ∷ line (codes "regions") (length c.sections ∷ []) ∷ l) rest
+      ∙ ap (λ (t : List ℕ). t ∷ line (codes "box") (c.size.x ∷ c.size.y ∷ c.size.z ∷ []) ∷ line (codes "headroom")
+      (c.headroom ∷ []) ∷ line (codes "need") (need ∷ []) ∷ line (codes "regions")
+      (length c.sections ∷ []) ∷ (flat_map section_lines c.sections ++ codes "end" ∷ [])) magic_second
 
 -- ---- its numbers are small
 
+-- small numbers before and after are small together
 small_on : (xs ys : List Said) → AreAllSmall xs → AreAllSmall ys → AreAllSmall (xs ++ ys)
 unfolding AreAllSmall
 small_on [] ys a b = b
-small_on (x ∷ xs) ys a b = All-cons (λ (s : Said). All IsSmall s.numbers) x (xs ++ ys) (All-head (λ (s : Said). All IsSmall s.numbers) x xs a) (small_on xs ys (All-tail (λ (s : Said). All IsSmall s.numbers) x xs a) b)
+small_on (x ∷ xs) ys a b = All-cons (λ (s : Said). All IsSmall s.numbers) x (xs ++ ys)
+    (All-head (λ (s : Said). All IsSmall s.numbers) x xs a)
+    (small_on xs ys (All-tail (λ (s : Said). All IsSmall s.numbers) x xs a) b)
 
+-- a line with small numbers more
 small_cons : (s : Said) (all : List Said) → All IsSmall s.numbers → AreAllSmall all → AreAllSmall (s ∷ all)
 unfolding AreAllSmall
 small_cons s all h a = All-cons (λ (s : Said). All IsSmall s.numbers) s all h a
 
+-- of no lines all numbers are small
 small_nil : AreAllSmall []
 unfolding AreAllSmall
 small_nil = All-nil (λ (s : Said). All IsSmall s.numbers)
 
+-- two small numbers
 pair : (a b : ℕ) → a ≤ 262144 → b ≤ 262144 → All IsSmall (a ∷ b ∷ [])
 pair a b h i = All-cons IsSmall a (b ∷ []) h (All-cons IsSmall b [] i (All-nil IsSmall))
 
+-- one small number
 one : (a : ℕ) → a ≤ 262144 → All IsSmall (a ∷ [])
 one a h = All-cons IsSmall a [] h (All-nil IsSmall)
 
@@ -185,9 +225,13 @@ module _ (count : ℕ) (few : count ≤ 262144) where
 
   mutual
     tree_small : (t : Tree) → IsTreeIn count t → AreAllSmall (tree_said t)
-    tree_small (leaf cells) i = small_cons (said kind.Leaf (length cells ∷ cells)) [] (All-cons IsSmall (length cells) cells (let h = listed_few count cells i in omega arith) (listed_small cells i)) small_nil
-    tree_small (branch cell kids) i = small_cons (said kind.Branch (cell ∷ tree_count kids ∷ [])) (forest_said kids) (pair cell (tree_count kids) (let h = i.0 in omega arith) (let h = i.1 in omega arith)) (forest_small kids i.2)
-    tree_small (bar place by kid) i = small_cons (said kind.Bar (place ∷ by ∷ [])) (tree_said kid) (pair place by (let h = i.0 in omega arith) (let h = i.1 in omega arith)) (tree_small kid i.2)
+    tree_small (leaf cells) i = small_cons (said kind.Leaf (length cells ∷ cells)) []
+        (All-cons IsSmall (length cells) cells (let h = listed_few count cells i in omega arith) (listed_small cells i))
+        small_nil
+    tree_small (branch cell kids) i = small_cons (said kind.Branch (cell ∷ tree_count kids ∷ [])) (forest_said kids)
+        (pair cell (tree_count kids) (let h = i.0 in omega arith) (let h = i.1 in omega arith)) (forest_small kids i.2)
+    tree_small (bar place by kid) i = small_cons (said kind.Bar (place ∷ by ∷ [])) (tree_said kid)
+        (pair place by (let h = i.0 in omega arith) (let h = i.1 in omega arith)) (tree_small kid i.2)
 
     forest_small : (ts : Forest) → AreTreesIn count ts → AreAllSmall (forest_said ts)
     forest_small none i = small_nil
@@ -197,15 +241,24 @@ module _ (count : ℕ) (few : count ≤ 262144) where
   section_small s i =
       let a = listed_few count s.cells i.dark in
       let b = listed_few count s.torches i.lit_by in
-      small_cons (said kind.Region (length s.cells ∷ length s.torches ∷ [])) (said kind.Dark s.cells ∷ said kind.Torches s.torches ∷ tree_said s.tree) (pair (length s.cells) (length s.torches) (omega arith) (omega arith))
-      (small_cons (said kind.Dark s.cells) (said kind.Torches s.torches ∷ tree_said s.tree) (listed_small s.cells i.dark)
-      (small_cons (said kind.Torches s.torches) (tree_said s.tree) (listed_small s.torches i.lit_by) (tree_small s.tree i.proof)))
+      small_cons (said kind.Region (length s.cells ∷ length s.torches ∷ []))
+      (said kind.Dark s.cells ∷ said kind.Torches s.torches ∷ tree_said s.tree)
+      (pair (length s.cells) (length s.torches) (omega arith) (omega arith))
+      (small_cons (said kind.Dark s.cells) (said kind.Torches s.torches ∷ tree_said s.tree)
+      (listed_small s.cells i.dark)
+      (small_cons (said kind.Torches s.torches) (tree_said s.tree) (listed_small s.torches i.lit_by)
+      (tree_small s.tree i.proof)))
 
-  sections_small : (ss : List Section) → All (IsSectionIn count) ss → AreAllSmall (flat_map section_said ss ++ said kind.End [] ∷ [])
+  sections_small : (ss : List Section) → All (IsSectionIn count) ss
+      → AreAllSmall (flat_map section_said ss ++ said kind.End [] ∷ [])
   sections_small [] a = small_cons (said kind.End []) [] (All-nil IsSmall) small_nil
-  sections_small (s ∷ ss) a = subst AreAllSmall (sym (append_assoc (section_said s) (flat_map section_said ss) (said kind.End [] ∷ [])))
-      (small_on (section_said s) (flat_map section_said ss ++ said kind.End [] ∷ []) (section_small s (All-head (IsSectionIn count) s ss a)) (sections_small ss (All-tail (IsSectionIn count) s ss a)))
+  sections_small (s ∷ ss) a = subst AreAllSmall
+      (sym (append_assoc (section_said s) (flat_map section_said ss) (said kind.End [] ∷ [])))
+      (small_on (section_said s) (flat_map section_said ss ++ said kind.End [] ∷ [])
+      (section_small s (All-head (IsSectionIn count) s ss a))
+      (sections_small ss (All-tail (IsSectionIn count) s ss a)))
 
+-- the numbers of a certificate in range are small
 pub said_small : (c : Certificate) → IsInRange c → All (λ s. All IsSmall s.numbers) (said_of c)
 unfolding AreAllSmall
 said_small c i = go c.version i.versioned where
@@ -213,19 +266,50 @@ said_small c i = go c.version i.versioned where
   few = count_small c.size.x c.size.y c.size.z i.small
 
   box : All IsSmall (c.size.x ∷ c.size.y ∷ c.size.z ∷ [])
-  box = (let h = sides c.size.x c.size.y c.size.z (cell_count c.size) i.small in All-cons IsSmall c.size.x (c.size.y ∷ c.size.z ∷ []) (omega (arith, h.0)) (pair c.size.y c.size.z (omega (arith, h.1)) (omega (arith, h.2))))
+  box = (let h = sides c.size.x c.size.y c.size.z (cell_count c.size) i.small in
+      All-cons IsSmall c.size.x (c.size.y ∷ c.size.z ∷ []) (omega (arith, h.0))
+      (pair c.size.y c.size.z (omega (arith, h.1)) (omega (arith, h.2))))
 
   headroom : All IsSmall (c.headroom ∷ [])
   headroom = one c.headroom (elim i.ruled [ inl e ↦ omega arith | inr e ↦ omega arith ])
 
-  rest : AreAllSmall (said kind.Regions (length c.sections ∷ []) ∷ (flat_map section_said c.sections ++ said kind.End [] ∷ []))
-  rest = small_cons (said kind.Regions (length c.sections ∷ [])) (flat_map section_said c.sections ++ said kind.End [] ∷ []) (one (length c.sections) (let f = i.few in omega (arith, few))) (sections_small (cell_count c.size) few c.sections i.each)
+  rest : AreAllSmall (said kind.Regions (length c.sections ∷ [])
+      ∷ (flat_map section_said c.sections ++ said kind.End [] ∷ []))
+  rest = small_cons (said kind.Regions (length c.sections ∷ []))
+      (flat_map section_said c.sections ++ said kind.End [] ∷ [])
+      (one (length c.sections) (let f = i.few in omega (arith, few)))
+      (sections_small (cell_count c.size) few c.sections i.each)
 
   go : (v : Version) → IsVersionOf c.sections v → AreAllSmall (said_of (record c { version = v }))
-  go first h = small_cons (said kind.Version (1 ∷ [])) (said kind.Size (c.size.x ∷ c.size.y ∷ c.size.z ∷ []) ∷ said kind.Headroom (c.headroom ∷ []) ∷ (said kind.Regions (length c.sections ∷ []) ∷ (flat_map section_said c.sections ++ said kind.End [] ∷ []))) (one 1 (omega arith)) (small_cons (said kind.Size (c.size.x ∷ c.size.y ∷ c.size.z ∷ [])) (said kind.Headroom (c.headroom ∷ []) ∷ (said kind.Regions (length c.sections ∷ []) ∷ (flat_map section_said c.sections ++ said kind.End [] ∷ []))) box (small_cons (said kind.Headroom (c.headroom ∷ [])) (said kind.Regions (length c.sections ∷ []) ∷ (flat_map section_said c.sections ++ said kind.End [] ∷ [])) headroom rest))
-  go (second need) h = small_cons (said kind.Version (2 ∷ [])) (said kind.Size (c.size.x ∷ c.size.y ∷ c.size.z ∷ []) ∷ said kind.Headroom (c.headroom ∷ []) ∷ said kind.Need (need ∷ []) ∷ (said kind.Regions (length c.sections ∷ []) ∷ (flat_map section_said c.sections ++ said kind.End [] ∷ []))) (one 2 (omega arith)) (small_cons (said kind.Size (c.size.x ∷ c.size.y ∷ c.size.z ∷ [])) (said kind.Headroom (c.headroom ∷ []) ∷ said kind.Need (need ∷ []) ∷ (said kind.Regions (length c.sections ∷ []) ∷ (flat_map section_said c.sections ++ said kind.End [] ∷ []))) box (small_cons (said kind.Headroom (c.headroom ∷ [])) (said kind.Need (need ∷ []) ∷ (said kind.Regions (length c.sections ∷ []) ∷ (flat_map section_said c.sections ++ said kind.End [] ∷ []))) headroom
-      (small_cons (said kind.Need (need ∷ [])) (said kind.Regions (length c.sections ∷ []) ∷ (flat_map section_said c.sections ++ said kind.End [] ∷ [])) (one need (elim h [ inl e ↦ omega arith | inr e ↦ omega arith ])) rest)))
+  go first h = small_cons (said kind.Version (1 ∷ []))
+      (said kind.Size (c.size.x ∷ c.size.y ∷ c.size.z ∷ []) ∷ said kind.Headroom (c.headroom ∷ [])
+      ∷ (said kind.Regions (length c.sections ∷ []) ∷ (flat_map section_said c.sections ++ said kind.End [] ∷ [])))
+      (one 1 (omega arith))
+      (small_cons (said kind.Size (c.size.x ∷ c.size.y ∷ c.size.z ∷ []))
+      (said kind.Headroom (c.headroom ∷ [])
+      ∷ (said kind.Regions (length c.sections ∷ [])
+      ∷ (flat_map section_said c.sections ++ said kind.End [] ∷ []))) box
+      (small_cons (said kind.Headroom (c.headroom ∷ []))
+      (said kind.Regions (length c.sections ∷ []) ∷ (flat_map section_said c.sections ++ said kind.End [] ∷ []))
+      headroom rest))
+  go (second need) h = small_cons (said kind.Version (2 ∷ []))
+      (said kind.Size (c.size.x ∷ c.size.y ∷ c.size.z ∷ []) ∷ said kind.Headroom (c.headroom ∷ []) ∷ said
+      kind.Need (need ∷ [])
+      ∷ (said kind.Regions (length c.sections ∷ []) ∷ (flat_map section_said c.sections ++ said kind.End [] ∷ [])))
+      (one 2 (omega arith))
+      (small_cons (said kind.Size (c.size.x ∷ c.size.y ∷ c.size.z ∷ []))
+      (said kind.Headroom (c.headroom ∷ []) ∷ said kind.Need (need ∷ [])
+      ∷ (said kind.Regions (length c.sections ∷ [])
+      ∷ (flat_map section_said c.sections ++ said kind.End [] ∷ []))) box
+      (small_cons (said kind.Headroom (c.headroom ∷ []))
+      (said kind.Need (need ∷ [])
+      ∷ (said kind.Regions (length c.sections ∷ [])
+      ∷ (flat_map section_said c.sections ++ said kind.End [] ∷ []))) headroom
+      (small_cons (said kind.Need (need ∷ []))
+      (said kind.Regions (length c.sections ∷ []) ∷ (flat_map section_said c.sections ++ said kind.End [] ∷ []))
+      (one need (elim h [ inl e ↦ omega arith | inr e ↦ omega arith ])) rest)))
 
 -- the lines of a certificate say what it says
-pub said_is : (lines : List (List ℕ)) (all : List Said) (c : Certificate) → AreSaid lines all → IsInRange c → lines ≡ lines_of c → all ≡ said_of c
+pub said_is : (lines : List (List ℕ)) (all : List Said) (c : Certificate) → AreSaid lines all → IsInRange c
+    → lines ≡ lines_of c → all ≡ said_of c
 said_is lines all c a i e = sym (one_said lines all (said_of c) a (said_small c i) (e ∙ sym (said_text c)))

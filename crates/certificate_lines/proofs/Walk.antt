@@ -1,5 +1,6 @@
 -- Lines that lead from the start to a stage.
-use Rattle.std.proofs.Common.{◌≡◌, ℕ, zero, suc, ◌+◌, ◌*◌, ◌<◌, ◌≤◌, inl, inr, List, [], ◌∷◌, ◌++◌, length, All, refl, sym, subst, ap, arith}
+use Rattle.std.proofs.Common.{◌≡◌, ℕ, zero, suc, ◌+◌, ◌*◌, ◌<◌, ◌≤◌, inl, inr, List, [], ◌∷◌, ◌++◌, length, All, refl}
+use Rattle.std.proofs.Common.{sym, subst, ap, arith}
 use Rattle.std.specs.Prelude.{Bool, true, false, IsTrue, codes, flat_map, slice_index_or, nat_le, ◌&&◌}
 use Rattle.std.proofs.lemmas.List.Elements.{All-nil, All-cons}
 use Rattle.std.proofs.lemmas.Bool.{leb-true}
@@ -24,14 +25,17 @@ leads_split (l ∷ ls) b s u (next, step, rest) = let r = leads_split ls b next 
 
 -- ---- numbers of a stage
 
-pub count_small : (x y z : ℕ) → IsTrue (nat_le x 128 && nat_le y 128 && nat_le z 128 && nat_le (x * y * z) 262144) → x * y * z ≤ 262144
-count_small x y z h = leb-true (x * y * z) 262144 (and_both (nat_le x 128 && nat_le y 128 && nat_le z 128) (nat_le (x * y * z) 262144) h).1
+pub count_small : (x y z : ℕ) → IsTrue (nat_le x 128 && nat_le y 128 && nat_le z 128 && nat_le (x * y * z) 262144)
+    → x * y * z ≤ 262144
+count_small x y z h = leb-true (x * y * z) 262144
+    (and_both (nat_le x 128 && nat_le y 128 && nat_le z 128) (nat_le (x * y * z) 262144) h).1
 
 sound_headroom : (second : Bool) (count : ℕ) → count ≤ 262144 → IsSound (after_headroom second count)
 sound_headroom true count h = h
 sound_headroom false count h = h
 
-sound_node : (second : Bool) (count to_come pending : ℕ) → count ≤ 262144 → to_come < count → IsSound (after_node second count to_come pending)
+sound_node : (second : Bool) (count to_come pending : ℕ) → count ≤ 262144 → to_come < count
+    → IsSound (after_node second count to_come pending)
 sound_node second count to_come zero h i = (h, omega arith)
 sound_node second count to_come (suc p) h i = (h, i, omega arith)
 
@@ -41,15 +45,20 @@ sound_after stage.Start next text h (ns, e, m) = elim m [
   | inr m ↦ subst IsSound (sym m.1) tt
 ]
 sound_after (stage.Box second) next text h (ns, e, m) = subst IsSound (sym m.3) (count_small m.0.x m.0.y m.0.z m.2)
-sound_after (stage.Headroom second count) next text h (ns, e, m) = subst IsSound (sym m.1) (sound_headroom second count h)
+sound_after (stage.Headroom second count) next text h (ns, e, m) = subst IsSound (sym m.1)
+    (sound_headroom second count h)
 sound_after (stage.Need count) next text h (ns, e, m) = subst IsSound (sym m.1) h
 sound_after (stage.Regions second count) next text h (ns, e, m) = subst IsSound (sym m.3) (h, m.2)
 sound_after (stage.Region second count to_come) next text h (inl (ns, e, m)) = subst IsSound (sym m.2) tt
-sound_after (stage.Region second count to_come) next text h (inr (ns, e, m)) = subst IsSound (sym m.9) (h.0, omega (arith, h.1, m.3), m.5, m.6, m.7, m.8)
+sound_after (stage.Region second count to_come) next text h (inr (ns, e, m)) = subst IsSound (sym m.9)
+    (h.0, omega (arith, h.1, m.3), m.5, m.6, m.7, m.8)
 sound_after (stage.Dark second count to_come n t) next text h (ns, e, m) = subst IsSound (sym m.2) (h.0, h.1, h.4, h.5)
-sound_after (stage.Torches second count to_come t) next text h (ns, e, m) = subst IsSound (sym m.2) (h.0, h.1, omega arith)
-sound_after (stage.Node second count to_come pending) next text h (inl (ns, e, m)) = subst IsSound (sym m.5) (sound_node second count to_come m.0 h.0 h.1)
-sound_after (stage.Node second count to_come pending) next text h (inr (inl (ns, e, m))) = subst IsSound (sym m.7) (sound_node second count to_come (m.2 + m.0) h.0 h.1)
+sound_after (stage.Torches second count to_come t) next text h (ns, e, m) = subst IsSound (sym m.2)
+    (h.0, h.1, omega arith)
+sound_after (stage.Node second count to_come pending) next text h (inl (ns, e, m)) = subst IsSound (sym m.5)
+    (sound_node second count to_come m.0 h.0 h.1)
+sound_after (stage.Node second count to_come pending) next text h (inr (inl (ns, e, m))) = subst IsSound (sym m.7)
+    (sound_node second count to_come (m.2 + m.0) h.0 h.1)
 sound_after (stage.Node second count to_come pending) next text h (inr (inr (ns, e, m))) = subst IsSound (sym m.8) h
 sound_after stage.Done next text h m = absurd m
 
@@ -67,7 +76,8 @@ length-run a (suc n) = ap suc (length-run (a + 1) n)
 run_at : (a n k d : ℕ) → k < n → slice_index_or (run a n) k d ≡ a + k
 run_at a zero k d h = absurd (omega arith)
 run_at a (suc n) zero d h = omega arith
-run_at a (suc n) (suc k) d h = let e : slice_index_or (run (a + 1) n) k d ≡ a + 1 + k = run_at (a + 1) n k d (omega arith) in omega arith
+run_at a (suc n) (suc k) d h = let e : slice_index_or (run (a + 1) n) k d ≡ a + 1 + k = run_at (a + 1) n k d
+    (omega arith) in omega arith
 
 run_listed : (count n : ℕ) → n ≤ count → AreListed count (run 0 n)
 run_listed count n h = record {
@@ -104,7 +114,8 @@ length-copies (suc k) = ap suc (length-copies k)
 
 copies_in : (count k : ℕ) → k ≤ count → All (IsSectionIn count) (copies k)
 copies_in count zero h = All-nil (IsSectionIn count)
-copies_in count (suc k) h = All-cons (IsSectionIn count) some_section (copies k) (some_section_in count (omega arith)) (copies_in count k (omega arith))
+copies_in count (suc k) h = All-cons (IsSectionIn count) some_section (copies k) (some_section_in count (omega arith))
+    (copies_in count k (omega arith))
 
 copies_plain : (k : ℕ) → All (λ section. HasNoBar section.tree) (copies k)
 copies_plain zero = All-nil (λ section. HasNoBar section.tree)
@@ -132,7 +143,8 @@ Leadable s = (lines : List (List ℕ)) × Leads lines s stage.Done
 from_region : (second : Bool) (count k : ℕ) → k ≤ count → Leadable (stage.Region second count k)
 from_region second count k h = (
   flat_map section_lines (copies k) ++ codes "end" ∷ [],
-  subst (λ (n : ℕ). Leads (flat_map section_lines (copies k) ++ codes "end" ∷ []) (stage.Region second count n) stage.Done) (length-copies k)
+  subst (λ (n : ℕ). Leads (flat_map section_lines (copies k) ++ codes "end" ∷ [])
+      (stage.Region second count n) stage.Done) (length-copies k)
       (leads_sections second count (copies k) (copies_in count k h) (λ f. copies_plain k)),
 )
 
@@ -147,18 +159,25 @@ from_node second count k p h =
 
 from_torches : (second : Bool) (count k t : ℕ) → k ≤ count → t ≤ count → Leadable (stage.Torches second count k t)
 from_torches second count k t h i =
-    let r = from_node second count k 0 h in
-    (line (codes "T") (run 0 t) ∷ r.0, (stage.Node second count k 1, (run 0 t, refl, (run_listed count t i, length-run 0 t, refl)), r.1))
+    let r = from_node second count k 0 h in (
+      line (codes "T") (run 0 t) ∷ r.0,
+      (stage.Node second count k 1, (run 0 t, refl, (run_listed count t i, length-run 0 t, refl)), r.1),
+    )
 
-from_dark : (second : Bool) (count k n t : ℕ) → k ≤ count → n ≤ count → t ≤ count → Leadable (stage.Dark second count k n t)
+from_dark : (second : Bool) (count k n t : ℕ) → k ≤ count → n ≤ count → t ≤ count
+    → Leadable (stage.Dark second count k n t)
 from_dark second count k n t h i j =
-    let r = from_torches second count k t h j in
-    (line (codes "D") (run 0 n) ∷ r.0, (stage.Torches second count k t, (run 0 n, refl, (run_listed count n i, length-run 0 n, refl)), r.1))
+    let r = from_torches second count k t h j in (
+      line (codes "D") (run 0 n) ∷ r.0,
+      (stage.Torches second count k t, (run 0 n, refl, (run_listed count n i, length-run 0 n, refl)), r.1),
+    )
 
 from_regions : (second : Bool) (count : ℕ) → Leadable (stage.Regions second count)
 from_regions second count =
-    let r = from_region second count 0 (omega arith) in
-    (line (codes "regions") (0 ∷ []) ∷ r.0, (stage.Region second count 0, (0 ∷ [], refl, (0, refl, omega arith, refl)), r.1))
+    let r = from_region second count 0 (omega arith) in (
+      line (codes "regions") (0 ∷ []) ∷ r.0,
+      (stage.Region second count 0, (0 ∷ [], refl, (0, refl, omega arith, refl)), r.1),
+    )
 
 from_need : (count : ℕ) → Leadable (stage.Need count)
 from_need count =
@@ -176,8 +195,10 @@ from_headroom false count =
 from_box : (second : Bool) → Leadable (stage.Box second)
 from_box second =
     let size : Point = record { x = 0; y = 0; z = 0 } in
-    let r = from_headroom second (cell_count size) in
-    (line (codes "box") (0 ∷ 0 ∷ 0 ∷ []) ∷ r.0, (stage.Headroom second (cell_count size), (0 ∷ 0 ∷ 0 ∷ [], refl, (size, refl, refl, refl)), r.1))
+    let r = from_headroom second (cell_count size) in (
+      line (codes "box") (0 ∷ 0 ∷ 0 ∷ []) ∷ r.0,
+      (stage.Headroom second (cell_count size), (0 ∷ 0 ∷ 0 ∷ [], refl, (size, refl, refl, refl)), r.1),
+    )
 
 pub leads_on : (s : Stage) → IsSound s → (lines : List (List ℕ)) × Leads lines s stage.Done
 leads_on stage.Start h =
@@ -204,20 +225,25 @@ pending_headroom : (second : Bool) (count : ℕ) → pending_of (after_headroom 
 pending_headroom true count = refl
 pending_headroom false count = refl
 
-pub pending_after : (s next : Stage) (text : List ℕ) → IsSound s → Takes s text next → pending_of next ≤ pending_of s + 262144
+pub pending_after : (s next : Stage) (text : List ℕ) → IsSound s → Takes s text next
+    → pending_of next ≤ pending_of s + 262144
 pending_after stage.Start next text h (ns, e, m) = elim m [
   | inl m ↦ omega (arith, ap pending_of m.1)
   | inr m ↦ omega (arith, ap pending_of m.1)
 ]
 pending_after (stage.Box second) next text h (ns, e, m) = omega (arith, ap pending_of m.3)
-pending_after (stage.Headroom second count) next text h (ns, e, m) = omega (arith, ap pending_of m.1, pending_headroom second count)
+pending_after (stage.Headroom second count) next text h (ns, e, m) =
+    omega (arith, ap pending_of m.1, pending_headroom second count)
 pending_after (stage.Need count) next text h (ns, e, m) = omega (arith, ap pending_of m.1)
 pending_after (stage.Regions second count) next text h (ns, e, m) = omega (arith, ap pending_of m.3)
 pending_after (stage.Region second count to_come) next text h (inl (ns, e, m)) = omega (arith, ap pending_of m.2)
 pending_after (stage.Region second count to_come) next text h (inr (ns, e, m)) = omega (arith, ap pending_of m.9)
 pending_after (stage.Dark second count to_come n t) next text h (ns, e, m) = omega (arith, ap pending_of m.2)
 pending_after (stage.Torches second count to_come t) next text h (ns, e, m) = omega (arith, ap pending_of m.2)
-pending_after (stage.Node second count to_come pending) next text h (inl (ns, e, m)) = omega (arith, ap pending_of m.5, pending_node second count to_come m.0, m.2)
-pending_after (stage.Node second count to_come pending) next text h (inr (inl (ns, e, m))) = omega (arith, ap pending_of m.7, pending_node second count to_come (m.2 + m.0), m.3, m.6, h.0)
-pending_after (stage.Node second count to_come pending) next text h (inr (inr (ns, e, m))) = omega (arith, ap pending_of m.8)
+pending_after (stage.Node second count to_come pending) next text h (inl (ns, e, m)) =
+    omega (arith, ap pending_of m.5, pending_node second count to_come m.0, m.2)
+pending_after (stage.Node second count to_come pending) next text h (inr (inl (ns, e, m))) =
+    omega (arith, ap pending_of m.7, pending_node second count to_come (m.2 + m.0), m.3, m.6, h.0)
+pending_after (stage.Node second count to_come pending) next text h (inr (inr (ns, e, m))) =
+    omega (arith, ap pending_of m.8)
 pending_after stage.Done next text h m = absurd m

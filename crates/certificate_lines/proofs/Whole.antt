@@ -1,5 +1,6 @@
 -- The lines that lead from the start to the end are those of the certificates in range.
-use Rattle.std.proofs.Common.{◌≡◌, ℕ, ◌+◌, ◌<◌, ◌≤◌, ◌⊎◌, inl, inr, List, [], ◌∷◌, ◌++◌, length, All, refl, sym, subst, ap, arith, ◌∙◌}
+use Rattle.std.proofs.Common.{◌≡◌, ℕ, ◌+◌, ◌<◌, ◌≤◌, ◌⊎◌, inl, inr, List, [], ◌∷◌, ◌++◌, length, All, refl, sym}
+use Rattle.std.proofs.Common.{subst, ap, arith, ◌∙◌}
 use Rattle.std.specs.Prelude.{Bool, true, false, IsTrue, codes, flat_map, if◌then◌else◌}
 use Rattle.std.proofs.lemmas.Fmt.{decimal_digit}
 use Rattle.scan_core.specs.Box.{Point, cell_count, is_small}
@@ -32,19 +33,24 @@ record RegionsRest (second : Bool) (count : ℕ) (lines : List (List ℕ)) : Typ
   bars : second ≡ false → All (λ section. HasNoBar section.tree) sections
   is : lines ≡ line (codes "regions") (length sections ∷ []) ∷ (flat_map section_lines sections ++ codes "end" ∷ [])
 
-regions_left : (second : Bool) (count : ℕ) (lines : List (List ℕ)) → Leads lines (stage.Regions second count) stage.Done → RegionsRest second count lines
+regions_left : (second : Bool) (count : ℕ) (lines : List (List ℕ)) → Leads lines (stage.Regions second count) stage.Done
+    → RegionsRest second count lines
 regions_left second count [] h = absurd (cc)
 regions_left second count (text ∷ ls) (next, (numbers, e, (k, ns, few, nx)), rest) =
-    let r : SectionsRest second count k ls = left ls (stage.Region second count k) (subst (λ (s : Stage). Leads ls s stage.Done) nx rest) in
+    let r : SectionsRest second count k ls = left ls (stage.Region second count k)
+    (subst (λ (s : Stage). Leads ls s stage.Done) nx rest) in
     record {
       sections = r.sections;
       few = omega (arith, r.many);
       each = r.each;
       bars = r.bars;
-      is = cons_same text ls (line (codes "regions") (length r.sections ∷ [])) (flat_map section_lines r.sections ++ codes "end" ∷ [])
-          (e ∙ ap (λ (ns : List ℕ). line (codes "regions") ns) ns ∙ ap (λ (m : ℕ). line (codes "regions") (m ∷ [])) (sym r.many)) r.is;
+      is = cons_same text ls (line (codes "regions") (length r.sections ∷ []))
+          (flat_map section_lines r.sections ++ codes "end" ∷ [])
+          (e ∙ ap (λ (ns : List ℕ). line (codes "regions") ns) ns ∙ ap (λ (m : ℕ). line (codes "regions") (m ∷ []))
+          (sym r.many)) r.is;
     } where
-      cons_same : (text : List ℕ) (ls : List (List ℕ)) (a : List ℕ) (b : List (List ℕ)) → text ≡ a → ls ≡ b → text ∷ ls ≡ a ∷ b
+      cons_same : (text : List ℕ) (ls : List (List ℕ)) (a : List ℕ) (b : List (List ℕ)) → text ≡ a → ls ≡ b
+          → text ∷ ls ≡ a ∷ b
       cons_same text ls a b e f = cc
 
 pub record WholeRest (lines : List (List ℕ)) : Type 0 where
@@ -52,13 +58,16 @@ pub record WholeRest (lines : List (List ℕ)) : Type 0 where
   pub in_range : IsInRange certificate
   pub is : lines ≡ lines_of certificate
 
-either : (k : ℕ) (a b : ℕ) (numbers : List ℕ) → (numbers ≡ a ∷ []) ⊎ (numbers ≡ b ∷ []) → (n : ℕ) × (numbers ≡ n ∷ []) × ((n ≡ a) ⊎ (n ≡ b))
+either : (k : ℕ) (a b : ℕ) (numbers : List ℕ) → (numbers ≡ a ∷ []) ⊎ (numbers ≡ b ∷ [])
+    → (n : ℕ) × (numbers ≡ n ∷ []) × ((n ≡ a) ⊎ (n ≡ b))
 either k a b numbers (inl e) = (a, e, inl refl)
 either k a b numbers (inr e) = (b, e, inr refl)
 
 -- of the first version
-with_first : (t1 t2 t3 : List ℕ) (ls : List (List ℕ)) (size : Point) (headroom : ℕ) → t1 ≡ codes "torchproof 1" → t2 ≡ line (codes "box") (size.x ∷ size.y ∷ size.z ∷ []) → t3 ≡ line (codes "headroom") (headroom ∷ [])
-    → IsTrue (is_small size) → (headroom ≡ 1) ⊎ (headroom ≡ 2) → RegionsRest false (cell_count size) ls → WholeRest (t1 ∷ t2 ∷ t3 ∷ ls)
+with_first : (t1 t2 t3 : List ℕ) (ls : List (List ℕ)) (size : Point) (headroom : ℕ) → t1 ≡ codes "torchproof 1"
+    → t2 ≡ line (codes "box") (size.x ∷ size.y ∷ size.z ∷ []) → t3 ≡ line (codes "headroom") (headroom ∷ [])
+    → IsTrue (is_small size) → (headroom ≡ 1) ⊎ (headroom ≡ 2) → RegionsRest false (cell_count size) ls
+    → WholeRest (t1 ∷ t2 ∷ t3 ∷ ls)
 with_first t1 t2 t3 ls size headroom e1 e2 e3 small ruled r = record {
   certificate = record { version = version.first; size = size; headroom = headroom; sections = r.sections };
   in_range = record { small = small; ruled = ruled; versioned = r.bars refl; few = r.few; each = r.each };
@@ -66,43 +75,58 @@ with_first t1 t2 t3 ls size headroom e1 e2 e3 small ruled r = record {
 }
 
 -- of the second
-with_second : (t1 t2 t3 t4 : List ℕ) (ls : List (List ℕ)) (size : Point) (headroom need : ℕ) → t1 ≡ codes "torchproof 2" → t2 ≡ line (codes "box") (size.x ∷ size.y ∷ size.z ∷ []) → t3 ≡ line (codes "headroom") (headroom ∷ []) → t4 ≡ line (codes "need") (need ∷ [])
-    → IsTrue (is_small size) → (headroom ≡ 1) ⊎ (headroom ≡ 2) → (need ≡ 1) ⊎ (need ≡ 8) → RegionsRest true (cell_count size) ls → WholeRest (t1 ∷ t2 ∷ t3 ∷ t4 ∷ ls)
+with_second : (t1 t2 t3 t4 : List ℕ) (ls : List (List ℕ)) (size : Point) (headroom need : ℕ) → t1 ≡ codes "torchproof 2"
+    → t2 ≡ line (codes "box") (size.x ∷ size.y ∷ size.z ∷ []) → t3 ≡ line (codes "headroom") (headroom ∷ [])
+    → t4 ≡ line (codes "need") (need ∷ [])
+    → IsTrue (is_small size) → (headroom ≡ 1) ⊎ (headroom ≡ 2) → (need ≡ 1) ⊎ (need ≡ 8)
+    → RegionsRest true (cell_count size) ls → WholeRest (t1 ∷ t2 ∷ t3 ∷ t4 ∷ ls)
 with_second t1 t2 t3 t4 ls size headroom need e1 e2 e3 e4 small ruled needed r = record {
   certificate = record { version = version.second need; size = size; headroom = headroom; sections = r.sections };
   in_range = record { small = small; ruled = ruled; versioned = needed; few = r.few; each = r.each };
   is = let f = r.is in cc;
 }
 
-need_step : (t1 t2 t3 : List ℕ) (ls : List (List ℕ)) (size : Point) (headroom : ℕ) → t1 ≡ codes "torchproof 2" → t2 ≡ line (codes "box") (size.x ∷ size.y ∷ size.z ∷ []) → t3 ≡ line (codes "headroom") (headroom ∷ [])
-    → IsTrue (is_small size) → (headroom ≡ 1) ⊎ (headroom ≡ 2) → Leads ls (stage.Need (cell_count size)) stage.Done → WholeRest (t1 ∷ t2 ∷ t3 ∷ ls)
+need_step : (t1 t2 t3 : List ℕ) (ls : List (List ℕ)) (size : Point) (headroom : ℕ) → t1 ≡ codes "torchproof 2"
+    → t2 ≡ line (codes "box") (size.x ∷ size.y ∷ size.z ∷ []) → t3 ≡ line (codes "headroom") (headroom ∷ [])
+    → IsTrue (is_small size) → (headroom ≡ 1) ⊎ (headroom ≡ 2) → Leads ls (stage.Need (cell_count size)) stage.Done
+    → WholeRest (t1 ∷ t2 ∷ t3 ∷ ls)
 need_step t1 t2 t3 [] size headroom e1 e2 e3 small ruled h = absurd (cc)
 need_step t1 t2 t3 (t4 ∷ ls) size headroom e1 e2 e3 small ruled (next, (numbers, e, (which, nx)), rest) =
     let n = either 0 1 8 numbers which in
-    with_second t1 t2 t3 t4 ls size headroom n.0 e1 e2 e3 (e ∙ ap (λ (ns : List ℕ). line (codes "need") ns) n.1) small ruled n.2
+    with_second t1 t2 t3 t4 ls size headroom n.0 e1 e2 e3 (e ∙ ap (λ (ns : List ℕ). line (codes "need") ns) n.1)
+    small ruled n.2
     (regions_left true (cell_count size) ls (subst (λ (s : Stage). Leads ls s stage.Done) nx rest))
 
-headroom_step : (second : Bool) (t1 t2 : List ℕ) (ls : List (List ℕ)) (size : Point) → t1 ≡ line (codes "torchproof") ((if second then 2 else 1) ∷ []) → t2 ≡ line (codes "box") (size.x ∷ size.y ∷ size.z ∷ [])
+headroom_step : (second : Bool) (t1 t2 : List ℕ) (ls : List (List ℕ)) (size : Point)
+    → t1 ≡ line (codes "torchproof") ((if second then 2 else 1) ∷ [])
+    → t2 ≡ line (codes "box") (size.x ∷ size.y ∷ size.z ∷ [])
     → IsTrue (is_small size) → Leads ls (stage.Headroom second (cell_count size)) stage.Done → WholeRest (t1 ∷ t2 ∷ ls)
 headroom_step second t1 t2 [] size e1 e2 small h = absurd (cc)
 headroom_step false t1 t2 (t3 ∷ ls) size e1 e2 small (next, (numbers, e, (which, nx)), rest) =
     let n = either 0 1 2 numbers which in
-    with_first t1 t2 t3 ls size n.0 (e1 ∙ magic_first) e2 (e ∙ ap (λ (ns : List ℕ). line (codes "headroom") ns) n.1) small n.2
+    with_first t1 t2 t3 ls size n.0 (e1 ∙ magic_first) e2
+    (e ∙ ap (λ (ns : List ℕ). line (codes "headroom") ns) n.1) small n.2
     (regions_left false (cell_count size) ls (subst (λ (s : Stage). Leads ls s stage.Done) nx rest))
 headroom_step true t1 t2 (t3 ∷ ls) size e1 e2 small (next, (numbers, e, (which, nx)), rest) =
     let n = either 0 1 2 numbers which in
-    need_step t1 t2 t3 ls size n.0 (e1 ∙ magic_second) e2 (e ∙ ap (λ (ns : List ℕ). line (codes "headroom") ns) n.1) small n.2
+    need_step t1 t2 t3 ls size n.0 (e1 ∙ magic_second) e2
+    (e ∙ ap (λ (ns : List ℕ). line (codes "headroom") ns) n.1) small n.2
     (subst (λ (s : Stage). Leads ls s stage.Done) nx rest)
 
-box_step : (second : Bool) (t1 : List ℕ) (ls : List (List ℕ)) → t1 ≡ line (codes "torchproof") ((if second then 2 else 1) ∷ []) → Leads ls (stage.Box second) stage.Done → WholeRest (t1 ∷ ls)
+box_step : (second : Bool) (t1 : List ℕ) (ls : List (List ℕ))
+    → t1 ≡ line (codes "torchproof") ((if second then 2 else 1) ∷ []) → Leads ls (stage.Box second) stage.Done
+    → WholeRest (t1 ∷ ls)
 box_step second t1 [] e1 h = absurd (cc)
 box_step second t1 (t2 ∷ ls) e1 (next, (numbers, e, (size, ns, small, nx)), rest) =
-    headroom_step second t1 t2 ls size e1 (e ∙ ap (λ (ns : List ℕ). line (codes "box") ns) ns) small (subst (λ (s : Stage). Leads ls s stage.Done) nx rest)
+    headroom_step second t1 t2 ls size e1 (e ∙ ap (λ (ns : List ℕ). line (codes "box") ns) ns) small
+    (subst (λ (s : Stage). Leads ls s stage.Done) nx rest)
 
 pub certificate_of : (lines : List (List ℕ)) → Leads lines stage.Start stage.Done → WholeRest lines
 certificate_of [] h = absurd (cc)
-certificate_of (t1 ∷ ls) (next, (numbers, e, inl (ns, nx)), rest) = box_step false t1 ls (e ∙ ap (λ (ns : List ℕ). line (codes "torchproof") ns) ns) (subst (λ (s : Stage). Leads ls s stage.Done) nx rest)
-certificate_of (t1 ∷ ls) (next, (numbers, e, inr (ns, nx)), rest) = box_step true t1 ls (e ∙ ap (λ (ns : List ℕ). line (codes "torchproof") ns) ns) (subst (λ (s : Stage). Leads ls s stage.Done) nx rest)
+certificate_of (t1 ∷ ls) (next, (numbers, e, inl (ns, nx)), rest) = box_step false t1 ls
+    (e ∙ ap (λ (ns : List ℕ). line (codes "torchproof") ns) ns) (subst (λ (s : Stage). Leads ls s stage.Done) nx rest)
+certificate_of (t1 ∷ ls) (next, (numbers, e, inr (ns, nx)), rest) = box_step true t1 ls
+    (e ∙ ap (λ (ns : List ℕ). line (codes "torchproof") ns) ns) (subst (λ (s : Stage). Leads ls s stage.Done) nx rest)
 
 -- ---- from a certificate to its lines
 
@@ -110,13 +134,20 @@ alone : (a b n : ℕ) → (n ≡ a) ⊎ (n ≡ b) → (n ∷ [] ≡ a ∷ []) �
 alone a b n (inl e) = inl (ap (λ (m : ℕ). m ∷ []) e)
 alone a b n (inr e) = inr (ap (λ (m : ℕ). m ∷ []) e)
 
-leads_regions : (second : Bool) (count : ℕ) (sections : List Section) → length sections ≤ count → All (IsSectionIn count) sections → (second ≡ false → All (λ section. HasNoBar section.tree) sections)
-    → Leads (line (codes "regions") (length sections ∷ []) ∷ (flat_map section_lines sections ++ codes "end" ∷ [])) (stage.Regions second count) stage.Done
-leads_regions second count sections few each bars =
-    (stage.Region second count (length sections), (length sections ∷ [], refl, (length sections, refl, few, refl)), leads_sections second count sections each bars)
+leads_regions : (second : Bool) (count : ℕ) (sections : List Section) → length sections ≤ count
+    → All (IsSectionIn count) sections → (second ≡ false → All (λ section. HasNoBar section.tree) sections)
+    → Leads (line (codes "regions") (length sections ∷ []) ∷ (flat_map section_lines sections ++ codes "end" ∷ []))
+    (stage.Regions second count) stage.Done
+leads_regions second count sections few each bars = (
+  stage.Region second count (length sections),
+  (length sections ∷ [], refl, (length sections, refl, few, refl)),
+  leads_sections second count sections each bars,
+)
 
-pub leads_whole : (version : Version) (size : Point) (headroom : ℕ) (sections : List Section) → IsInRange (record { version = version; size = size; headroom = headroom; sections = sections })
-    → Leads (lines_of (record { version = version; size = size; headroom = headroom; sections = sections })) stage.Start stage.Done
+pub leads_whole : (version : Version) (size : Point) (headroom : ℕ) (sections : List Section)
+    → IsInRange (record { version = version; size = size; headroom = headroom; sections = sections })
+    → Leads (lines_of (record { version = version; size = size; headroom = headroom; sections = sections }))
+    stage.Start stage.Done
 leads_whole version.first size headroom sections r = (
   stage.Box false,
   (1 ∷ [], sym magic_first, inl (refl, refl)),

@@ -64,7 +64,8 @@ pub record TakesLine (piece after : List ℕ) (k : Kind) (old new : Kept) : Type
   pub front : List ℕ
   pub parts : piece ≡ front ++ after
   pub some : 0 < length front
-  pub each : (bytes : List ℕ) (all : List Said) → Holds bytes all old → Holds (bytes ++ front) (all ++ said k new.numbers ∷ []) new
+  pub each : (bytes : List ℕ) (all : List Said) → Holds bytes all old
+      → Holds (bytes ++ front) (all ++ said k new.numbers ∷ []) new
   pub going : new.misfit ≡ None
   pub counted : new.taken ≡ old.taken + 1
 

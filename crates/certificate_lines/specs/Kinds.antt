@@ -53,9 +53,12 @@ MeansAt (stage.Region second count to_come) kind.End numbers next = steps.EndMea
 MeansAt (stage.Region second count to_come) k numbers next = steps.RegionMeans second count to_come numbers next
 MeansAt (stage.Dark second count to_come n t) k numbers next = steps.DarkMeans second count to_come n t numbers next
 MeansAt (stage.Torches second count to_come t) k numbers next = steps.TorchesMeans second count to_come t numbers next
-MeansAt (stage.Node second count to_come pending) kind.Branch numbers next = steps.BranchMeans second count to_come pending numbers next
-MeansAt (stage.Node second count to_come pending) kind.Bar numbers next = steps.BarMeans second count to_come pending numbers next
-MeansAt (stage.Node second count to_come pending) k numbers next = steps.LeafMeans second count to_come pending numbers next
+MeansAt (stage.Node second count to_come pending) kind.Branch numbers next =
+    steps.BranchMeans second count to_come pending numbers next
+MeansAt (stage.Node second count to_come pending) kind.Bar numbers next =
+    steps.BarMeans second count to_come pending numbers next
+MeansAt (stage.Node second count to_come pending) k numbers next =
+    steps.LeafMeans second count to_come pending numbers next
 MeansAt stage.Done k numbers next = ⊥
 
 -- where a tree is to come

@@ -2,7 +2,7 @@
 //! dark, and each lights the other 27.
 use block_rows::Rows;
 use cave_files::{Block, Fill, Structure};
-use cave_model::{Rule, build};
+use cave_model::{Rule, World, build};
 use cave_regions::{Cover, Region, split};
 use cover_rows::Problem;
 use event_core::{Core, Event};
@@ -55,16 +55,26 @@ fn ring_bytes(alloc: Global, stones: &[i32]) -> Result<Vec<u8>, AllocError> {
     structure.bytes(alloc)
 }
 
-/// The ring with stone below these cells of its northern side.
-fn ring(alloc: Global, stones: &[i32], table: &[u8]) -> Result<Arc<Region>, Fail> {
+/// The cave of the ring with stone below these cells of its northern side.
+fn world(alloc: Global, stones: &[i32], table: &[u8]) -> Result<World, Fail> {
     let scan = read_scan(alloc, &ring_bytes(alloc, stones)?)?;
     let rows = Rows::with_table(alloc, table)?;
-    let world = build(alloc, &scan, &rows, Rule::new(2, 1))?;
+    Ok(build(alloc, &scan, &rows, Rule::new(2, 1))?)
+}
+
+/// Its region.
+fn ring(alloc: Global, stones: &[i32], table: &[u8]) -> Result<Arc<Region>, Fail> {
+    let world = world(alloc, stones, table)?;
     let problem = Problem::new(alloc, &world)?;
     match split(alloc, &problem)?.pop() {
         Some(region) => Ok(Arc::new(alloc, region)?),
         None => Err(AllocError.into()),
     }
+}
+
+/// The cave of the felt ring.
+pub(crate) fn felt_world(alloc: Global) -> Result<World, Fail> {
+    world(alloc, &[1, 4, 8], TABLE)
 }
 
 /// The places 111, 114 and 118.

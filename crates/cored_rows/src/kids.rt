@@ -32,6 +32,22 @@ pub(crate) fn closed(alloc: Global, piece: Piece) -> Result<Closed, Fail> {
     }
 }
 
+/// The root is opened on a cell, and each of its kids taken and closed.
+pub(crate) fn closing_events(
+    alloc: Global,
+    region: &Arc<Region>,
+    cell: Cell,
+) -> Result<Vec<Event>, Fail> {
+    let mut events = vec![in alloc; Event::Open(root_name(alloc), cell)]?;
+    let mut number = 0;
+    for kid in kids_on(alloc, region, cell)? {
+        events.push(Event::Take(number, kid_name(alloc, number)?))?;
+        events.push(Event::Close(number, closed(alloc, kid)?))?;
+        number = u32::wrapping_add(number, 1);
+    }
+    Ok(events)
+}
+
 /// The cells of the leaves below a branch, one after another, behind the branch's own cell.
 fn cells_of(alloc: Global, tree: &Proof) -> Result<Vec<Cell>, Fail> {
     let mut cells = Vec::new(alloc);
@@ -67,13 +83,7 @@ fn kids_are_taken_closed_and_assembled(rt: HostRuntime) -> Result<(), Fail> {
     let alloc = rt.alloc();
     let region = felt_ring(alloc)?;
     let mut core = core_of(alloc, &region)?;
-    let mut events = vec![in alloc; Event::Open(root_name(alloc), 188)]?;
-    let mut number = 0;
-    for kid in kids_on(alloc, &region, 188)? {
-        events.push(Event::Take(number, kid_name(alloc, number)?))?;
-        events.push(Event::Close(number, closed(alloc, kid)?))?;
-        number = u32::wrapping_add(number, 1);
-    }
+    let events = closing_events(alloc, &region, 188)?;
     let answers = play(alloc, &mut core, events)?;
     assert_eq!(rt;
         answers.as_slice(),

@@ -5,6 +5,10 @@
 #[cfg(test)]
 mod beacons;
 #[cfg(test)]
+mod certificates;
+#[cfg(test)]
+mod deques;
+#[cfg(test)]
 mod desks;
 #[cfg(test)]
 mod enabled;

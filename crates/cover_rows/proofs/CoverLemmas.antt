@@ -11,21 +11,33 @@ use Rattle.cover_rows.specs.Coverage.{IsProblemOf}
 use Rattle.set_cover.specs.Instance.{Instance, LightsIn}
 use Rattle.cover_rows.proofs.PlaceLemmas.{legal_hang}
 
+-- hung torches are at their places
 pub cells_hung : (cave : Cave) (places : List ℕ) → cells_of (hung cave places) ≡ places
 cells_hung cave [] = refl
 cells_hung cave (place ∷ places) = ap (λ (l : List ℕ). place ∷ l) (cells_hung cave places)
 
-lights_darkness : (cave : Cave) (instance : Instance) (chosen : List ℕ) → IsProblemOf cave instance → AllPairs (λ a b. a ≢ b) chosen → All (Contains instance.places) chosen
-    → ((cell : ℕ) → Contains instance.cells cell → (place : ℕ) × Contains chosen place × LightsIn instance place cell) → LightsDarkness cave (hung cave chosen)
+-- hung at a cover, torches light all darkness
+lights_darkness : (cave : Cave) (instance : Instance) (chosen : List ℕ) → IsProblemOf cave instance
+    → AllPairs (λ a b. a ≢ b) chosen → All (Contains instance.places) chosen
+    → ((cell : ℕ) → Contains instance.cells cell → (place : ℕ) × Contains chosen place × LightsIn instance place cell)
+    → LightsDarkness cave (hung cave chosen)
 lights_darkness cave instance chosen problem once legal covered = record {
-  legal = All-map (λ (torch : Torch). IsTrue (is_legal cave torch.cell torch.hang)) (λ place. record { cell = place; hang = unwrap_or (hang_of cave place) Floor }) chosen
+  legal = All-map (λ (torch : Torch). IsTrue (is_legal cave torch.cell torch.hang))
+      (λ place. record { cell = place; hang = unwrap_or (hang_of cave place) Floor }) chosen
       (λ k d h. legal_hang cave (get_or chosen k d) ((problem.legal.exact (get_or chosen k d)).0 (legal k d h)));
   distinct = subst (λ (cells : List ℕ). AllPairs (λ a b. a ≢ b) cells) (sym (cells_hung cave chosen)) once;
   covered = λ cell dark.
-      (let by = covered cell ((problem.dark.exact cell).1 dark) in
-      (by.0, subst (λ (cells : List ℕ). Contains cells by.0) (sym (cells_hung cave chosen)) by.1, ((problem.lit by.0 cell).0 by.2).2));
+      (let by = covered cell ((problem.dark.exact cell).1 dark) in (
+        by.0,
+        subst (λ (cells : List ℕ). Contains cells by.0) (sym (cells_hung cave chosen)) by.1,
+        ((problem.lit by.0 cell).0 by.2).2,
+      ));
 }
 
-pub cover_is_safe : (cave : Cave) (instance : Instance) (chosen : List ℕ) → IsSound cave → IsProblemOf cave instance → AllPairs (λ a b. a ≢ b) chosen → All (Contains instance.places) chosen
-    → ((cell : ℕ) → Contains instance.cells cell → (place : ℕ) × Contains chosen place × LightsIn instance place cell) → IsSafe cave (hung cave chosen)
-cover_is_safe cave instance chosen sound problem once legal covered = torches.cover_is_safe cave (hung cave chosen) sound (lights_darkness cave instance chosen problem once legal covered)
+-- torches hung at a cover of a sound cave are safe
+pub cover_is_safe : (cave : Cave) (instance : Instance) (chosen : List ℕ) → IsSound cave → IsProblemOf cave instance
+    → AllPairs (λ a b. a ≢ b) chosen → All (Contains instance.places) chosen
+    → ((cell : ℕ) → Contains instance.cells cell → (place : ℕ) × Contains chosen place × LightsIn instance place cell)
+    → IsSafe cave (hung cave chosen)
+cover_is_safe cave instance chosen sound problem once legal covered = torches.cover_is_safe cave
+    (hung cave chosen) sound (lights_darkness cave instance chosen problem once legal covered)

@@ -1,5 +1,6 @@
 -- The trees of nodes.
-use Rattle.std.proofs.Common.{◌≡◌, ℕ, ◌+◌, Bool, true, false, ◌&&◌, true≢false, List, [], ◌∷◌, ◌++◌, length, map, take, Vec, Global, refl, sym, ap, ◌∙◌, subst, arith, append-nil}
+use Rattle.std.proofs.Common.{◌≡◌, ℕ, ◌+◌, Bool, true, false, ◌&&◌, true≢false, List, [], ◌∷◌, ◌++◌, length, map}
+use Rattle.std.proofs.Common.{take, Vec, Global, refl, sym, ap, ◌∙◌, subst, arith, append-nil}
 use Rattle.std.proofs.lemmas.List.{take_all}
 use Rattle.proof_rules.specs.Tree.{Tree, Forest, branch, none, more}
 use Rattle.proof_tree.specs.Shape.{tree_of, forest_of}
@@ -18,14 +19,17 @@ abbrev pub forest : List Tree → Forest
 forest [] = none
 forest (t ∷ ts) = more t (forest ts)
 
+-- the trees of proofs are their forest
 pub forest_trees : (ps : List Proof) → forest (map tree_of ps) ≡ forest_of ps
 forest_trees [] = refl
 forest_trees (p ∷ ps) = ap (more (tree_of p)) (forest_trees ps)
 
+-- the trees of nodes are what their shapes assemble to
 pub forest_nodes : (ns : List Node) → forest (trees_of ns) ≡ all_assembled (shapes_of ns)
 forest_nodes [] = refl
 forest_nodes (n ∷ ns) = ap (more (assembled (shape_of n))) (forest_nodes ns)
 
+-- where all nodes are done the first is
 pub first_done : (n : Node) (ns : List Node) → are_done (shapes_of (n ∷ ns)) ≡ true → is_done (shape_of n) ≡ true
 first_done n ns e = left (is_done (shape_of n)) (are_done (shapes_of ns)) e
   where
@@ -33,6 +37,7 @@ first_done n ns e = left (is_done (shape_of n)) (are_done (shapes_of ns)) e
     left true b e = refl
     left false b e = e
 
+-- and so are the rest
 pub rest_done : (n : Node) (ns : List Node) → are_done (shapes_of (n ∷ ns)) ≡ true → are_done (shapes_of ns) ≡ true
 rest_done n ns e = right (is_done (shape_of n)) (are_done (shapes_of ns)) e
   where
@@ -47,7 +52,9 @@ pub record IsReady (ns : List Node) (room : ℕ) : Type 0 where
   pub whole : AreWhole (shapes_of ns)
   pub room_is : length ns ≡ room
 
-pub opened_ready : (node : Node) (cell : ℕ) (places : List ℕ) (kids : Shapes) (room : Vec Proof Global) (ns rest : List Node) → node ≡ Opened cell places kids room → shapes_of ns ≡ kids → rest ≡ ns
+-- an opened node that is done has done kids and room for their trees
+pub opened_ready : (node : Node) (cell : ℕ) (places : List ℕ) (kids : Shapes) (room : Vec Proof Global)
+    (ns rest : List Node) → node ≡ Opened cell places kids room → shapes_of ns ≡ kids → rest ≡ ns
     → is_done (shape_of node) ≡ true → IsWhole (shape_of node) → IsReady rest (length room.items)
 opened_ready node cell places kids room ns rest is kids_are same done whole =
     let shape : shape_of node ≡ parted cell places (length room.items) kids = ap shape_of is in
@@ -60,15 +67,24 @@ opened_ready node cell places kids room ns rest is kids_are same done whole =
       room_is = omega arith;
     }
 
+-- nodes of which there are none are no nodes
 no_nodes : (ns : List Node) → length ns ≡ 0 → ns ≡ []
 no_nodes [] e = refl
 no_nodes (n ∷ ns) e = absurd (omega arith)
 
-pub all_there : (node : Node) (cell : ℕ) (places : List ℕ) (kids : Shapes) (had room : Vec Proof Global) (index : ℕ) (ns first rest : List Node) (made : Forest) → node ≡ Opened cell places kids had → shapes_of ns ≡ kids → first ≡ ns → length rest ≡ 0
-    → index + length rest ≡ length room.items → map tree_of (take index room.items) ++ trees_of rest ≡ trees_of first → made ≡ forest_of room.items → branch cell made ≡ assembled (shape_of node)
+-- with the trees of all kids made, the branch is what the node assembles to
+pub all_there : (node : Node) (cell : ℕ) (places : List ℕ) (kids : Shapes) (had room : Vec Proof Global) (index : ℕ)
+    (ns first rest : List Node) (made : Forest) → node ≡ Opened cell places kids had → shapes_of ns ≡ kids → first ≡ ns
+    → length rest ≡ 0
+    → index + length rest ≡ length room.items → map tree_of (take index room.items) ++ trees_of rest ≡ trees_of first
+    → made ≡ forest_of room.items → branch cell made ≡ assembled (shape_of node)
 all_there node cell places kids had room index ns first rest made is kids_are same none_left full trees made_is =
     let all : take index room.items ≡ room.items = take_all index room.items (omega arith) in
-    let front : map tree_of (take index room.items) ++ [] ≡ trees_of first = ap (λ (l : List Node). map tree_of (take index room.items) ++ trees_of l) (sym (no_nodes rest none_left)) ∙ trees in
-    let whole : map tree_of room.items ≡ trees_of ns = ap (λ (l : List Proof). map tree_of l) (sym all) ∙ sym (append-nil (map tree_of (take index room.items))) ∙ front ∙ ap trees_of same in
-    ap (branch cell) (made_is ∙ sym (forest_trees room.items) ∙ ap forest whole ∙ forest_nodes ns ∙ ap all_assembled kids_are)
+    let front : map tree_of (take index room.items) ++ [] ≡ trees_of first =
+    ap (λ (l : List Node). map tree_of (take index room.items) ++ trees_of l)
+    (sym (no_nodes rest none_left)) ∙ trees in
+    let whole : map tree_of room.items ≡ trees_of ns = ap (λ (l : List Proof). map tree_of l) (sym all)
+    ∙ sym (append-nil (map tree_of (take index room.items))) ∙ front ∙ ap trees_of same in
+    ap (branch cell) (made_is ∙ sym (forest_trees room.items) ∙ ap forest whole ∙ forest_nodes ns
+    ∙ ap all_assembled kids_are)
     ∙ sym (ap (λ (n : Node). assembled (shape_of n)) is)

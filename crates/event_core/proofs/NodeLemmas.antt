@@ -1,53 +1,72 @@
 -- The shapes of nodes.
-use Rattle.std.proofs.Common.{◌≡◌, ℕ, zero, suc, ◌<◌, ◌≤◌, List, [], ◌∷◌, ◌++◌, length, get_or, set, None, refl, sym, ap, ◌∙◌, arith, append_assoc, append-nil}
+use Rattle.std.proofs.Common.{◌≡◌, ℕ, zero, suc, ◌<◌, ◌≤◌, List, [], ◌∷◌, ◌++◌, length, get_or, set, None, refl, sym}
+use Rattle.std.proofs.Common.{ap, ◌∙◌, arith, append_assoc, append-nil}
 use Rattle.std.specs.Prelude.{take, slice_index}
-use Rattle.event_core.specs.Shape.{Shape, Shapes, at_rest, no_shape, one_shape, part_in, part_below, put_in, put_below, shape_size, shapes_size, shape_count}
+use Rattle.event_core.specs.Shape.{Shape, Shapes, at_rest, no_shape, one_shape, part_in, part_below, put_in}
+use Rattle.event_core.specs.Shape.{put_below, shape_size, shapes_size, shape_count}
 use Rattle.event_core.specs.Finished.{all_at_rest}
 use Rattle.event_core.specs.Nodes.{shape_of, shapes_of}
 use Rattle.event_core.specs.declared.node.Node.{Node}
 
-pub kid_here : (c b places : List ℕ) (ns : List Node) (k : ℕ) (d : Node) (ks : List ℕ) → k < length places → k < length ns
-    → part_below c b places (shapes_of ns) k ks ≡ part_in (c ++ slice_index places k ∷ []) (b ++ take k places) (shape_of (get_or ns k d)) ks
+-- the part below a kid's number is that of the kid
+pub kid_here : (c b places : List ℕ) (ns : List Node) (k : ℕ) (d : Node) (ks : List ℕ) → k < length places
+    → k < length ns
+    → part_below c b places (shapes_of ns) k ks ≡ part_in (c ++ slice_index places k ∷ []) (b ++ take k places)
+    (shape_of (get_or ns k d)) ks
 kid_here c b [] ns k d ks lt less = absurd (omega arith)
 kid_here c b (q ∷ qs) [] k d ks lt less = absurd (omega arith)
-kid_here c b (q ∷ qs) (n ∷ ns) zero d ks lt less = ap (λ (x : List ℕ). part_in (c ++ q ∷ []) x (shape_of n) ks) (sym (append-nil b))
+kid_here c b (q ∷ qs) (n ∷ ns) zero d ks lt less = ap (λ (x : List ℕ). part_in (c ++ q ∷ []) x (shape_of n) ks)
+    (sym (append-nil b))
 kid_here c b (q ∷ qs) (n ∷ ns) (suc k) d ks lt less =
     kid_here c (b ++ q ∷ []) qs ns k d ks (omega arith) (omega arith)
-    ∙ ap (λ (x : List ℕ). part_in (c ++ slice_index qs k ∷ []) x (shape_of (get_or ns k d)) ks) (append_assoc b (q ∷ []) (take k qs))
+    ∙ ap (λ (x : List ℕ). part_in (c ++ slice_index qs k ∷ []) x (shape_of (get_or ns k d)) ks)
+    (append_assoc b (q ∷ []) (take k qs))
 
-pub no_place : (c b places : List ℕ) (kids : Shapes) (k : ℕ) (ks : List ℕ) → length places ≤ k → part_below c b places kids k ks ≡ None
+-- past the last place there is none
+pub no_place : (c b places : List ℕ) (kids : Shapes) (k : ℕ) (ks : List ℕ) → length places ≤ k
+    → part_below c b places kids k ks ≡ None
 no_place c b [] kids k ks le = refl
 no_place c b (q ∷ qs) no_shape k ks le = refl
 no_place c b (q ∷ qs) (one_shape s ss) zero ks le = absurd (omega arith)
 no_place c b (q ∷ qs) (one_shape s ss) (suc k) ks le = no_place c (b ++ q ∷ []) qs ss k ks (omega arith)
 
-pub no_node : (c b places : List ℕ) (ns : List Node) (k : ℕ) (ks : List ℕ) → length ns ≤ k → part_below c b places (shapes_of ns) k ks ≡ None
+-- past the last kid there is none
+pub no_node : (c b places : List ℕ) (ns : List Node) (k : ℕ) (ks : List ℕ) → length ns ≤ k
+    → part_below c b places (shapes_of ns) k ks ≡ None
 no_node c b [] ns k ks le = refl
 no_node c b (q ∷ qs) [] k ks le = refl
 no_node c b (q ∷ qs) (n ∷ ns) zero ks le = absurd (omega arith)
 no_node c b (q ∷ qs) (n ∷ ns) (suc k) ks le = no_node c (b ++ q ∷ []) qs ns k ks (omega arith)
 
-pub put_kid : (ns : List Node) (k : ℕ) (ks : List ℕ) (new : Shape) (n d : Node) → k < length ns → shape_of n ≡ put_in (shape_of (get_or ns k d)) ks new
+-- a shape put below a kid's number is put in the kid
+pub put_kid : (ns : List Node) (k : ℕ) (ks : List ℕ) (new : Shape) (n d : Node) → k < length ns
+    → shape_of n ≡ put_in (shape_of (get_or ns k d)) ks new
     → shapes_of (set ns k n) ≡ put_below (shapes_of ns) k ks new
 put_kid [] k ks new n d lt e = absurd (omega arith)
 put_kid (m ∷ ms) zero ks new n d lt e = ap (λ (s : Shape). one_shape s (shapes_of ms)) e
 put_kid (m ∷ ms) (suc k) ks new n d lt e = ap (one_shape (shape_of m)) (put_kid ms k ks new n d (omega arith) e)
 
-pub put_far : (ns : List Node) (k : ℕ) (ks : List ℕ) (new : Shape) → length ns ≤ k → shapes_of ns ≡ put_below (shapes_of ns) k ks new
+-- past the last kid nothing is put
+pub put_far : (ns : List Node) (k : ℕ) (ks : List ℕ) (new : Shape) → length ns ≤ k
+    → shapes_of ns ≡ put_below (shapes_of ns) k ks new
 put_far [] k ks new le = refl
 put_far (m ∷ ms) zero ks new le = absurd (omega arith)
 put_far (m ∷ ms) (suc k) ks new le = ap (one_shape (shape_of m)) (put_far ms k ks new (omega arith))
 
+-- what was put last at a place stands there
 pub set_twice : (ns : List Node) (k : ℕ) (a b : Node) → set (set ns k a) k b ≡ set ns k b
 set_twice [] k a b = refl
 set_twice (m ∷ ms) zero a b = refl
 set_twice (m ∷ ms) (suc k) a b = ap (λ (l : List Node). m ∷ l) (set_twice ms k a b)
 
-pub kid_smaller : (ns : List Node) (k : ℕ) (d : Node) → k < length ns → shape_size (shape_of (get_or ns k d)) < shapes_size (shapes_of ns)
+-- a kid is smaller than all kids together
+pub kid_smaller : (ns : List Node) (k : ℕ) (d : Node) → k < length ns
+    → shape_size (shape_of (get_or ns k d)) < shapes_size (shapes_of ns)
 kid_smaller [] k d lt = absurd (omega arith)
 kid_smaller (n ∷ ns) zero d lt = omega arith
 kid_smaller (n ∷ ns) (suc k) d lt = (let rest = kid_smaller ns k d (omega arith) in omega arith)
 
+-- as many shapes as nodes
 pub count_nodes : (ns : List Node) → shape_count (shapes_of ns) ≡ length ns
 count_nodes [] = refl
 count_nodes (n ∷ ns) = omega (arith, count_nodes ns)
@@ -58,10 +77,12 @@ abbrev pub added : Shapes → Shapes
 added no_shape = one_shape at_rest no_shape
 added (one_shape s ss) = one_shape s (added ss)
 
+-- a node at rest more is a shape at rest more
 pub nodes_push : (ns : List Node) (n : Node) → shape_of n ≡ at_rest → shapes_of (ns ++ n ∷ []) ≡ added (shapes_of ns)
 nodes_push [] n e = ap (λ (s : Shape). one_shape s no_shape) e
 nodes_push (m ∷ ms) n e = ap (one_shape (shape_of m)) (nodes_push ms n e)
 
+-- a place more is a kid at rest more
 pub rest_push : (xs : List ℕ) (x : ℕ) → all_at_rest (xs ++ x ∷ []) ≡ added (all_at_rest xs)
 rest_push [] x = refl
 rest_push (y ∷ ys) x = ap (one_shape at_rest) (rest_push ys x)

@@ -1,20 +1,25 @@
 -- What holds after any events still holds where a piece is opened.
-use Rattle.std.proofs.Common.{◌≡◌, ◌≢◌, ◌⊎◌, inl, inr, ℕ, ◌<◌, List, [], ◌∷◌, ◌++◌, length, Option, Some, None, sym, ap, ◌∙◌, subst, arith, Contains}
+use Rattle.std.proofs.Common.{◌≡◌, ◌≢◌, ◌⊎◌, inl, inr, ℕ, ◌<◌, List, [], ◌∷◌, ◌++◌, length, Option, Some, None, sym}
+use Rattle.std.proofs.Common.{ap, ◌∙◌, subst, arith, Contains}
 use Rattle.std.specs.Prelude.{take, slice_index}
 use Rattle.std.proofs.lemmas.List.Elements.{Contains-append_cases, Contains-push_cases, Contains-get_or}
 use Rattle.cave_model.specs.Plan.{AreDistinct}
 use Rattle.set_cover.specs.Instance.{of_instance}
 use Rattle.proof_rules.specs.Good.{IsCoverOfPiece, IsUnlit, AreOpen}
-use Rattle.proof_rules.proofs.ListLemmas.{no_member, cons_cases, all_members, at_member, distinct_nil, distinct_cons, distinct_append}
+use Rattle.proof_rules.proofs.ListLemmas.{no_member, cons_cases, all_members, at_member, distinct_nil, distinct_cons}
+use Rattle.proof_rules.proofs.ListLemmas.{distinct_append}
 use Rattle.event_core.specs.State.{State, Part, Status, waiting, opened, closed, HasPart, IsLeft}
 use Rattle.event_core.specs.Sound.{IsSound, IsLeftOver, HasKids}
 use Rattle.event_core.specs.Events.{IsParted}
 use Rattle.event_core.proofs.NameLemmas.{same_or_not, kid_or_not, same_kid, kid_other, first_in}
-use Rattle.event_core.proofs.StateLemmas.{not_none, AreSame, same_parts, left_not_opened, none_or_some, opened_not_closed, waiting_not_closed, same_cell}
+use Rattle.event_core.proofs.StateLemmas.{not_none, AreSame, same_parts, left_not_opened, none_or_some}
+use Rattle.event_core.proofs.StateLemmas.{opened_not_closed, waiting_not_closed, same_cell}
 
-module _ (old : State) (f : List ℕ → Option Part) (n c b : List ℕ) (was : Status) (cell : ℕ) (places : List ℕ) (sound : IsSound old)
+module _ (old : State) (f : List ℕ → Option Part) (n c b : List ℕ) (was : Status) (cell : ℕ) (places : List ℕ)
+    (sound : IsSound old)
     (is : HasPart old n c b was) (left : IsLeft was) (unlit : IsUnlit (of_instance old.region) old.region.cells c cell)
-    (all : AreOpen (of_instance old.region) b cell places) (p : IsParted old n c b cell places (record old { part_at = f })) where
+    (all : AreOpen (of_instance old.region) b cell places)
+    (p : IsParted old n c b cell places (record old { part_at = f })) where
   abbrev new : State
   new = record old { part_at = f }
 
@@ -23,10 +28,12 @@ module _ (old : State) (f : List ℕ → Option Part) (n c b : List ℕ) (was : 
   none_below number = elim (none_or_some (old.part_at (n ++ number ∷ []))) [
     | inl e ↦ e
     | inr s ↦ (let up = sound.parents n number s.0 s.1 in
-        let same = same_parts old n c b up.0 up.1 was (opened up.2) is up.3 in left_not_opened was up.2 left same.status)
+        let same = same_parts old n c b up.0 up.1 was (opened up.2) is up.3 in
+        left_not_opened was up.2 left same.status)
   ]
 
-  no_kid : (m : List ℕ) (q : Part) → old.part_at m ≡ Some q → (number : ℕ) → number < length places → m ≢ n ++ number ∷ []
+  no_kid : (m : List ℕ) (q : Part) → old.part_at m ≡ Some q → (number : ℕ) → number < length places
+      → m ≢ n ++ number ∷ []
   no_kid m q h number lt e = not_none q (sym (none_below number) ∙ ap old.part_at (sym e) ∙ h)
 
   forth : (m c2 b2 : List ℕ) (s2 : Status) → HasPart old m c2 b2 s2 → (s : Status) × HasPart new m c2 b2 s
@@ -45,12 +52,17 @@ module _ (old : State) (f : List ℕ → Option Part) (n c b : List ℕ) (was : 
 
   opened_stays : (m c2 b2 : List ℕ) (at : ℕ) → HasPart old m c2 b2 (opened at) → HasPart new m c2 b2 (opened at)
   opened_stays m c2 b2 at h = elim (same_or_not m n) [
-    | inl e ↦ (let same = same_parts old n c b c2 b2 was (opened at) is (ap old.part_at (sym e) ∙ h) in left_not_opened was at left same.status)
+    | inl e ↦ (let same = same_parts old n c b c2 b2 was (opened at) is (ap old.part_at (sym e) ∙ h) in
+        left_not_opened was at left same.status)
     | inr ne ↦ stays m c2 b2 (opened at) ne h
   ]
 
   abbrev kid_part : ℕ → Part
-  kid_part number = record { chosen = c ++ slice_index places number ∷ []; barred = b ++ take number places; status = waiting }
+  kid_part number = record {
+    chosen = c ++ slice_index places number ∷ [];
+    barred = b ++ take number places;
+    status = waiting;
+  }
 
   -- where a piece comes from
   pub record IsKid (m c2 b2 : List ℕ) (s2 : Status) : Type 0 where
@@ -59,7 +71,8 @@ module _ (old : State) (f : List ℕ → Option Part) (n c b : List ℕ) (was : 
     pub named : m ≡ n ++ number ∷ []
     pub same : AreSame (c ++ slice_index places number ∷ []) (b ++ take number places) waiting c2 b2 s2
 
-  back : (m c2 b2 : List ℕ) (s2 : Status) → HasPart new m c2 b2 s2 → ((m ≡ n) × AreSame c b (opened cell) c2 b2 s2) ⊎ (IsKid m c2 b2 s2 ⊎ ((m ≢ n) × HasPart old m c2 b2 s2))
+  back : (m c2 b2 : List ℕ) (s2 : Status) → HasPart new m c2 b2 s2
+      → ((m ≡ n) × AreSame c b (opened cell) c2 b2 s2) ⊎ (IsKid m c2 b2 s2 ⊎ ((m ≢ n) × HasPart old m c2 b2 s2))
   back m c2 b2 s2 h = elim (same_or_not m n) [
     | inl e ↦ inl (e, same_parts new n c b c2 b2 (opened cell) s2 p.here (ap f (sym e) ∙ h))
     | inr ne ↦ elim (kid_or_not n m (length places)) [
@@ -67,13 +80,15 @@ module _ (old : State) (f : List ℕ → Option Part) (n c b : List ℕ) (was : 
         number = k.0;
         inside = k.1;
         named = k.2;
-        same = same_parts new (n ++ k.0 ∷ []) (c ++ slice_index places k.0 ∷ []) (b ++ take k.0 places) c2 b2 waiting s2 (p.kids k.0 k.1) (ap f (sym k.2) ∙ h);
+        same = same_parts new (n ++ k.0 ∷ []) (c ++ slice_index places k.0 ∷ []) (b ++ take k.0 places) c2 b2 waiting s2
+            (p.kids k.0 k.1) (ap f (sym k.2) ∙ h);
       }))
       | inr none_of ↦ inr (inr (ne, sym (p.others m ne none_of) ∙ h))
     ]
   ]
 
-  none_there : (m : List ℕ) → m ≢ n → ((number : ℕ) → number < length places → m ≢ n ++ number ∷ []) → old.part_at m ≡ None → f m ≡ None
+  none_there : (m : List ℕ) → m ≢ n → ((number : ℕ) → number < length places → m ≢ n ++ number ∷ [])
+      → old.part_at m ≡ None → f m ≡ None
   none_there m ne none_of h = p.others m ne none_of ∙ h
 
   -- the chosen places of a kid are distinct
@@ -81,9 +96,11 @@ module _ (old : State) (f : List ℕ → Option Part) (n c b : List ℕ) (was : 
   kid_distinct number lt =
       let place = slice_index places number in
       let lights = ((all.exact place).0 (Contains-get_or places number 0 lt)).lights in
-      distinct_append c (place ∷ []) (sound.distinct n c b was is) (distinct_cons place [] (λ h. no_member place h) distinct_nil)
+      distinct_append c (place ∷ []) (sound.distinct n c b was is)
+      (distinct_cons place [] (λ h. no_member place h) distinct_nil)
       (λ q h g. elim (cons_cases place [] q g) [
-        | inl e ↦ at_member (λ r. ¬ (of_instance old.region).Covers r cell) c q unlit.unlit h (subst (λ (r : ℕ). (of_instance old.region).Covers r cell) e lights)
+        | inl e ↦ at_member (λ r. ¬ (of_instance old.region).Covers r cell) c q unlit.unlit h
+            (subst (λ (r : ℕ). (of_instance old.region).Covers r cell) e lights)
         | inr g ↦ no_member q g
       ])
 
@@ -108,23 +125,35 @@ module _ (old : State) (f : List ℕ → Option Part) (n c b : List ℕ) (was : 
           distinct = covers.distinct;
           legal = covers.legal;
           covers = covers.covers;
-          holds = all_members (Contains cover) (c ++ slice_index places first.0 ∷ []) (λ q h. elim (Contains-push_cases c (slice_index places first.0) q h) [
-            | inl h ↦ at_member (Contains cover) c q covers.holds h
-            | inr e ↦ subst (Contains cover) e first.1.there
-          ]);
-          avoids = all_members (λ q. ¬ Contains cover q) (b ++ take first.0 places) (λ q h. elim (Contains-append_cases b (take first.0 places) q h) [
-            | inl h ↦ at_member (λ r. ¬ Contains cover r) b q covers.avoids h
-            | inr h ↦ first.1.new q h
-          ]);
+          holds = all_members (Contains cover) (c ++ slice_index places first.0 ∷ [])
+              (λ q h. elim (Contains-push_cases c (slice_index places first.0) q h) [
+                | inl h ↦ at_member (Contains cover) c q covers.holds h
+                | inr e ↦ subst (Contains cover) e first.1.there
+              ]);
+          avoids = all_members (λ q. ¬ Contains cover q) (b ++ take first.0 places)
+              (λ q h. elim (Contains-append_cases b (take first.0 places) q h) [
+                | inl h ↦ at_member (λ r. ¬ Contains cover r) b q covers.avoids h
+                | inr h ↦ first.1.new q h
+              ]);
         };
       }
 
   left_over : (cover : List ℕ) → IsLeftOver old cover → IsLeftOver new cover
   left_over cover l = elim (same_or_not l.name n) [
     | inl e ↦ (let same = same_parts old n l.chosen l.barred c b l.status was (ap old.part_at (sym e) ∙ l.there) is in
-        to_kid cover (subst (λ (x : List ℕ). IsCoverOfPiece (of_instance old.region) old.region.cells x b cover) same.chosen
-        (subst (λ (x : List ℕ). IsCoverOfPiece (of_instance old.region) old.region.cells l.chosen x cover) same.barred l.covers)))
-    | inr ne ↦ record { name = l.name; chosen = l.chosen; barred = l.barred; status = l.status; there = stays l.name l.chosen l.barred l.status ne l.there; left = l.left; covers = l.covers }
+        to_kid cover (subst (λ (x : List ℕ). IsCoverOfPiece (of_instance old.region) old.region.cells x b cover)
+        same.chosen
+        (subst (λ (x : List ℕ). IsCoverOfPiece (of_instance old.region) old.region.cells l.chosen x cover)
+        same.barred l.covers)))
+    | inr ne ↦ record {
+      name = l.name;
+      chosen = l.chosen;
+      barred = l.barred;
+      status = l.status;
+      there = stays l.name l.chosen l.barred l.status ne l.there;
+      left = l.left;
+      covers = l.covers;
+    }
   ]
 
   new_kids : HasKids new n c b cell
@@ -133,30 +162,36 @@ module _ (old : State) (f : List ℕ → Option Part) (n c b : List ℕ) (was : 
     places = places;
     all = all;
     there = λ i lt. (waiting, p.kids i lt);
-    no_more = λ i le. none_there (n ++ i ∷ []) (kid_other n i) (λ j lt e. (let x = (same_kid n n i j e).number in absurd (omega arith))) (none_below i);
+    no_more = λ i le. none_there (n ++ i ∷ []) (kid_other n i)
+        (λ j lt e. (let x = (same_kid n n i j e).number in absurd (omega arith))) (none_below i);
   }
 
-  kids_stay : (m c2 b2 : List ℕ) (at : ℕ) → m ≢ n → HasPart old m c2 b2 (opened at) → HasKids old m c2 b2 at → HasKids new m c2 b2 at
+  kids_stay : (m c2 b2 : List ℕ) (at : ℕ) → m ≢ n → HasPart old m c2 b2 (opened at) → HasKids old m c2 b2 at
+      → HasKids new m c2 b2 at
   kids_stay m c2 b2 at ne h k = record {
     unlit = k.unlit;
     places = k.places;
     all = k.all;
-    there = λ i lt. (let t = k.there i lt in forth (m ++ i ∷ []) (c2 ++ slice_index k.places i ∷ []) (b2 ++ take i k.places) t.0 t.1);
+    there = λ i lt. (let t = k.there i lt in forth (m ++ i ∷ []) (c2 ++ slice_index k.places i ∷ [])
+        (b2 ++ take i k.places) t.0 t.1);
     no_more = λ i le. none_there (m ++ i ∷ [])
         (λ e. not_none (record { chosen = c; barred = b; status = was }) (sym (k.no_more i le) ∙ ap old.part_at e ∙ is))
         (λ j lt e. ne (same_kid m n i j e).parent)
         (k.no_more i le);
   }
 
-  parents_stay : (m : List ℕ) (i : ℕ) (q : Part) → f (m ++ i ∷ []) ≡ Some q → (c2 : List ℕ) × (b2 : List ℕ) × (at : ℕ) × HasPart new m c2 b2 (opened at)
+  parents_stay : (m : List ℕ) (i : ℕ) (q : Part) → f (m ++ i ∷ []) ≡ Some q
+      → (c2 : List ℕ) × (b2 : List ℕ) × (at : ℕ) × HasPart new m c2 b2 (opened at)
   parents_stay m i q h = elim (back (m ++ i ∷ []) q.chosen q.barred q.status h) [
-    | inl e ↦ (let up = sound.parents m i (record { chosen = c; barred = b; status = was }) (ap old.part_at e.0 ∙ is) in (up.0, up.1, up.2, opened_stays m up.0 up.1 up.2 up.3))
+    | inl e ↦ (let up = sound.parents m i (record { chosen = c; barred = b; status = was }) (ap old.part_at e.0 ∙ is) in
+        (up.0, up.1, up.2, opened_stays m up.0 up.1 up.2 up.3))
     | inr o ↦ elim o [
       | inl k ↦ (c, b, cell, (let e = (same_kid m n i k.number k.named).parent in ap f e ∙ p.here))
       | inr o ↦ (let up = sound.parents m i q o.1 in (up.0, up.1, up.2, opened_stays m up.0 up.1 up.2 up.3))
     ]
   ]
 
+  -- a sound state stays so when a piece is opened
   pub opened_sound : IsSound new
   opened_sound = record {
     seen = sound.seen;
@@ -186,7 +221,8 @@ module _ (old : State) (f : List ℕ → Option Part) (n c b : List ℕ) (was : 
     ];
     kids = λ m c2 b2 at h. elim (back m c2 b2 (opened at) h) [
       | inl e ↦ subst (λ (x : List ℕ × (List ℕ × (List ℕ × ℕ))). HasKids new x.0 x.1.0 x.1.1.0 x.1.1.1)
-          (let x = e.0 in let y = e.1.chosen in let z = e.1.barred in let w = same_cell cell at e.1.status in λ i. (sym x i, (y i, (z i, w i)))) new_kids
+          (let x = e.0 in let y = e.1.chosen in let z = e.1.barred in let w = same_cell cell at e.1.status in
+          λ i. (sym x i, (y i, (z i, w i)))) new_kids
       | inr o ↦ elim o [
         | inl k ↦ left_not_opened waiting at tt k.same.status
         | inr o ↦ kids_stay m c2 b2 at o.0 o.1 (sound.kids m c2 b2 at o.1)

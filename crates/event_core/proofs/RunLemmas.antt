@@ -1,5 +1,6 @@
 -- What holds after each event, and so after any events.
-use Rattle.std.proofs.Common.{◌≡◌, ◌≢◌, inl, inr, ℕ, ◌<◌, ◌≤◌, Bool, true, false, List, [], ◌∷◌, ◌++◌, length, get_or, set, Some, sym, ap, ◌∙◌, subst, arith, le_trans}
+use Rattle.std.proofs.Common.{◌≡◌, ◌≢◌, inl, inr, ℕ, ◌<◌, ◌≤◌, Bool, true, false, List, [], ◌∷◌, ◌++◌, length, get_or}
+use Rattle.std.proofs.Common.{set, Some, sym, ap, ◌∙◌, subst, arith, le_trans}
 use Rattle.std.proofs.lemmas.Bool.{cases_eq, cases_lt}
 use Rattle.std.proofs.lemmas.Bool.Decides.{nat_tests}
 use Rattle.std.proofs.lemmas.List.{get_or-set_same, get_or-set_other, length-replicate, get_or-replicate, length-set}
@@ -17,7 +18,8 @@ use Rattle.event_core.specs.Events.{MayOpen, MayClose, IsEnabled, Does, Turns, O
 use Rattle.event_core.specs.Plays.{Steps, Plays}
 use Rattle.event_core.specs.declared.event.Event.{Event}
 use Rattle.event_core.specs.declared.event.Event.TheVariants.{Look, Offer, Take, Open, Close, Leave}
-use Rattle.event_core.proofs.StateLemmas.{AreSame, same_parts, not_none, waiting_not_closed, held_not_closed, waiting_not_opened, held_not_opened, closed_not_opened, same_closed}
+use Rattle.event_core.proofs.StateLemmas.{AreSame, same_parts, not_none, waiting_not_closed, held_not_closed}
+use Rattle.event_core.proofs.StateLemmas.{waiting_not_opened, held_not_opened, closed_not_opened, same_closed}
 use Rattle.event_core.proofs.TurnLemmas as turning
 use Rattle.event_core.proofs.OpenLemmas as opening
 
@@ -26,96 +28,163 @@ cov state = λ c b places. IsCoverOfPiece (of_instance state.region) state.regio
 
 -- ---- looks and offers
 
-pub look_sound : (old : State) (worker : ℕ) → worker < length old.seen → IsSound old → IsSound (record old { seen = set old.seen worker (length old.best) })
+-- a look keeps the state sound
+pub look_sound : (old : State) (worker : ℕ) → worker < length old.seen → IsSound old
+    → IsSound (record old { seen = set old.seen worker (length old.best) })
 look_sound old worker lt sound = record {
   seen = λ other inside. elim (cases_eq other worker) [
     | inl e ↦ (let at = get_or-set_same old.seen worker (length old.best) 0 lt in
-        subst (λ (v : ℕ). length old.best ≤ get_or (set old.seen worker (length old.best)) v 0) (sym e) (omega (arith, at)))
+        subst (λ (v : ℕ). length old.best ≤ get_or (set old.seen worker (length old.best)) v 0) (sym e)
+        (omega (arith, at)))
     | inr ne ↦ (let at = get_or-set_other old.seen worker other (length old.best) 0 ne in
-        let was = sound.seen other (omega (arith, inside, length-set old.seen worker (length old.best))) in omega (arith, at))
+        let was = sound.seen other (omega (arith, inside, length-set old.seen worker (length old.best))) in
+        omega (arith, at))
   ];
   rooted = sound.rooted;
   parents = sound.parents;
   distinct = sound.distinct;
-  covered = λ places covers lt. (let l = sound.covered places covers lt in record { name = l.name; chosen = l.chosen; barred = l.barred; status = l.status; there = l.there; left = l.left; covers = l.covers });
+  covered = λ places covers lt. (let l = sound.covered places covers lt in
+      record {
+        name = l.name;
+        chosen = l.chosen;
+        barred = l.barred;
+        status = l.status;
+        there = l.there;
+        left = l.left;
+        covers = l.covers;
+      });
   reached = sound.reached;
   proved = sound.proved;
-  kids = λ m c b cell h. (let k = sound.kids m c b cell h in record { unlit = k.unlit; places = k.places; all = k.all; there = k.there; no_more = k.no_more });
+  kids = λ m c b cell h. (let k = sound.kids m c b cell h in
+      record { unlit = k.unlit; places = k.places; all = k.all; there = k.there; no_more = k.no_more });
 }
 
-pub better_sound : (old : State) (best : List ℕ) → length best ≤ length old.best → IsSound old → IsSound (record old { best = best })
+-- so does a cover that is no larger than the best
+pub better_sound : (old : State) (best : List ℕ) → length best ≤ length old.best → IsSound old
+    → IsSound (record old { best = best })
 better_sound old best le sound = record {
   seen = λ worker inside. le_trans le (sound.seen worker inside);
   rooted = sound.rooted;
   parents = sound.parents;
   distinct = sound.distinct;
-  covered = λ places covers lt. (let l = sound.covered places covers (omega arith) in record { name = l.name; chosen = l.chosen; barred = l.barred; status = l.status; there = l.there; left = l.left; covers = l.covers });
+  covered = λ places covers lt. (let l = sound.covered places covers (omega arith) in
+      record {
+        name = l.name;
+        chosen = l.chosen;
+        barred = l.barred;
+        status = l.status;
+        there = l.there;
+        left = l.left;
+        covers = l.covers;
+      });
   reached = λ m c b floor tree h. le_trans le (sound.reached m c b floor tree h);
   proved = sound.proved;
-  kids = λ m c b cell h. (let k = sound.kids m c b cell h in record { unlit = k.unlit; places = k.places; all = k.all; there = k.there; no_more = k.no_more });
+  kids = λ m c b cell h. (let k = sound.kids m c b cell h in
+      record { unlit = k.unlit; places = k.places; all = k.all; there = k.there; no_more = k.no_more });
 }
 
+-- the smaller of two covers is no larger than the best
 pub not_larger : (new old : List ℕ) → length (smaller new old) ≤ length old
 not_larger new old = grind (arith, nat_tests)
 
 -- ---- pieces
 
-turn_sound : (old : State) (n : List ℕ) (status : Status) (new : State) (c b : List ℕ) (was : Status) → IsSound old → Turns old n status new → HasPart old n c b was → IsLeft was
-    → ((cell : ℕ) → status ≢ opened cell) → ((places : List ℕ) → length places < length old.best → cov old c b places → IsLeft status)
+-- so does a turn of a piece that is left, where what it says of it is true
+turn_sound : (old : State) (n : List ℕ) (status : Status) (new : State) (c b : List ℕ) (was : Status) → IsSound old
+    → Turns old n status new → HasPart old n c b was → IsLeft was
+    → ((cell : ℕ) → status ≢ opened cell)
+    → ((places : List ℕ) → length places < length old.best → cov old c b places → IsLeft status)
     → ((floor : ℕ) (tree : Tree) → status ≡ closed floor tree → length old.best ≤ floor)
-    → ((floor : ℕ) (tree : Tree) → status ≡ closed floor tree → Good (of_instance old.region) old.region.cells c b floor tree) → IsSound new
+    → ((floor : ℕ) (tree : Tree) → status ≡ closed floor tree
+    → Good (of_instance old.region) old.region.cells c b floor tree) → IsSound new
 turn_sound old n status new c b was sound t is left no_cell still reach prove =
-    subst IsSound (sym t.kept) (turning.turned_sound old new.part_at n c b was status sound is left (t.here c b was is) t.others no_cell still reach prove)
+    subst IsSound (sym t.kept) (turning.turned_sound old new.part_at n c b was status sound is left
+    (t.here c b was is) t.others no_cell still reach prove)
 
-wait_sound : (old : State) (n : List ℕ) (new : State) (c b : List ℕ) (was : Status) → IsSound old → Turns old n waiting new → HasPart old n c b was → IsLeft was → IsSound new
+-- a piece that is left may wait
+wait_sound : (old : State) (n : List ℕ) (new : State) (c b : List ℕ) (was : Status) → IsSound old
+    → Turns old n waiting new → HasPart old n c b was → IsLeft was → IsSound new
 wait_sound old n new c b was sound t is left = turn_sound old n waiting new c b was sound t is left
-    (λ cell e. waiting_not_opened cell e) (λ places lt covers. tt) (λ floor tree e. waiting_not_closed floor tree e) (λ floor tree e. waiting_not_closed floor tree e)
+    (λ cell e. waiting_not_opened cell e) (λ places lt covers. tt) (λ floor tree e. waiting_not_closed floor tree e)
+    (λ floor tree e. waiting_not_closed floor tree e)
 
-hold_sound : (old : State) (n : List ℕ) (w : ℕ) (new : State) (c b : List ℕ) (was : Status) → IsSound old → Turns old n (held w) new → HasPart old n c b was → IsLeft was → IsSound new
+-- and may be held
+hold_sound : (old : State) (n : List ℕ) (w : ℕ) (new : State) (c b : List ℕ) (was : Status) → IsSound old
+    → Turns old n (held w) new → HasPart old n c b was → IsLeft was → IsSound new
 hold_sound old n w new c b was sound t is left = turn_sound old n (held w) new c b was sound t is left
-    (λ cell e. held_not_opened w cell e) (λ places lt covers. tt) (λ floor tree e. held_not_closed w floor tree e) (λ floor tree e. held_not_closed w floor tree e)
+    (λ cell e. held_not_opened w cell e) (λ places lt covers. tt) (λ floor tree e. held_not_closed w floor tree e)
+    (λ floor tree e. held_not_closed w floor tree e)
 
-close_sound : (old : State) (w : ℕ) (k : Fathomed) (new : State) → IsSound old → MayClose old w k → Turns old k.piece.name (closed k.floor k.tree) new → IsSound new
+-- a piece that a worker may close may be closed
+close_sound : (old : State) (w : ℕ) (k : Fathomed) (new : State) → IsSound old → MayClose old w k
+    → Turns old k.piece.name (closed k.floor k.tree) new → IsSound new
 close_sound old w k new sound may t =
     let c = k.piece.chosen in let b = k.piece.barred in
-    let good : Good (of_instance old.region) old.region.cells c b k.floor k.tree = subst (λ (r : Instance). Good (of_instance r) r.cells c b k.floor k.tree) may.of_it may.proved in
+    let good : Good (of_instance old.region) old.region.cells c b k.floor k.tree =
+    subst (λ (r : Instance). Good (of_instance r) r.cells c b k.floor k.tree) may.of_it may.proved in
     let above = sound.seen w may.known in
     turn_sound old k.piece.name (closed k.floor k.tree) new c b (held w) sound t may.holds tt
     (λ cell e. closed_not_opened k.floor k.tree cell e)
-    (λ places lt covers. (let floor = bounds (of_instance old.region) old.region.cells c b k.tree k.floor places (sound.distinct k.piece.name c b (held w) may.holds) good
-    (piece_serves (of_instance old.region) old.region.cells c b places covers) in let reaches = may.reaches in absurd (omega arith)))
-    (λ floor tree e. (let s = same_closed k.floor floor k.tree tree e in let x = s.0 in let reaches = may.reaches in omega arith))
+    (λ places lt covers. (let floor = bounds (of_instance old.region) old.region.cells c b k.tree k.floor places
+    (sound.distinct k.piece.name c b (held w) may.holds) good
+    (piece_serves (of_instance old.region) old.region.cells c b places covers) in let reaches = may.reaches in
+    absurd (omega arith)))
+    (λ floor tree e. (let s = same_closed k.floor floor k.tree tree e in let x = s.0 in let reaches = may.reaches in
+    omega arith))
     (λ floor tree e. (let s = same_closed k.floor floor k.tree tree e in
-    subst (λ (x : ℕ). Good (of_instance old.region) old.region.cells c b x tree) s.0 (subst (λ (x : Tree). Good (of_instance old.region) old.region.cells c b k.floor x) s.1 good)))
+    subst (λ (x : ℕ). Good (of_instance old.region) old.region.cells c b x tree)
+    s.0 (subst (λ (x : Tree). Good (of_instance old.region) old.region.cells c b k.floor x) s.1 good)))
 
-open_sound : (old : State) (n : List ℕ) (cell : ℕ) (new : State) → IsSound old → MayOpen old n cell → Opens old n cell new → IsSound new
+-- a piece that may be opened may be
+open_sound : (old : State) (n : List ℕ) (cell : ℕ) (new : State) → IsSound old → MayOpen old n cell
+    → Opens old n cell new → IsSound new
 open_sound old n cell new sound may o =
     let p = o.parted may.chosen may.barred may.status may.there in
-    subst IsSound (sym o.kept) (opening.opened_sound old new.part_at n may.chosen may.barred may.status cell p.0 sound may.there may.left may.unlit p.1
+    subst IsSound (sym o.kept) (opening.opened_sound old new.part_at n may.chosen may.barred may.status cell p.0 sound
+    may.there may.left may.unlit p.1
     (record { here = p.2.here; kids = p.2.kids; others = p.2.others }))
 
-pub does_sound : (old : State) (event : Event) (new : State) → IsSound old → IsEnabled old event → Does old event new → IsSound new
+-- each enabled event keeps the state sound
+pub does_sound : (old : State) (event : Event) (new : State) → IsSound old → IsEnabled old event → Does old event new
+    → IsSound new
 does_sound old (Look w) new sound may does = subst IsSound (sym does) (look_sound old w may sound)
-does_sound old (Offer w cover) new sound may does = subst IsSound (sym does) (better_sound old (smaller cover.places old.best) (not_larger cover.places old.best) sound)
-does_sound old (Take w n) new sound may does = hold_sound old n w new may.chosen may.barred waiting sound does may.waits tt
+does_sound old (Offer w cover) new sound may does = subst IsSound (sym does)
+    (better_sound old (smaller cover.places old.best) (not_larger cover.places old.best) sound)
+does_sound old (Take w n) new sound may does = hold_sound old n w new may.chosen may.barred waiting sound does
+    may.waits tt
 does_sound old (Open n cell) new sound may does = open_sound old n cell new sound may does
 does_sound old (Close w k) new sound may does = close_sound old w k new sound may does
-does_sound old (Leave w n) new sound may does = wait_sound old n new may.chosen may.barred (held w) sound does may.holds tt
+does_sound old (Leave w n) new sound may does = wait_sound old n new may.chosen may.barred (held w) sound does
+    may.holds tt
 
-pub step_sound : (old : State) (event : Event) (done : Bool) (new : State) → IsSound old → Steps old event done new → IsSound new
+-- so does each event that is tried
+pub step_sound : (old : State) (event : Event) (done : Bool) (new : State) → IsSound old → Steps old event done new
+    → IsSound new
 step_sound old event true new sound s = does_sound old event new sound s.0 s.1
 step_sound old event false new sound s = subst IsSound (sym s.1) sound
 
 -- ---- from the start
 
-pub begin_sound : (region : Instance) (places : List ℕ) (workers : ℕ) (state : State) → Begins region places workers state → IsSound state
+-- the first state is sound
+pub begin_sound : (region : Instance) (places : List ℕ) (workers : ℕ) (state : State)
+    → Begins region places workers state → IsSound state
 begin_sound region places workers state s = record {
-  seen = λ worker inside. (let e = ap (λ (xs : List ℕ). get_or xs worker 0) s.seen in let l = ap length s.seen in let m = length-replicate workers (length places) in
-      let v = get_or-replicate workers worker (length places) 0 (omega arith) in let b = ap length s.best in omega arith);
+  seen = λ worker inside. (let e = ap (λ (xs : List ℕ). get_or xs worker 0) s.seen in let l = ap length s.seen in
+      let m = length-replicate workers (length places) in
+      let v = get_or-replicate workers worker (length places) 0 (omega arith) in let b = ap length s.best in
+      omega arith);
   rooted = (waiting, s.root);
   parents = λ n i p h. no_kid n i p h;
   distinct = λ n c b st h. subst AreDistinct (only n c b st h).chosen distinct_nil;
-  covered = λ cover covers lt. record { name = []; chosen = []; barred = []; status = waiting; there = s.root; left = tt; covers = covers };
+  covered = λ cover covers lt. record {
+    name = [];
+    chosen = [];
+    barred = [];
+    status = waiting;
+    there = s.root;
+    left = tt;
+    covers = covers;
+  };
   reached = λ n c b floor tree h. waiting_not_closed floor tree (only n c b (closed floor tree) h).status;
   proved = λ n c b floor tree h. waiting_not_closed floor tree (only n c b (closed floor tree) h).status;
   kids = λ n c b cell h. waiting_not_opened cell (only n c b (opened cell) h).status;
@@ -129,6 +198,7 @@ begin_sound region places workers state s = record {
     only [] c b st h = same_parts state [] [] [] c b waiting st s.root h
     only (k ∷ ks) c b st h = not_none (record { chosen = c; barred = b; status = st }) (sym (s.alone k ks) ∙ h)
 
+-- a play of events keeps the state sound
 pub plays_sound : (old : State) (events : List Event) (new : State) → IsSound old → Plays old events new → IsSound new
 plays_sound old [] new sound p = subst IsSound (sym p) sound
 plays_sound old (event ∷ events) new sound p = plays_sound p.1 events new (step_sound old event p.0 p.1 sound p.2) p.3
@@ -142,30 +212,49 @@ does_region old (Open n cell) new does = ap (λ (s : State). s.region) does.kept
 does_region old (Close w k) new does = ap (λ (s : State). s.region) does.kept
 does_region old (Leave w n) new does = ap (λ (s : State). s.region) does.kept
 
-step_region : (old : State) (event : Event) (done : Bool) (new : State) → Steps old event done new → new.region ≡ old.region
+-- an event that is tried keeps the region
+step_region : (old : State) (event : Event) (done : Bool) (new : State) → Steps old event done new
+    → new.region ≡ old.region
 step_region old event true new s = does_region old event new s.1
 step_region old event false new s = ap (λ (t : State). t.region) s.1
 
+-- so does a play
 pub plays_region : (old : State) (events : List Event) (new : State) → Plays old events new → new.region ≡ old.region
 plays_region old [] new p = ap (λ (s : State). s.region) p
 plays_region old (event ∷ events) new p = plays_region p.1 events new p.3 ∙ step_region old event p.0 p.1 p.2
 
 -- ---- after any events
 
-pub reached_sound : (region : Instance) (events : List Event) (state : State) → IsReached region events state → IsSound state
-reached_sound region events state r = plays_sound r.start events state (begin_sound region r.first r.workers r.start r.begins) r.plays
+-- each state that is reached is sound
+pub reached_sound : (region : Instance) (events : List Event) (state : State) → IsReached region events state
+    → IsSound state
+reached_sound region events state r = plays_sound r.start events state
+    (begin_sound region r.first r.workers r.start r.begins) r.plays
 
-pub reached_region : (region : Instance) (events : List Event) (state : State) → IsReached region events state → state.region ≡ region
+-- and is of the region
+pub reached_region : (region : Instance) (events : List Event) (state : State) → IsReached region events state
+    → state.region ≡ region
 reached_region region events state r = plays_region r.start events state r.plays ∙ r.begins.of_it
 
-pub reached_left : (region : Instance) (events : List Event) (state : State) (places : List ℕ) → IsReached region events state → IsAnyCover region places → length places < length state.best → IsLeftOver state places
-reached_left region events state places r covers lt = (reached_sound region events state r).covered places (subst (λ (x : Instance). IsAnyCover x places) (sym (reached_region region events state r)) covers) lt
+-- a cover smaller than the best is left over in some piece
+pub reached_left : (region : Instance) (events : List Event) (state : State) (places : List ℕ)
+    → IsReached region events state → IsAnyCover region places → length places < length state.best
+    → IsLeftOver state places
+reached_left region events state places r covers lt = (reached_sound region events state r).covered places
+    (subst (λ (x : Instance). IsAnyCover x places) (sym (reached_region region events state r)) covers) lt
 
-pub reached_best : (region : Instance) (events : List Event) (state : State) (places : List ℕ) → IsReached region events state → IsDone state → IsAnyCover region places → length state.best ≤ length places
+-- where all is done no cover is smaller than the best
+pub reached_best : (region : Instance) (events : List Event) (state : State) (places : List ℕ)
+    → IsReached region events state → IsDone state → IsAnyCover region places → length state.best ≤ length places
 reached_best region events state places r done covers = elim (cases_lt (length places) (length state.best)) [
-  | inl lt ↦ (let l = reached_left region events state places r covers lt in absurd (done l.name l.chosen l.barred l.status l.there l.left))
+  | inl lt ↦ (let l = reached_left region events state places r covers lt in
+      absurd (done l.name l.chosen l.barred l.status l.there l.left))
   | inr le ↦ le
 ]
 
-pub reached_kids : (region : Instance) (events : List Event) (state : State) (name chosen barred : List ℕ) (cell : ℕ) → IsReached region events state → HasPart state name chosen barred (opened cell) → HasKids state name chosen barred cell
-reached_kids region events state name chosen barred cell r h = (reached_sound region events state r).kids name chosen barred cell h
+-- an opened piece has a kid for each place that may light its cell
+pub reached_kids : (region : Instance) (events : List Event) (state : State) (name chosen barred : List ℕ) (cell : ℕ)
+    → IsReached region events state → HasPart state name chosen barred (opened cell)
+    → HasKids state name chosen barred cell
+reached_kids region events state name chosen barred cell r h = (reached_sound region events state r).kids name chosen
+    barred cell h

@@ -1,5 +1,6 @@
 -- Pieces of a state.
-use Rattle.std.proofs.Common.{◌≡◌, ◌⊎◌, inl, inr, ℕ, List, [], Option, Some, None, refl, sym, ap, ◌∙◌, subst, true≢false, Bool, true, false}
+use Rattle.std.proofs.Common.{◌≡◌, ◌⊎◌, inl, inr, ℕ, List, [], Option, Some, None, refl, sym, ap, ◌∙◌, subst}
+use Rattle.std.proofs.Common.{true≢false, Bool, true, false}
 use Rattle.proof_rules.specs.Tree.{Tree, leaf}
 use Rattle.event_core.specs.State.{State, Part, Status, waiting, held, opened, closed, HasPart, IsLeft}
 
@@ -14,9 +15,11 @@ abbrev is_there : Option Part → Bool
 is_there None = false
 is_there (Some part) = true
 
+-- parts that are there are equal
 pub same_part : (p q : Part) → Some p ≡ Some q → p ≡ q
 same_part p q e = ap part_or e
 
+-- a part that is there isn't none
 pub not_none : {A : Type 0} (p : Part) → None ≡ Some p → A
 not_none p e = absurd (true≢false (sym (ap is_there e)))
 
@@ -26,15 +29,23 @@ pub record AreSame (c b : List ℕ) (s : Status) (c2 b2 : List ℕ) (s2 : Status
   pub barred : b ≡ b2
   pub status : s ≡ s2
 
-pub same_parts : (state : State) (name c b c2 b2 : List ℕ) (s s2 : Status) → HasPart state name c b s → HasPart state name c2 b2 s2 → AreSame c b s c2 b2 s2
+-- a name leads to one part
+pub same_parts : (state : State) (name c b c2 b2 : List ℕ) (s s2 : Status) → HasPart state name c b s
+    → HasPart state name c2 b2 s2 → AreSame c b s c2 b2 s2
 same_parts state name c b c2 b2 s s2 one two =
-    let e = same_part (record { chosen = c; barred = b; status = s }) (record { chosen = c2; barred = b2; status = s2 }) (sym one ∙ two) in
-    record { chosen = ap (λ (p : Part). p.chosen) e; barred = ap (λ (p : Part). p.barred) e; status = ap (λ (p : Part). p.status) e }
+    let e = same_part (record { chosen = c; barred = b; status = s }) (record { chosen = c2; barred = b2; status = s2 })
+    (sym one ∙ two) in
+    record {
+      chosen = ap (λ (p : Part). p.chosen) e;
+      barred = ap (λ (p : Part). p.barred) e;
+      status = ap (λ (p : Part). p.status) e;
+    }
 
 -- what waits or is held is neither opened nor closed
 pub left_not_opened : {A : Type 0} (s : Status) (cell : ℕ) → IsLeft s → s ≡ opened cell → A
 left_not_opened s cell left e = absurd (subst IsLeft e left)
 
+-- a part is there or not
 pub none_or_some : (o : Option Part) → (o ≡ None) ⊎ ((p : Part) × (o ≡ Some p))
 none_or_some None = inl refl
 none_or_some (Some p) = inr (p, refl)
@@ -51,15 +62,19 @@ cell_of (held w) = 0
 cell_of (opened cell) = cell
 cell_of (closed floor tree) = 0
 
+-- what waits isn't closed
 pub waiting_not_closed : {A : Type 0} (floor : ℕ) (tree : Tree) → waiting ≡ closed floor tree → A
 waiting_not_closed floor tree e = absurd (true≢false (sym (ap is_closed e)))
 
+-- what is opened isn't closed
 pub opened_not_closed : {A : Type 0} (cell floor : ℕ) (tree : Tree) → opened cell ≡ closed floor tree → A
 opened_not_closed cell floor tree e = absurd (true≢false (sym (ap is_closed e)))
 
+-- what is held isn't closed
 pub held_not_closed : {A : Type 0} (w floor : ℕ) (tree : Tree) → held w ≡ closed floor tree → A
 held_not_closed w floor tree e = absurd (true≢false (sym (ap is_closed e)))
 
+-- opened on a cell is opened on no other
 pub same_cell : (x y : ℕ) → opened x ≡ opened y → x ≡ y
 same_cell x y e = ap cell_of e
 
@@ -69,12 +84,15 @@ is_opened (held w) = false
 is_opened (opened cell) = true
 is_opened (closed floor tree) = false
 
+-- what waits isn't opened
 pub waiting_not_opened : {A : Type 0} (cell : ℕ) → waiting ≡ opened cell → A
 waiting_not_opened cell e = absurd (true≢false (sym (ap is_opened e)))
 
+-- what is held isn't opened
 pub held_not_opened : {A : Type 0} (w cell : ℕ) → held w ≡ opened cell → A
 held_not_opened w cell e = absurd (true≢false (sym (ap is_opened e)))
 
+-- what is closed isn't opened
 pub closed_not_opened : {A : Type 0} (floor : ℕ) (tree : Tree) (cell : ℕ) → closed floor tree ≡ opened cell → A
 closed_not_opened floor tree cell e = absurd (true≢false (sym (ap is_opened e)))
 
@@ -90,5 +108,6 @@ tree_in (held w) = leaf []
 tree_in (opened cell) = leaf []
 tree_in (closed floor tree) = tree
 
+-- closed at a floor by a tree is closed at no other by no other
 pub same_closed : (f g : ℕ) (s t : Tree) → closed f s ≡ closed g t → (f ≡ g) × (s ≡ t)
 same_closed f g s t e = (ap floor_in e, ap tree_in e)

@@ -1,5 +1,6 @@
 -- What holds after any events still holds where a piece that waits or is held gets another status.
-use Rattle.std.proofs.Common.{◌≡◌, ◌≢◌, ◌⊎◌, inl, inr, ℕ, ◌<◌, ◌≤◌, List, [], ◌∷◌, ◌++◌, length, Option, Some, None, sym, ap, ◌∙◌, subst}
+use Rattle.std.proofs.Common.{◌≡◌, ◌≢◌, ◌⊎◌, inl, inr, ℕ, ◌<◌, ◌≤◌, List, [], ◌∷◌, ◌++◌, length, Option, Some, None}
+use Rattle.std.proofs.Common.{sym, ap, ◌∙◌, subst}
 use Rattle.std.specs.Prelude.{take, slice_index}
 use Rattle.cave_model.specs.Plan.{AreDistinct}
 use Rattle.set_cover.specs.Instance.{of_instance}
@@ -29,7 +30,8 @@ module _ (old : State) (f : List ℕ → Option Part) (n c b : List ℕ) (was st
     | inr ne ↦ (s2, others m ne ∙ h)
   ]
 
-  back : (m c2 b2 : List ℕ) (s2 : Status) → HasPart new m c2 b2 s2 → ((m ≡ n) × AreSame c b status c2 b2 s2) ⊎ ((m ≢ n) × HasPart old m c2 b2 s2)
+  back : (m c2 b2 : List ℕ) (s2 : Status) → HasPart new m c2 b2 s2
+      → ((m ≡ n) × AreSame c b status c2 b2 s2) ⊎ ((m ≢ n) × HasPart old m c2 b2 s2)
   back m c2 b2 s2 h = elim (same_or_not m n) [
     | inl e ↦ inl (e, same_parts new n c b c2 b2 status s2 here (ap f (sym e) ∙ h))
     | inr ne ↦ inr (ne, sym (others m ne) ∙ h)
@@ -38,7 +40,8 @@ module _ (old : State) (f : List ℕ → Option Part) (n c b : List ℕ) (was st
   -- an opened piece stays
   stays : (m c2 b2 : List ℕ) (cell : ℕ) → HasPart old m c2 b2 (opened cell) → HasPart new m c2 b2 (opened cell)
   stays m c2 b2 cell h = elim (same_or_not m n) [
-    | inl e ↦ (let same = same_parts old n c b c2 b2 was (opened cell) is (ap old.part_at (sym e) ∙ h) in left_not_opened was cell left same.status)
+    | inl e ↦ (let same = same_parts old n c b c2 b2 was (opened cell) is (ap old.part_at (sym e) ∙ h) in
+        left_not_opened was cell left same.status)
     | inr ne ↦ others m ne ∙ h
   ]
 
@@ -60,29 +63,54 @@ module _ (old : State) (f : List ℕ → Option Part) (n c b : List ℕ) (was st
     unlit = k.unlit;
     places = k.places;
     all = k.all;
-    there = λ i lt. (let t = k.there i lt in forth (m ++ i ∷ []) (c2 ++ slice_index k.places i ∷ []) (b2 ++ take i k.places) t.0 t.1);
+    there = λ i lt. (let t = k.there i lt in forth (m ++ i ∷ []) (c2 ++ slice_index k.places i ∷ [])
+        (b2 ++ take i k.places) t.0 t.1);
     no_more = λ i le. none_there (m ++ i ∷ []) (k.no_more i le);
   }
 
-  left_over : (places : List ℕ) → (IsCoverOfPiece (of_instance old.region) old.region.cells c b places → IsLeft status) → IsLeftOver old places → IsLeftOver new places
+  left_over : (places : List ℕ) → (IsCoverOfPiece (of_instance old.region) old.region.cells c b places → IsLeft status)
+      → IsLeftOver old places → IsLeftOver new places
   left_over places still l = elim (same_or_not l.name n) [
     | inl e ↦ (let same = same_parts old n l.chosen l.barred c b l.status was (ap old.part_at (sym e) ∙ l.there) is in
-        let covers = subst (λ (x : List ℕ). IsCoverOfPiece (of_instance old.region) old.region.cells x b places) same.chosen
-        (subst (λ (x : List ℕ). IsCoverOfPiece (of_instance old.region) old.region.cells l.chosen x places) same.barred l.covers) in
-        record { name = n; chosen = c; barred = b; status = status; there = here; left = still covers; covers = covers })
-    | inr ne ↦ record { name = l.name; chosen = l.chosen; barred = l.barred; status = l.status; there = others l.name ne ∙ l.there; left = l.left; covers = l.covers }
+        let covers = subst (λ (x : List ℕ). IsCoverOfPiece (of_instance old.region) old.region.cells x b places)
+        same.chosen
+        (subst (λ (x : List ℕ). IsCoverOfPiece (of_instance old.region) old.region.cells l.chosen x places)
+        same.barred l.covers) in
+        record {
+          name = n;
+          chosen = c;
+          barred = b;
+          status = status;
+          there = here;
+          left = still covers;
+          covers = covers;
+        })
+    | inr ne ↦ record {
+      name = l.name;
+      chosen = l.chosen;
+      barred = l.barred;
+      status = l.status;
+      there = others l.name ne
+          ∙ l.there;
+      left = l.left;
+      covers = l.covers;
+    }
   ]
 
-  -- the new status is no opened one; it is left where the piece has a smaller cover; and where a tree closes it, the tree is good
+  -- the new status is no opened one; it is left where the piece has a smaller cover; and where a tree closes it, the
+  -- tree is good
   pub turned_sound : ((cell : ℕ) → status ≢ opened cell)
-      → ((places : List ℕ) → length places < length old.best → IsCoverOfPiece (of_instance old.region) old.region.cells c b places → IsLeft status)
+      → ((places : List ℕ) → length places < length old.best
+      → IsCoverOfPiece (of_instance old.region) old.region.cells c b places → IsLeft status)
       → ((floor : ℕ) (tree : Tree) → status ≡ closed floor tree → length old.best ≤ floor)
-      → ((floor : ℕ) (tree : Tree) → status ≡ closed floor tree → Good (of_instance old.region) old.region.cells c b floor tree)
+      → ((floor : ℕ) (tree : Tree) → status ≡ closed floor tree
+      → Good (of_instance old.region) old.region.cells c b floor tree)
       → IsSound new
   turned_sound no_cell still reach prove = record {
     seen = sound.seen;
     rooted = forth [] [] [] sound.rooted.0 sound.rooted.1;
-    parents = λ m i p h. (let q = some_there (m ++ i ∷ []) p h in let up = sound.parents m i q.0 q.1 in (up.0, up.1, up.2, stays m up.0 up.1 up.2 up.3));
+    parents = λ m i p h. (let q = some_there (m ++ i ∷ []) p h in let up = sound.parents m i q.0 q.1 in
+        (up.0, up.1, up.2, stays m up.0 up.1 up.2 up.3));
     distinct = λ m c2 b2 s2 h. elim (back m c2 b2 s2 h) [
       | inl e ↦ subst AreDistinct e.1.chosen (sound.distinct n c b was is)
       | inr o ↦ sound.distinct m c2 b2 s2 o.1
@@ -94,7 +122,8 @@ module _ (old : State) (f : List ℕ → Option Part) (n c b : List ℕ) (was st
     ];
     proved = λ m c2 b2 floor tree h. elim (back m c2 b2 (closed floor tree) h) [
       | inl e ↦ subst (λ (x : List ℕ). Good (of_instance old.region) old.region.cells x b2 floor tree) e.1.chosen
-          (subst (λ (x : List ℕ). Good (of_instance old.region) old.region.cells c x floor tree) e.1.barred (prove floor tree e.1.status))
+          (subst (λ (x : List ℕ). Good (of_instance old.region) old.region.cells c x floor tree)
+          e.1.barred (prove floor tree e.1.status))
       | inr o ↦ sound.proved m c2 b2 floor tree o.1
     ];
     kids = λ m c2 b2 cell h. elim (back m c2 b2 (opened cell) h) [

@@ -30,6 +30,7 @@ waits (held w) = false
 waits (opened cell) = false
 waits (closed floor tree) = false
 
+-- what waits isn't held
 pub waiting_not_held : {A : Type 0} (w : ℕ) → waiting ≡ held w → A
 waiting_not_held w e = absurd (true≢false (ap waits e))
 
@@ -40,11 +41,13 @@ as_waiting c b = record { chosen = c; barred = b; status = waiting }
 status_is : (p : Part) (c b : List ℕ) → Some p ≡ Some (as_waiting c b) → waiting ≡ p.status
 status_is p c b e = sym (ap (λ (q : Part). q.status) (same_part p (as_waiting c b) e))
 
+-- a name is among the names of itself alone
 alone : (name : List ℕ) → Contains (name ∷ []) (name ++ [])
 alone name = (0, omega arith, sym (append-nil name))
 
 -- a piece that waits is listed
 mutual
+  -- a waiting piece is listed
   pub listed : (c b name : List ℕ) (s : Shape) (rest c2 b2 : List ℕ) → part_in c b s rest ≡ Some (as_waiting c2 b2)
       → Contains (waiting_in name s) (name ++ rest)
   listed c b name at_rest [] c2 b2 h = alone name
@@ -60,6 +63,7 @@ mutual
   listed c b name (parted cell places room kids) (k ∷ ks) c2 b2 h = listed_below c b places kids name 0 k k
       (omega arith) ks c2 b2 h
 
+  -- and so is one below a kid
   pub listed_below : (c b places : List ℕ) (kids : Shapes) (name : List ℕ) (number k at : ℕ) → at ≡ number + k
       → (ks c2 b2 : List ℕ)
       → part_below c b places kids k ks ≡ Some (as_waiting c2 b2) → Contains (waiting_below name number kids)
@@ -79,6 +83,7 @@ mutual
 
 -- ---- places
 
+-- a list that isn't empty has a last element
 split_last : (x : ℕ) (xs : List ℕ) → (front : List ℕ) × (last : ℕ) × (x ∷ xs ≡ front ++ last ∷ [])
 split_last x [] = ([], x, refl)
 split_last x (y ∷ ys) = (let r = split_last y ys in (x ∷ r.0, r.1, ap (λ (l : List ℕ). x ∷ l) r.2))
@@ -132,6 +137,7 @@ module _ (state : State) (sound : IsSound state) where
       kid_places_here r.0 r.1 up.0 up.1 up.2 c b s up.3 (places_here n r.0 up.0 up.1 (opened up.2)
       (omega arith) up.3) there
 
+  -- a part of the state is a piece of the region
   pub part_is_piece : (name c b : List ℕ) (s : Status) → HasPart state name c b s
       → IsPiece (record { region = state.region; name = name; chosen = c; barred = b })
   part_is_piece name c b s h =

@@ -12,6 +12,7 @@ pub record CountsOn (old : State) (worker : ℕ) (all : List Fathomed) (count : 
   pub go : (others : ℕ) (new : State) → TriesCloses now worker rest others new
       → TriesCloses old worker all (count + others) new
 
+-- before the first piece of a worker none is counted
 pub counts_start_at : (old : State) (worker : ℕ) (all rest : List Fathomed) → rest ≡ all
     → CountsOn old worker all 0 old rest
 counts_start_at old worker all rest e = record {
@@ -19,6 +20,7 @@ counts_start_at old worker all rest e = record {
       (l : List Fathomed). TriesCloses old worker l others new) e t);
 }
 
+-- a piece that was closed counts one more, one that was left none
 pub counts_next : (old : State) (worker : ℕ) (all : List Fathomed) (count more : ℕ) (now : State)
     (closed : Fathomed) (whole rest : List Fathomed) (done : Bool) (next : State)
     → CountsOn old worker all count now whole → whole ≡ closed ∷ rest → TriesClose now worker closed done next → more ≡
@@ -31,6 +33,7 @@ counts_next old worker all count more now closed whole rest done next l e t sum 
       (one_if done + others) new) (sym e) both)));
 }
 
+-- after the last piece the count is of all
 pub counts_end : (old : State) (worker : ℕ) (all : List Fathomed) (count : ℕ) (now : State) (rest : List Fathomed)
     → CountsOn old worker all count now rest → rest ≡ []
     → TriesCloses old worker all count now
@@ -45,6 +48,7 @@ pub record AllCountOn (old : State) (all : List Worked) (counts : List ℕ) (now
   pub go : (others : List ℕ) (new : State) → TriesAllCloses now worker rest others new
       → TriesAllCloses old 0 all (counts ++ others) new
 
+-- before the first worker there are no counts
 pub all_start_at : (old : State) (all rest : List Worked) (counts : List ℕ) → counts ≡ [] → rest ≡ all
     → AllCountOn old all counts old 0 rest
 all_start_at old all rest counts none e = record {
@@ -52,6 +56,7 @@ all_start_at old all rest counts none e = record {
       (l : List Worked). TriesAllCloses old 0 l others new) e t);
 }
 
+-- a worker's count stands after those before it
 pub all_next : (old : State) (all : List Worked) (counts more : List ℕ) (now : State) (worker count : ℕ)
     (work : Worked) (whole rest : List Worked) (next : State)
     → AllCountOn old all counts now worker whole → whole ≡ work ∷ rest → TriesCloses now worker work.closed count next →
@@ -67,6 +72,7 @@ all_next old all counts more now worker count work whole rest next l e t sum = r
       (sym e) both)));
 }
 
+-- after the last worker the counts are of all
 pub all_end : (old : State) (all : List Worked) (counts : List ℕ) (now : State) (worker : ℕ) (rest : List Worked)
     → AllCountOn old all counts now worker rest → rest ≡ []
     → TriesAllCloses old 0 all counts now

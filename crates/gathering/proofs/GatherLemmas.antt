@@ -31,6 +31,7 @@ pub record ArePlayed (region : Instance) (first : List ℕ) (root : ℕ) (works 
   pub opens : Plays start (tries_before_closes root works) opened
   pub closes : TriesAllCloses opened 0 works counts closed
 
+-- from the start through all that comes before closing, and all closing, the works were played
 pub played : (region same : Instance) (first : List ℕ) (root : ℕ) (works some others : List Worked) (counts : List ℕ)
     (caller : ℕ) (start opened closed : State)
     → same ≡ region → caller ≡ length some → some ≡ works → others ≡ works → Begins same first (caller + 1) start
@@ -50,6 +51,7 @@ played region same first root works some others counts caller start opened close
 
 module _ (region : Instance) (first : List ℕ) (root : ℕ) (works : List Worked) (counts : List ℕ) (closed : State)
     (p : ArePlayed region first root works counts closed) where
+  -- after all closing no piece is held
   pub played_none_held : NoneHeld closed
   played_none_held =
       free_all_closes 0 works counts p.opened closed
@@ -60,9 +62,11 @@ module _ (region : Instance) (first : List ℕ) (root : ℕ) (works : List Worke
   played_like = like_then p.start p.opened closed (like_plays p.start (tries_before_closes root works) p.opened p.opens)
       (like_all_closes p.opened 0 works counts closed p.closes)
 
+  -- the region is the same
   pub played_region : closed.region ≡ region
   played_region = played_like.of_it ∙ p.begins.of_it
 
+  -- and the caller is known
   pub played_workers : length works < length closed.seen
   played_workers =
       let many = ap length p.begins.seen in let count = length-replicate (length works + 1) (length first) in
@@ -90,6 +94,7 @@ module _ (region : Instance) (first : List ℕ) (root : ℕ) (works : List Worke
         assembled = a.assembled;
       }
 
+  -- with all names gleaned, the best cover and its tree are the region's
   pub gathered_best : (names : List (List ℕ)) (final : Kept) (cover : Covering) (tree : Tree)
       → Gleans closed (length works) names (state_of final) → IsAssembly final cover tree
       → IsBest region cover tree
@@ -105,6 +110,7 @@ module _ (region : Instance) (first : List ℕ) (root : ℕ) (works : List Worke
 
 -- ---- once the turns are spent
 
+-- scattered cells of the root bound every cover of the region from below
 pub scattered_floor : (region : Instance) (root : ℕ) (cells : List ℕ) (size : ℕ) (piece : Subproblem)
     → piece ≡ root_of region → size ≡ length cells → Contains region.cells root
     → IsScattered piece cells → SomeWhereUnlit piece cells → (1 ≤ size) × NoneBelow region size

@@ -55,17 +55,21 @@ pub taken_piece : (old : State) (caller : ℕ) (name : List ℕ) (taken : State)
     → HasPart taken piece.name piece.chosen piece.barred (held caller)
 taken_piece old caller name taken piece w s = ap taken.part_at w.1 ∙ s.1.here piece.chosen piece.barred waiting w.2
 
+-- the smaller of two lists is no longer than the first
 no_larger : (new old : List ℕ) → length (smaller new old) ≤ length new
 no_larger new old = grind (arith, nat_tests)
 
 module _ (state : State) (caller : ℕ) (k : Fathomed) (cover : Covering) (may : MayFinish state caller k cover)
     (covers : IsCover cover) (proved : IsClosed k) where
+  -- the caller may offer its cover
   pub may_offer : MayOffer state caller cover
   may_offer = record { known = may.known; of_it = may.cover_of_it; covers = covers }
 
+  -- and look
   pub may_look : (offered : State) → Does state (Offer caller cover) offered → IsWorker offered caller
   may_look offered e = subst (λ (s : State). IsWorker s caller) (sym e) may.known
 
+  -- and close the piece
   pub may_close : (offered seen : State) → Does state (Offer caller cover) offered → Does offered (Look caller) seen
       → MayClose seen caller k
   may_close offered seen e f =
@@ -85,6 +89,7 @@ module _ (state : State) (caller : ℕ) (k : Fathomed) (cover : Covering) (may :
 
 -- ---- all of them
 
+-- gleaning some names and one more is gleaning all of them
 gleans_then : (a : State) (caller : ℕ) (names : List (List ℕ)) (b : State) (name : List ℕ) (c : State)
     → Gleans a caller names b → GleansOne b caller name c
     → Gleans a caller (names ++ name ∷ []) c
@@ -92,10 +97,12 @@ gleans_then a caller [] b name c g one = (c, subst (λ (s : State). GleansOne s 
 gleans_then a caller (n ∷ ns) b name c (next, first, rest) one =
     (next, first, gleans_then next caller ns b name c rest one)
 
+-- a name in a list of one is that one
 only_one : (name m : List ℕ) → Contains (name ∷ []) m → name ≡ m
 only_one name m (zero, lt, e) = e
 only_one name m (suc k, lt, e) = absurd (omega (arith, lt))
 
+-- another name than the first stands in the rest
 other_in_rest : (name m : List ℕ) (rest : List (List ℕ)) → m ≢ name → Contains (name ∷ rest) m → Contains rest m
 other_in_rest name m rest ne h = elim (Contains-append_cases (name ∷ []) rest m h) [
   | inl one ↦ absurd (ne (sym (only_one name m one)))
@@ -110,6 +117,7 @@ pub record IsGleaning (start : State) (caller : ℕ) (names : List (List ℕ)) (
   pub none_held : NoneHeld now
   pub waiting_in_rest : AreAllWaiting now rest
 
+-- before the first name, all that waits is still to come
 pub glean_start : (start : State) (caller : ℕ) (names rest all : List (List ℕ)) → names ≡ [] → rest ≡ all
     → NoneHeld start → AreAllWaiting start all → IsGleaning start caller names start rest
 glean_start start caller names rest all none e held_none all_waiting = record {
@@ -119,6 +127,7 @@ glean_start start caller names rest all none e held_none all_waiting = record {
   waiting_in_rest = subst (AreAllWaiting start) (sym e) all_waiting;
 }
 
+-- a name whose piece was closed waits no more
 pub glean_next : (start : State) (caller : ℕ) (names more : List (List ℕ)) (now : State) (name : List ℕ)
     (whole rest : List (List ℕ)) (next : State)
     → IsGleaning start caller names now whole → whole ≡ name ∷ rest → GleansOne now caller name next → more ≡ names ++
@@ -135,6 +144,7 @@ glean_next start caller names more now name whole rest next g e one more_is = re
       (g.waiting_in_rest m c b before.1)));
 }
 
+-- a name of which no piece waits is passed over
 pub glean_past : (start : State) (caller : ℕ) (names : List (List ℕ)) (now : State) (name : List ℕ)
     (whole rest : List (List ℕ)) (next : State)
     → IsGleaning start caller names now whole → whole ≡ name ∷ rest → IsNoneWaiting now name → next ≡ now → IsGleaning
@@ -148,9 +158,11 @@ glean_past start caller names now name whole rest next g e none same = subst (λ
           (subst (λ (l : List (List ℕ)). Contains l m) e (g.waiting_in_rest m c b h));
     })
 
+-- the empty list has no name
 no_name : {A : Type 0} (m : List ℕ) → Contains [] m → A
 no_name m (k, lt, e) = absurd (omega (arith, lt))
 
+-- after the last name every piece is done
 pub glean_done : (start : State) (caller : ℕ) (names : List (List ℕ)) (now : State) (rest : List (List ℕ))
     → IsGleaning start caller names now rest → rest ≡ [] → IsDone now
 glean_done start caller names now rest g e m c b waiting h = λ left. no_name m (subst (λ (l : List

@@ -27,11 +27,13 @@ holder (held worker) = worker
 holder (opened cell) = 0
 holder (closed floor tree) = 0
 
+-- a piece is held by one worker
 pub same_holder : (x y : ℕ) → held x ≡ held y → x ≡ y
 same_holder x y e = ap holder e
 
 -- ---- where a piece gets another status
 
+-- a part of a state after a turn was there before, or is the one that turned
 pub turned_back : (old : State) (name c b : List ℕ) (was status : Status) (new : State) → HasPart old name c b was
     → Turns old name status new
     → (m c2 b2 : List ℕ) (s : Status) → HasPart new m c2 b2 s → ((m ≡ name) × (status ≡ s)) ⊎
@@ -64,6 +66,7 @@ pub record HeldOnly (worker : ℕ) (name : List ℕ) (state : State) : Type 0 wh
   pub by : (m c b : List ℕ) (w : ℕ) → HasPart state m c b (held w) → w ≡ worker
   pub known : (m c b : List ℕ) (w : ℕ) → HasPart state m c b (held w) → worker < length state.seen
 
+-- where none is held, at most the one is
 none_only : (w : ℕ) (name : List ℕ) (state : State) → NoneHeld state → HeldOnly w name state
 none_only w name state none = record {
   piece = λ m c b v h. absurd (none m c b v h);
@@ -71,6 +74,7 @@ none_only w name state none = record {
   known = λ m c b v h. absurd (none m c b v h);
 }
 
+-- after a worker took a piece, that one alone is held
 taken_held : (w : ℕ) (name : List ℕ) (old new : State) (done : Bool) → NoneHeld old → Steps old (Take w name) done new
     → HeldOnly w name new
 taken_held w name old new true none s =
@@ -93,6 +97,7 @@ pub record IsHeldBefore (old new : State) : Type 0 where
   pub back : (m c b : List ℕ) (w : ℕ) → HasPart new m c b (held w) → HasPart old m c b (held w)
   pub seen : length new.seen ≡ length old.seen
 
+-- a step by which nothing comes to be held leaves the one held at most
 before_only : (w : ℕ) (name : List ℕ) (old new : State) → IsHeldBefore old new → HeldOnly w name old
     → HeldOnly w name new
 before_only w name old new before only = record {
@@ -101,9 +106,11 @@ before_only w name old new before only = record {
   known = λ m c b v h. subst (λ (n : ℕ). w < n) (sym before.seen) (only.known m c b v (before.back m c b v h));
 }
 
+-- the same state holds the same
 before_same : (old new : State) → new ≡ old → IsHeldBefore old new
 before_same old new e = subst (IsHeldBefore old) (sym e) (record { back = λ m c b w h. h; seen = refl })
 
+-- after a piece is opened, what is held was held before
 opened_before : (name : List ℕ) (cell : ℕ) (old new : State) (done : Bool) → Steps old (Open name cell) done new
     → IsHeldBefore old new
 opened_before name cell old new true s = record {
@@ -113,6 +120,7 @@ opened_before name cell old new true s = record {
 }
 opened_before name cell old new false s = before_same old new s.1
 
+-- and after one is closed
 closed_before : (w : ℕ) (k : Fathomed) (old new : State) (done : Bool) → Steps old (Close w k) done new
     → IsHeldBefore old new
 closed_before w k old new true s =
@@ -126,6 +134,7 @@ closed_before w k old new true s =
     }
 closed_before w k old new false s = before_same old new s.1
 
+-- after the worker left the piece, none is held
 left_free : (w : ℕ) (name : List ℕ) (old new : State) (done : Bool) → HeldOnly w name old
     → Steps old (Leave w name) done new → NoneHeld new
 left_free w name old new true only s = λ m c b v h. (let may = s.0 in
@@ -145,6 +154,7 @@ left_free w name old new false only s = λ m c b v h. (
 
 -- ---- what is opened, offered and seen
 
+-- a worker that takes, opens and leaves a piece holds none
 free_open : (w : ℕ) (split : Split) (old new : State) → NoneHeld old → Plays old (tries_open w split) new → NoneHeld new
 free_open w split old new none p =
     let name = split.piece.name in let q = p.3 in let r = q.3 in
@@ -152,11 +162,13 @@ free_open w split old new none p =
     let still = before_only w name p.1 q.1 (opened_before name split.cell p.1 q.1 q.0 q.2) only in
     subst NoneHeld (sym r.3) (left_free w name q.1 r.1 r.0 still r.2)
 
+-- the same where it tries this only for some names
 free_if : (long : Bool) (w : ℕ) (split : Split) (old new : State) → NoneHeld old
     → Plays old (if long then tries_open w split else []) new → NoneHeld new
 free_if true w split old new none p = free_open w split old new none p
 free_if false w split old new none p = subst NoneHeld (sym p) none
 
+-- the same for pieces in turn
 free_as_long : (size w : ℕ) (splits : List Split) (old new : State) → NoneHeld old
     → Plays old (tries_as_long size w splits) new → NoneHeld new
 free_as_long size w [] old new none p = subst NoneHeld (sym p) none
@@ -164,6 +176,7 @@ free_as_long size w (split ∷ splits) old new none p =
     let q = plays_split old (tries_one size w split) (tries_as_long size w splits) new p in
     free_as_long size w splits q.0 new (free_if (eqb (length split.piece.name) size) w split old q.0 none q.1.0) q.1.1
 
+-- the same for all workers
 free_tries : (size w : ℕ) (works : List Worked) (old new : State) → NoneHeld old → Plays old (tries size w works) new
     → NoneHeld new
 free_tries size w [] old new none p = subst NoneHeld (sym p) none
@@ -171,6 +184,7 @@ free_tries size w (work ∷ works) old new none p =
     let q = plays_split old (tries_as_long size w work.opened) (tries size (w + 1) works) new p in
     free_tries size (w + 1) works q.0 new (free_as_long size w work.opened old q.0 none q.1.0) q.1.1
 
+-- an offer leaves none held
 free_offer : (w : ℕ) (cover : Option Covering) (old new : State) → NoneHeld old → Plays old (offer_of w cover) new
     → NoneHeld new
 free_offer w None old new none p = subst NoneHeld (sym p) none
@@ -181,6 +195,7 @@ free_offer w (Some cover) old new none p = subst NoneHeld (sym p.3) (offered w c
     offered w cover old new true none s = subst NoneHeld (sym s.1) none
     offered w cover old new false none s = subst NoneHeld (sym s.1) none
 
+-- nor do the offers of all workers
 free_offers : (w : ℕ) (works : List Worked) (old new : State) → NoneHeld old → Plays old (offers w works) new
     → NoneHeld new
 free_offers w [] old new none p = subst NoneHeld (sym p) none
@@ -188,18 +203,22 @@ free_offers w (work ∷ works) old new none p =
     let q = plays_split old (offer_of w work.cover) (offers (w + 1) works) new p in
     free_offers (w + 1) works q.0 new (free_offer w work.cover old q.0 none q.1.0) q.1.1
 
+-- a look leaves none held
 free_look : (w : ℕ) (old new : State) (done : Bool) → NoneHeld old → Steps old (Look w) done new → NoneHeld new
 free_look w old new true none s = subst NoneHeld (sym s.1) none
 free_look w old new false none s = subst NoneHeld (sym s.1) none
 
+-- nor do the looks of all workers
 free_looks : (w : ℕ) (works : List Worked) (old new : State) → NoneHeld old → Plays old (looks w works) new
     → NoneHeld new
 free_looks w [] old new none p = subst NoneHeld (sym p) none
 free_looks w (work ∷ works) old new none p = free_looks (w + 1) works p.1 new (free_look w old p.1 p.0 none p.2) p.3
 
+-- opening the root leaves none held
 free_root : (cell : ℕ) (old new : State) (done : Bool) → NoneHeld old → Steps old (Open [] cell) done new → NoneHeld new
 free_root cell old new done none s = λ m c b w h. none m c b w ((opened_before [] cell old new done s).back m c b w h)
 
+-- after all that comes before closing none is held
 pub free_before_closes : (cell : ℕ) (works : List Worked) (old new : State) → NoneHeld old
     → Plays old (tries_before_closes cell works) new → NoneHeld new
 free_before_closes cell works old new none p =
@@ -214,6 +233,7 @@ free_before_closes cell works old new none p =
 
 -- ---- what is closed
 
+-- a worker that takes, closes and leaves a piece holds none
 free_close : (w : ℕ) (k : Fathomed) (done : Bool) (old new : State) → NoneHeld old → TriesClose old w k done new
     → NoneHeld new
 free_close w k done old new none t =
@@ -222,12 +242,14 @@ free_close w k done old new none t =
     let still = before_only w name t.taken t.tried (closed_before w k t.taken t.tried done t.closes) only in
     left_free w name t.tried new t.left still t.leaves
 
+-- the same for pieces in turn
 free_closes : (w : ℕ) (pieces : List Fathomed) (count : ℕ) (old new : State) → NoneHeld old
     → TriesCloses old w pieces count new → NoneHeld new
 free_closes w [] count old new none t = subst NoneHeld (sym t.1) none
 free_closes w (k ∷ ks) count old new none (done, next, one, others, sum, rest) = free_closes w ks others next new
     (free_close w k done old next none one) rest
 
+-- the same for all workers
 pub free_all_closes : (w : ℕ) (works : List Worked) (counts : List ℕ) (old new : State) → NoneHeld old
     → TriesAllCloses old w works counts new → NoneHeld new
 free_all_closes w [] counts old new none t = subst NoneHeld (sym t.1) none
@@ -236,6 +258,7 @@ free_all_closes w (work ∷ works) counts old new none (count, others, is, next,
 
 -- ---- at first
 
+-- at the start none is held
 pub free_at_first : (region : Instance) (places : List ℕ) (workers : ℕ) (state : State)
     → Begins region places workers state → NoneHeld state
 free_at_first region places workers state s [] c b w h = waiting_not_held w (same_parts state [] [] [] c b waiting

@@ -15,12 +15,15 @@ pub record IsLike (old new : State) : Type 0 where
   pub of_it : new.region ≡ old.region
   pub workers : length new.seen ≡ length old.seen
 
+-- a state is like itself
 pub like_same : (old new : State) → new ≡ old → IsLike old new
 like_same old new e = record { of_it = ap (λ (s : State). s.region) e; workers = ap (λ (s : State). length s.seen) e }
 
+-- likeness goes on from state to state
 pub like_then : (a b c : State) → IsLike a b → IsLike b c → IsLike a c
 like_then a b c p q = record { of_it = q.of_it ∙ p.of_it; workers = q.workers ∙ p.workers }
 
+-- an event that is done keeps region and workers
 like_does : (old : State) (event : Event) (new : State) → Does old event new → IsLike old new
 like_does old (Look w) new does = record {
   of_it = ap (λ (s : State). s.region) does;
@@ -55,15 +58,18 @@ like_does old (Leave w n) new does = record {
       (s : State). length s.seen) does.kept;
 }
 
+-- so does one that is tried
 pub like_step : (old : State) (event : Event) (done : Bool) (new : State) → Steps old event done new → IsLike old new
 like_step old event true new s = like_does old event new s.1
 like_step old event false new s = like_same old new s.1
 
+-- so do events in turn
 pub like_plays : (old : State) (events : List Event) (new : State) → Plays old events new → IsLike old new
 like_plays old [] new p = like_same old new p
 like_plays old (event ∷ events) new p = like_then old p.1 new (like_step old event p.0 p.1 p.2)
     (like_plays p.1 events new p.3)
 
+-- so does a try to close a piece
 like_close : (old : State) (w : ℕ) (k : Fathomed) (done : Bool) (new : State) → TriesClose old w k done new
     → IsLike old new
 like_close old w k done new t =
@@ -72,12 +78,14 @@ like_close old w k done new t =
     (Close w k) done t.tried t.closes))
     (like_step t.tried (Leave w k.piece.name) t.left new t.leaves)
 
+-- so do the tries of a worker
 like_closes : (old : State) (w : ℕ) (pieces : List Fathomed) (count : ℕ) (new : State)
     → TriesCloses old w pieces count new → IsLike old new
 like_closes old w [] count new t = like_same old new t.1
 like_closes old w (k ∷ ks) count new (done, next, one, others, sum, rest) =
     like_then old next new (like_close old w k done next one) (like_closes next w ks others new rest)
 
+-- so do those of all workers
 pub like_all_closes : (old : State) (w : ℕ) (works : List Worked) (counts : List ℕ) (new : State)
     → TriesAllCloses old w works counts new → IsLike old new
 like_all_closes old w [] counts new t = like_same old new t.1
@@ -85,6 +93,7 @@ like_all_closes old w (work ∷ works) counts new (count, others, is, next, one,
     like_then old next new (like_closes old w work.closed count next one) (like_all_closes next
     (w + 1) works others new rest)
 
+-- so does gleaning a piece
 pub like_one : (old : State) (caller : ℕ) (name : List ℕ) (new : State) → GleansOne old caller name new → IsLike old new
 like_one old caller name new g =
     like_then old g.seen new
@@ -94,6 +103,7 @@ like_one old caller name new g =
     (like_step g.offered (Look caller) true g.seen g.looks))
     (like_step g.seen (Close caller g.closed) true new g.closes)
 
+-- so does gleaning all
 pub like_gleans : (old : State) (caller : ℕ) (names : List (List ℕ)) (new : State) → Gleans old caller names new
     → IsLike old new
 like_gleans old caller [] new g = like_same old new g

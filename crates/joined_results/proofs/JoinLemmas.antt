@@ -20,24 +20,29 @@ use Rattle.joined_results.specs.Apart.{AreApart, told_size, weigh_done}
 use Rattle.joined_results.specs.Taking.{AreDrained, TakeRows}
 use Rattle.joined_results.proofs.PartLemmas.{works_less}
 
+-- the pieces opened weigh as much in two lists as in one
 weigh_opened : (h : Subproblem → ℕ) (xs ys : List Split)
     → weigh h (pieces_opened (xs ++ ys)) ≡ weigh h (pieces_opened xs) + weigh h (pieces_opened ys)
 weigh_opened h xs ys = ap (weigh h) (pieces-append xs ys) ∙ weigh-append h (pieces_opened xs) (pieces_opened ys)
 
+-- so do the pieces closed
 weigh_closed : (h : Subproblem → ℕ) (xs ys : List Fathomed)
     → weigh h (pieces_closed (xs ++ ys)) ≡ weigh h (pieces_closed xs) + weigh h (pieces_closed ys)
 weigh_closed h xs ys =
     ap (weigh h) (map-append (λ (f : Fathomed). f.piece) xs ys) ∙ weigh-append h (pieces_closed xs) (pieces_closed ys)
 
+-- so do the kids
 weigh_kids : (h : Subproblem → ℕ) (xs ys : List Split)
     → weigh h (all_kids (xs ++ ys)) ≡ weigh h (all_kids xs) + weigh h (all_kids ys)
 weigh_kids h xs ys = ap (weigh h) (kids-append xs ys) ∙ weigh-append h (all_kids xs) (all_kids ys)
 
+-- the kids of all workers weigh as much together as one worker after the other
 total_kids : (h : Subproblem → ℕ) (xs : List Worked)
     → total (λ w. weigh h (all_kids w.opened)) xs ≡ weigh h (all_kids (all_opened xs))
 total_kids h [] = refl
 total_kids h (x ∷ xs) = omega (arith, total_kids h xs, weigh_kids h x.opened (all_opened xs))
 
+-- what became of the pieces of all workers, added up worker by worker
 total_done : (h : Subproblem → ℕ) (xs : List Worked) → total (weigh_done h) xs + total (λ w. weigh h w.refused) xs
     ≡ (weigh h (pieces_opened (all_opened xs)) + weigh h (pieces_closed (all_closed xs))) + weigh h (all_back xs)
 total_done h [] = refl
@@ -50,15 +55,18 @@ total_done h (x ∷ xs) = omega (
   weigh-append h x.held x.refused,
 )
 
+-- what lay on the deques at the start is what lay on those of the owners
 total_starts : (h : Subproblem → ℕ) (start : ℕ → List Subproblem) (os : List Owned)
     → total (λ (o : Owned). weigh h (start o.worker)) os ≡ total (λ (w : ℕ). weigh h (start w)) (numbers_of os)
 total_starts h start [] = refl
 total_starts h start (o ∷ os) = omega (arith, total_starts h start os)
 
+-- a split of the root is told by its cell and its places
 root_is : (region : Instance) (root : Split) → root.piece ≡ root_of region
     → root ≡ root_split region root.cell root.places
 root_is region root e = λ i. record { piece = e i; cell = root.cell; places = root.places }
 
+-- where all seats and passes came back, each piece that came to be is accounted for once
 pub joined : (region : Instance) (start : ℕ → List Subproblem) (workers : ℕ) (root : Split) (word : ℕ) (best : List ℕ)
     (old new : Known) (owners drained : List Owned) (rows : List (List Reached)) (works : List Worked)
     (left : List Subproblem) → AreApart region start workers old new owners rows works → TakeRows owners rows drained

@@ -17,58 +17,70 @@ use Rattle.worker_results.specs.Results.{Handed, KeepsTold}
 use Rattle.joined_results.specs.Joining.{numbers_of, total, workers_of, works_of}
 use Rattle.joined_results.specs.Apart.{ArePartsOf, IsOneMore, IsRow, AreApart, told_size, weigh_done}
 
+-- an item more adds its number
 pub total-push : {A : Type 0} (f : A → ℕ) (xs : List A) (x : A) → total f (xs ++ x ∷ []) ≡ total f xs + f x
 total-push f [] x = omega arith
 total-push f (y ∷ ys) x = omega (arith, total-push f ys x)
 
+-- an item more is one more
 length-push : {A : Type 0} (xs : List A) (x : A) → length (xs ++ x ∷ []) ≡ length xs + 1
 length-push [] x = omega arith
 length-push (y ∷ ys) x = omega (arith, length-push ys x)
 
 -- ---- sizes
 
+-- a cover lowers the greater of two sizes to no less than the smaller
 less_by_keeps : (n m : ℕ) (o : Option Covering) → n ≤ m → less_by n o ≤ less_by m o
 less_by_keeps n m None le = le
 less_by_keeps n m (Some c) le = omega arith
 
+-- it doesn't matter which cover lowers a size first
 less_by_swaps : (n : ℕ) (a b : Option Covering) → less_by (less_by n a) b ≤ less_by (less_by n b) a
 less_by_swaps n None None = omega arith
 less_by_swaps n None (Some c) = omega arith
 less_by_swaps n (Some c) None = omega arith
 less_by_swaps n (Some c) (Some d) = omega arith
 
+-- a cover never raises a size
 less_by_low : (n : ℕ) (o : Option Covering) → less_by n o ≤ n
 less_by_low n None = omega arith
 less_by_low n (Some c) = omega arith
 
+-- a worker more may lower the least size by its cover
 least-push : (n : ℕ) (xs : List Worked) (x : Worked) → least_size n (xs ++ x ∷ []) ≤ less_by (least_size n xs) x.cover
 least-push n [] x = omega arith
 least-push n (y ∷ ys) x =
     le_trans (less_by_keeps _ _ y.cover (least-push n ys x)) (less_by_swaps (least_size n ys) x.cover y.cover)
 
+-- lowered by the cover that was told, a size is at most what was told
 kept_cover : (n : ℕ) (o : Option Covering) (told : Option ℕ) → KeepsTold o told → AtLeast (less_by n o) told
 kept_cover n o None k = tt
 kept_cover n None (Some t) k = absurd k
 kept_cover n (Some c) (Some t) k = omega arith
 
+-- a smaller size is at most what a greater one is
 at_least_less : (n m : ℕ) (told : Option ℕ) → n ≤ m → AtLeast m told → AtLeast n told
 at_least_less n m None le k = tt
 at_least_less n m (Some t) le k = omega arith
 
+-- a size at most either of two is at most the lesser
 at_least_both : (n : ℕ) (a b : Option ℕ) → AtLeast n a → AtLeast n b → AtLeast n (lesser_told a b)
 at_least_both n None b h k = k
 at_least_both n (Some x) None h k = h
 at_least_both n (Some x) (Some y) h k = omega arith
 
+-- the size told at first is at most itself
 pub told_at_first : (told : Option ℕ) → AtLeast (told_size told) told
 told_at_first None = tt
 told_at_first (Some size) = omega arith
 
 -- ---- works
 
+-- a floor that reaches a size reaches a smaller one
 closed_less : (region : Instance) (n m : ℕ) → n ≤ m → (f : Fathomed) → IsClosedFrom region m f → IsClosedFrom region n f
 closed_less region n m le f c = record { of_it = c.of_it; reaches = le_trans le c.reaches; proved = c.proved }
 
+-- so do the floors of a worker
 work_less : (region : Instance) (n m : ℕ) → n ≤ m → (work : Worked) → IsWork region m work → IsWork region n work
 work_less region n m le work w = record {
   cover = w.cover;
@@ -76,6 +88,7 @@ work_less region n m le work w = record {
   opened = w.opened;
 }
 
+-- so do those of all workers
 pub works_less : (region : Instance) (n m : ℕ) (works : List Worked) → n ≤ m → All (IsWork region m) works
     → All (IsWork region n) works
 works_less region n m works le all =
@@ -132,6 +145,7 @@ module _ (region : Instance) (start : ℕ → List Subproblem) (workers : ℕ) w
   module _ (done : Handed) (owners more_owners : List Owned) (rows more_rows : List (List Reached))
       (works more_works : List Worked)
       (one : IsOneMore region start workers done owners rows works more_owners more_rows more_works) where
+    -- one result more was taken apart
     pub apart_more : (old new next : Known) → AreApart region start workers old new owners rows works
         → next ≡ together new done.knows → AreApart region start workers old next more_owners more_rows more_works
     apart_more old new next p is =
@@ -140,6 +154,7 @@ module _ (region : Instance) (start : ℕ → List Subproblem) (workers : ℕ) w
         (λ i. (sym is i, (sym one.in_owners i, (sym one.in_rows i, sym one.in_works i))))
         (apart_push old new owners rows works done one.own one.row one.work p one.are)
 
+    -- its owner follows the others
     pub numbers_more : (rest : List Handed)
         → numbers_of more_owners ++ workers_of rest ≡ numbers_of owners ++ workers_of (done ∷ rest)
     numbers_more rest =
@@ -148,9 +163,11 @@ module _ (region : Instance) (start : ℕ → List Subproblem) (workers : ℕ) w
         ∙ append_assoc (numbers_of owners) (one.own.worker ∷ []) (workers_of rest)
         ∙ ap (λ (o : Owned). numbers_of owners ++ o.worker ∷ workers_of rest) one.are.owner
 
+    -- and so do its passes
     pub rows_more : length more_rows ≡ length rows + 1
     rows_more = ap length one.in_rows ∙ length-push rows one.row
 
+    -- and its work
     pub works_more : (rest : List Handed) → more_works ++ works_of rest ≡ works ++ works_of (done ∷ rest)
     works_more rest =
         ap (λ (l : List Worked). l ++ works_of rest) one.in_works

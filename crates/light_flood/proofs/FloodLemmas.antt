@@ -1,5 +1,6 @@
 -- From a settled flood to the levels of light.
-use Rattle.std.proofs.Common.{◌≡◌, ◌≢◌, ℕ, ◌+◌, ◌<◌, ◌≤◌, List, [], length, slice_index, Contains, sym, ap, subst, ◌∙◌, arith, inl, inr}
+use Rattle.std.proofs.Common.{◌≡◌, ◌≢◌, ℕ, ◌+◌, ◌<◌, ◌≤◌, List, [], length, slice_index, Contains, sym, ap, subst}
+use Rattle.std.proofs.Common.{◌∙◌, arith, inl, inr}
 use Rattle.std.proofs.lemmas.Bool.{cases_lt, cases_eq}
 use Rattle.scan_core.specs.Box.{cell_count}
 use Rattle.cave_model.specs.Cave.{Cave, class_at}
@@ -12,7 +13,8 @@ use Rattle.light_flood.proofs.SpreadLemmas.{source_inside, spread_brought, passe
 -- ---- the start
 
 -- without light nothing waits
-pub flood_none : (cave : Cave) (levels : ℕ → ℕ) (waiting : List (List ℕ)) → ((cell : ℕ) → levels cell ≡ 0) → NoneWaits waiting → IsFlood cave 16 16 levels waiting
+pub flood_none : (cave : Cave) (levels : ℕ → ℕ) (waiting : List (List ℕ)) → ((cell : ℕ) → levels cell ≡ 0)
+    → NoneWaits waiting → IsFlood cave 16 16 levels waiting
 flood_none cave levels waiting dark none = record {
   low = λ cell. omega (arith, dark cell);
   passed_on = λ before cell shared high. absurd (omega (arith, dark before));
@@ -30,7 +32,9 @@ pub record Seeded (cave : Cave) (count : ℕ) (levels : List ℕ) (waiting : Lis
   pub each : (cell : ℕ) → cell < count → slice_index levels cell ≡ (class_at cave cell).emission
   pub dark : (cell : ℕ) → count ≤ cell → slice_index levels cell ≡ 0
 
-pub seeded_none : (cave : Cave) (levels : List ℕ) (waiting : List (List ℕ)) → HasNoLight (cell_count cave.size) levels → NoneWaits waiting → Seeded cave 0 levels waiting
+-- before the first cell none has light, and none waits
+pub seeded_none : (cave : Cave) (levels : List ℕ) (waiting : List (List ℕ)) → HasNoLight (cell_count cave.size) levels
+    → NoneWaits waiting → Seeded cave 0 levels waiting
 seeded_none cave levels waiting unlit none = record {
   whole = unlit.counted;
   flood = flood_none cave (slice_index levels) waiting unlit.dark none;
@@ -38,8 +42,11 @@ seeded_none cave levels waiting unlit none = record {
   dark = λ cell h. unlit.dark cell;
 }
 
-pub seeded_more : (cave : Cave) (count : ℕ) (levels next : List ℕ) (waiting later : List (List ℕ)) → Seeded cave count levels waiting → length next ≡ cell_count cave.size
-    → IsRaised (slice_index levels) count (class_at cave count).emission (slice_index next) → IsFlood cave 16 16 (slice_index next) later → Seeded cave (count + 1) next later
+-- the next cell is raised to its emission
+pub seeded_more : (cave : Cave) (count : ℕ) (levels next : List ℕ) (waiting later : List (List ℕ))
+    → Seeded cave count levels waiting → length next ≡ cell_count cave.size
+    → IsRaised (slice_index levels) count (class_at cave count).emission (slice_index next)
+    → IsFlood cave 16 16 (slice_index next) later → Seeded cave (count + 1) next later
 seeded_more cave count levels next waiting later s whole raised flood = record {
   whole = whole;
   flood = flood;
@@ -53,13 +60,17 @@ seeded_more cave count levels next waiting later s whole raised flood = record {
     below : (cell : ℕ) → cell ≢ count → cell < count + 1 → cell < count
     below cell ne h = elim (cases_lt cell count) [ inl lt ↦ lt | inr le ↦ absurd (ne (omega arith)) ]
 
-pub seeded_all : (cave : Cave) (count : ℕ) (levels : List ℕ) (waiting : List (List ℕ)) → count ≡ cell_count cave.size → Seeded cave count levels waiting → AreEmissions cave levels
+-- after the last each cell has its emission
+pub seeded_all : (cave : Cave) (count : ℕ) (levels : List ℕ) (waiting : List (List ℕ)) → count ≡ cell_count cave.size
+    → Seeded cave count levels waiting → AreEmissions cave levels
 seeded_all cave count levels waiting e s = record { whole = s.whole; each = λ cell h. s.each cell (omega (arith, e)) }
 
 -- ---- the end
 
 -- a flood that settled from the emissions has the levels of light
-pub settled_levels : (cave : Cave) (start levels : List ℕ) → AreEmissions cave start → IsSettled cave 1 (slice_index start) (slice_index levels) → length levels ≡ cell_count cave.size → AreLevelsOf cave levels
+pub settled_levels : (cave : Cave) (start levels : List ℕ) → AreEmissions cave start
+    → IsSettled cave 1 (slice_index start) (slice_index levels) → length levels ≡ cell_count cave.size
+    → AreLevelsOf cave levels
 settled_levels cave start levels glow s whole = record {
   whole = whole;
   each = λ cell h. settled_level cave (slice_index levels) cell settled h;
@@ -67,7 +78,9 @@ settled_levels cave start levels glow s whole = record {
   where
     settled : AreSettled cave (λ source. (class_at cave source).emission) (slice_index levels)
     settled = record {
-      brought_there = λ cell h lit. (let b = spread_brought cave (slice_index start) (slice_index levels) cell s.brought_there h in let from = glow.each b.0 (source_inside b.1.1) in (b.0, (b.1.0, b.1.1, omega (arith, b.1.2))));
+      brought_there = λ cell h lit. (let b = spread_brought cave (slice_index start)
+          (slice_index levels) cell s.brought_there h in let from = glow.each b.0 (source_inside b.1.1) in
+          (b.0, (b.1.0, b.1.1, omega (arith, b.1.2))));
       covered = λ cell h. (let up = s.covered cell in let e = glow.each cell h in omega arith);
       settled = passed_from_1 cave (slice_index start) (slice_index levels) s;
     }

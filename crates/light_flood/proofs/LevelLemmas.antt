@@ -1,5 +1,6 @@
 -- Passing light on from all cells of a level, and from all levels.
-use Rattle.std.proofs.Common.{◌≡◌, ℕ, ◌+◌, ◌<◌, ◌≤◌, List, [], length, get_or, Contains, sym, ap, subst, ◌∙◌, arith, inl, inr}
+use Rattle.std.proofs.Common.{◌≡◌, ℕ, ◌+◌, ◌<◌, ◌≤◌, List, [], length, get_or, Contains, sym, ap, subst, ◌∙◌, arith}
+use Rattle.std.proofs.Common.{inl, inr}
 use Rattle.std.proofs.lemmas.Bool.{cases_lt, cases_eq}
 use Rattle.std.proofs.lemmas.Grind.{get_or_default_zero}
 use Rattle.scan_core.specs.Box.{cell_count}
@@ -12,7 +13,8 @@ use Rattle.light_flood.proofs.PassLemmas.{rise_none, rise_on}
 -- ---- one level
 
 -- of the cells that waited at the level, those before this index have passed their light on
-pub record PassingLevel (cave : Cave) (level : ℕ) (start levels : ℕ → ℕ) (waiting : List (List ℕ)) (cells : List ℕ) (index : ℕ) : Type 0 where
+pub record PassingLevel (cave : Cave) (level : ℕ) (start levels : ℕ → ℕ) (waiting : List (List ℕ)) (cells : List ℕ)
+    (index : ℕ) : Type 0 where
   pub flood : IsFlood cave (level + 1) level levels waiting
   pub rises : Rises level start levels
   pub spreads : Spreads cave start levels
@@ -20,20 +22,27 @@ pub record PassingLevel (cave : Cave) (level : ℕ) (start levels : ℕ → ℕ)
   pub inside : (cell : ℕ) → Contains cells cell → cell < cell_count cave.size
   pub passed : (k d : ℕ) → k < index → levels (get_or cells k d) ≡ level → HasPassed cave levels (get_or cells k d)
 
-pub level_start : (cave : Cave) (level : ℕ) (start : ℕ → ℕ) (waiting next : List (List ℕ)) (cells : List ℕ) → 1 ≤ level → IsFlood cave (level + 1) (level + 1) start waiting → cells ≡ waiting_at waiting level → IsWaiting waiting level [] next → PassingLevel cave level start start next cells 0
+-- the cells that wait at a level are taken, and none has passed its light on
+pub level_start : (cave : Cave) (level : ℕ) (start : ℕ → ℕ) (waiting next : List (List ℕ)) (cells : List ℕ) → 1 ≤ level
+    → IsFlood cave (level + 1) (level + 1) start waiting → cells ≡ waiting_at waiting level
+    → IsWaiting waiting level [] next → PassingLevel cave level start start next cells 0
 level_start cave level start waiting next cells pos flood taken rest = record {
   flood = record {
     low = flood.low;
     passed_on = flood.passed_on;
-    awaited = λ cell inside lit below. (subst (λ (l : List ℕ). Contains l cell) (sym (rest.others (start cell) (λ e. omega arith))) (flood.awaited cell inside lit (omega arith)));
+    awaited = λ cell inside lit below.
+        (subst (λ (l : List ℕ). Contains l cell) (sym (rest.others (start cell) (λ e. omega arith)))
+        (flood.awaited cell inside lit (omega arith)));
     inside = λ other cell has. (elim (cases_eq other level) [
-      | inl e ↦ absurd (not_in_none cell (subst (λ (l : List ℕ). Contains l cell) (ap (waiting_at next) e ∙ rest.here) has))
+      | inl e ↦ absurd (not_in_none cell
+          (subst (λ (l : List ℕ). Contains l cell) (ap (waiting_at next) e ∙ rest.here) has))
       | inr ne ↦ flood.inside other cell (subst (λ (l : List ℕ). Contains l cell) (rest.others other ne) has)
     ]);
   };
   rises = rise_none level start;
   spreads = spread_none cave start;
-  here = λ cell inside e. (subst (λ (l : List ℕ). Contains l cell) (ap (waiting_at waiting) e ∙ sym taken) (flood.awaited cell inside (omega (arith, e)) (omega (arith, e))));
+  here = λ cell inside e. (subst (λ (l : List ℕ). Contains l cell) (ap (waiting_at waiting) e ∙ sym taken)
+      (flood.awaited cell inside (omega (arith, e)) (omega (arith, e))));
   inside = λ cell has. flood.inside level cell (subst (λ (l : List ℕ). Contains l cell) taken has);
   passed = λ k d h e. absurd (omega arith);
 }
@@ -42,13 +51,16 @@ level_start cave level start waiting next cells pos flood taken rest = record {
     not_in_none cell h = absurd (omega (arith, h.1))
 
 -- what has passed its light on still has, as levels below rise
-still_passed : (cave : Cave) (level : ℕ) (levels next : ℕ → ℕ) (cell : ℕ) → Rises level levels next → next cell ≡ level → HasPassed cave levels cell → HasPassed cave next cell
+still_passed : (cave : Cave) (level : ℕ) (levels next : ℕ → ℕ) (cell : ℕ) → Rises level levels next → next cell ≡ level
+    → HasPassed cave levels cell → HasPassed cave next cell
 still_passed cave level levels next cell rises at passed to shared =
     let same = rises.below cell (omega (arith, at)) in let old = passed to shared in let up = rises.up to in omega arith
 
 -- the next cell has this level, and passed its light on
-pub level_passed : (cave : Cave) (level : ℕ) (start levels next : ℕ → ℕ) (waiting later : List (List ℕ)) (cells : List ℕ) (index from : ℕ) → PassingLevel cave level start levels waiting cells index
-    → ((d : ℕ) → get_or cells index d ≡ from) → levels from ≡ level → IsFlood cave (levels from + 1) (levels from) next later → Rises (levels from) levels next → Spreads cave levels next → HasPassed cave next from
+pub level_passed : (cave : Cave) (level : ℕ) (start levels next : ℕ → ℕ) (waiting later : List (List ℕ))
+    (cells : List ℕ) (index from : ℕ) → PassingLevel cave level start levels waiting cells index
+    → ((d : ℕ) → get_or cells index d ≡ from) → levels from ≡ level → IsFlood cave (levels from + 1)
+    (levels from) next later → Rises (levels from) levels next → Spreads cave levels next → HasPassed cave next from
     → PassingLevel cave level start next later cells (index + 1)
 level_passed cave level start levels next waiting later cells index from s this at flood rises spreads passed =
     let rises_here : Rises level levels next = subst (λ (l : ℕ). Rises l levels next) at rises in
@@ -59,15 +71,19 @@ level_passed cave level start levels next waiting later cells index from s this 
       here = s.here;
       inside = s.inside;
       passed = λ k d h e. (elim (cases_lt k index) [
-        | inl lt ↦ (let was : levels (get_or cells k d) ≡ level = sym (rises_here.below (get_or cells k d) (omega (arith, e))) ∙ e in
+        | inl lt ↦ (let was : levels (get_or cells k d) ≡ level =
+            sym (rises_here.below (get_or cells k d) (omega (arith, e))) ∙ e in
             still_passed cave level levels next (get_or cells k d) rises_here e (s.passed k d lt was))
-        | inr le ↦ (let now : k ≡ index = omega arith in subst (HasPassed cave next) (sym (ap (λ (j : ℕ). get_or cells j d) now ∙ this d)) passed)
+        | inr le ↦ (let now : k ≡ index = omega arith in subst (HasPassed cave next)
+            (sym (ap (λ (j : ℕ). get_or cells j d) now ∙ this d)) passed)
       ]);
     }
 
 -- the next cell has another level by now
-pub level_skipped : (cave : Cave) (level : ℕ) (start levels : ℕ → ℕ) (waiting : List (List ℕ)) (cells : List ℕ) (index from : ℕ) → PassingLevel cave level start levels waiting cells index
-    → ((d : ℕ) → get_or cells index d ≡ from) → (levels from ≡ level → ⊥) → PassingLevel cave level start levels waiting cells (index + 1)
+pub level_skipped : (cave : Cave) (level : ℕ) (start levels : ℕ → ℕ) (waiting : List (List ℕ)) (cells : List ℕ)
+    (index from : ℕ) → PassingLevel cave level start levels waiting cells index
+    → ((d : ℕ) → get_or cells index d ≡ from) → (levels from ≡ level → ⊥)
+    → PassingLevel cave level start levels waiting cells (index + 1)
 level_skipped cave level start levels waiting cells index from s this other = record {
   flood = s.flood;
   rises = s.rises;
@@ -76,19 +92,24 @@ level_skipped cave level start levels waiting cells index from s this other = re
   inside = s.inside;
   passed = λ k d h e. (elim (cases_lt k index) [
     | inl lt ↦ s.passed k d lt e
-    | inr le ↦ (let now : k ≡ index = omega arith in absurd (other (ap levels (sym (ap (λ (j : ℕ). get_or cells j d) now ∙ this d)) ∙ e)))
+    | inr le ↦ (let now : k ≡ index = omega arith in
+        absurd (other (ap levels (sym (ap (λ (j : ℕ). get_or cells j d) now ∙ this d)) ∙ e)))
   ]);
 }
 
 -- all cells of the level have passed their light on
-pub level_end : (cave : Cave) (level : ℕ) (start levels : ℕ → ℕ) (waiting : List (List ℕ)) (cells : List ℕ) (index : ℕ) → length cells ≤ index → PassingLevel cave level start levels waiting cells index → IsFlood cave level level levels waiting
+pub level_end : (cave : Cave) (level : ℕ) (start levels : ℕ → ℕ) (waiting : List (List ℕ)) (cells : List ℕ) (index : ℕ)
+    → length cells ≤ index → PassingLevel cave level start levels waiting cells index
+    → IsFlood cave level level levels waiting
 level_end cave level start levels waiting cells index all s = record {
   low = s.flood.low;
   passed_on = λ before cell shared high. (elim (cases_eq (levels before) level) [
     | inl e ↦ (let was : start before ≡ level = sym (s.rises.below before high) ∙ e in
         let found = s.here before shared.inside was in
         let at : levels (get_or cells found.0 before) ≡ level = ap levels found.2 ∙ e in
-        subst (λ (b : ℕ). IsPassed cave levels b cell) found.2 (s.passed found.0 before (omega (arith, found.1)) at cell (subst (λ (b : ℕ). AreNeighbours cave.size b cell) (sym found.2) shared)))
+        subst (λ (b : ℕ). IsPassed cave levels b cell)
+        found.2 (s.passed found.0 before (omega (arith, found.1)) at cell
+        (subst (λ (b : ℕ). AreNeighbours cave.size b cell) (sym found.2) shared)))
     | inr ne ↦ s.flood.passed_on before cell shared (above before ne high)
   ]);
   awaited = s.flood.awaited;
@@ -109,10 +130,16 @@ pub record Passing (cave : Cave) (level : ℕ) (start levels : ℕ → ℕ) (wai
   pub up : (cell : ℕ) → start cell ≤ levels cell
   pub spreads : Spreads cave start levels
 
-pub passing_none : (cave : Cave) (start : ℕ → ℕ) (waiting : List (List ℕ)) → IsFlood cave 16 16 start waiting → Passing cave 16 start start waiting
-passing_none cave start waiting flood = record { flood = flood; up = λ cell. omega arith; spreads = spread_none cave start }
+-- before the first level nothing is passed on
+pub passing_none : (cave : Cave) (start : ℕ → ℕ) (waiting : List (List ℕ)) → IsFlood cave 16 16 start waiting
+    → Passing cave 16 start start waiting
+passing_none cave start waiting flood =
+    record { flood = flood; up = λ cell. omega arith; spreads = spread_none cave start }
 
-pub passing_level : (cave : Cave) (level : ℕ) (start levels next : ℕ → ℕ) (waiting later : List (List ℕ)) → Passing cave (level + 1) start levels waiting → IsFlood cave level level next later → Rises level levels next → Spreads cave levels next → Passing cave level start next later
+-- a level done, the flood stands at the next lower one
+pub passing_level : (cave : Cave) (level : ℕ) (start levels next : ℕ → ℕ) (waiting later : List (List ℕ))
+    → Passing cave (level + 1) start levels waiting → IsFlood cave level level next later → Rises level levels next
+    → Spreads cave levels next → Passing cave level start next later
 passing_level cave level start levels next waiting later s flood rises spreads = record {
   flood = flood;
   up = λ cell. (let a = s.up cell in let b = rises.up cell in omega arith);
@@ -120,7 +147,8 @@ passing_level cave level start levels next waiting later s flood rises spreads =
 }
 
 -- what lies above this level has passed its light on
-pub passing_all : (cave : Cave) (least level : ℕ) (start levels : ℕ → ℕ) (waiting : List (List ℕ)) → level ≤ least + 1 → Passing cave level start levels waiting → IsSettled cave least start levels
+pub passing_all : (cave : Cave) (least level : ℕ) (start levels : ℕ → ℕ) (waiting : List (List ℕ)) → level ≤ least + 1
+    → Passing cave level start levels waiting → IsSettled cave least start levels
 passing_all cave least level start levels waiting low s = record {
   brought_there = s.spreads;
   covered = s.up;
@@ -131,5 +159,9 @@ passing_all cave least level start levels waiting low s = record {
 pub element_of : (cells : List ℕ) (k : ℕ) → k < length cells → Contains cells (get_or cells k 0)
 element_of cells k h = (k, h, get_or_default_zero cells k (get_or cells k 0) h)
 
-pub element_inside : (cave : Cave) (level : ℕ) (start levels : ℕ → ℕ) (waiting : List (List ℕ)) (cells : List ℕ) (index : ℕ) → PassingLevel cave level start levels waiting cells index → index < length cells → get_or cells index 0 < cell_count cave.size
-element_inside cave level start levels waiting cells index s h = s.inside (get_or cells index 0) (element_of cells index h)
+-- the cells that wait lie in the box
+pub element_inside : (cave : Cave) (level : ℕ) (start levels : ℕ → ℕ) (waiting : List (List ℕ)) (cells : List ℕ)
+    (index : ℕ) → PassingLevel cave level start levels waiting cells index → index < length cells
+    → get_or cells index 0 < cell_count cave.size
+element_inside cave level start levels waiting cells index s h = s.inside (get_or cells index 0)
+    (element_of cells index h)

@@ -1,5 +1,6 @@
 -- Passing light on to all neighbours of a cell.
-use Rattle.std.proofs.Common.{◌≡◌, ℕ, zero, suc, ◌+◌, ◌<◌, ◌≤◌, List, get_or, Option, Some, None, refl, sym, ap, subst, ◌∙◌, arith, inl, inr}
+use Rattle.std.proofs.Common.{◌≡◌, ℕ, zero, suc, ◌+◌, ◌<◌, ◌≤◌, List, get_or, Option, Some, None, refl, sym, ap}
+use Rattle.std.proofs.Common.{subst, ◌∙◌, arith, inl, inr}
 use Rattle.std.proofs.lemmas.Bool.{cases_lt}
 use Rattle.scan_core.specs.Box.{Point, cell_count}
 use Rattle.cave_model.specs.Cells.{Face, west, east, north, south, below, above, beyond, neighbours_of, AreNeighbours}
@@ -9,7 +10,9 @@ use Rattle.light_flood.proofs.SpreadLemmas.{spread_none, spread_on}
 
 -- ---- the list of neighbours
 
-face_at : (size : Point) (from j to : ℕ) → get_or (neighbours_of size from) j None ≡ Some to → (face : Face) × (beyond size face from ≡ Some to)
+-- a neighbour that is listed lies beyond a face
+face_at : (size : Point) (from j to : ℕ) → get_or (neighbours_of size from) j None ≡ Some to
+    → (face : Face) × (beyond size face from ≡ Some to)
 face_at size from zero to e = (west, e)
 face_at size from (suc zero) to e = (east, e)
 face_at size from (suc (suc zero)) to e = (north, e)
@@ -19,9 +22,11 @@ face_at size from (suc (suc (suc (suc (suc zero))))) to e = (above, e)
 face_at size from (suc (suc (suc (suc (suc (suc j)))))) to e = absurd cc
 
 -- a cell of the list shares a face
-pub listed_shares : (size : Point) (from j to : ℕ) → from < cell_count size → get_or (neighbours_of size from) j None ≡ Some to → AreNeighbours size from to
+pub listed_shares : (size : Point) (from j to : ℕ) → from < cell_count size
+    → get_or (neighbours_of size from) j None ≡ Some to → AreNeighbours size from to
 listed_shares size from j to h e = let f = face_at size from j to e in record { inside = h; face = f.0; there = f.1 }
 
+-- the number of a face in the list of neighbours
 index_of : Face → ℕ
 index_of west = 0
 index_of east = 1
@@ -30,6 +35,7 @@ index_of south = 3
 index_of below = 4
 index_of above = 5
 
+-- there are six
 index_below : (face : Face) → index_of face < 6
 unfolding index_of
 index_below west = omega arith
@@ -39,7 +45,9 @@ index_below south = omega arith
 index_below below = omega arith
 index_below above = omega arith
 
-listed_at : (size : Point) (from : ℕ) (face : Face) → get_or (neighbours_of size from) (index_of face) None ≡ beyond size face from
+-- at the number of a face stands the cell beyond it
+listed_at : (size : Point) (from : ℕ) (face : Face)
+    → get_or (neighbours_of size from) (index_of face) None ≡ beyond size face from
 unfolding index_of
 listed_at size from west = refl
 listed_at size from east = refl
@@ -50,9 +58,11 @@ listed_at size from above = refl
 
 -- ---- one neighbour after another
 
+-- levels that stay rise to themselves
 pub rise_none : (level : ℕ) (f : ℕ → ℕ) → Rises level f f
 rise_none level f = record { up = λ cell. omega arith; below = λ cell h. refl }
 
+-- levels that rise in two steps rise from the first
 pub rise_on : (level : ℕ) (f g h : ℕ → ℕ) → Rises level f g → Rises level g h → Rises level f h
 rise_on level f g h first second = record {
   up = λ cell. (let a = first.up cell in let b = second.up cell in omega arith);
@@ -60,14 +70,18 @@ rise_on level f g h first second = record {
 }
 
 -- the neighbours before this index have been offered light
-pub record PassingOn (cave : Cave) (from : ℕ) (start levels : ℕ → ℕ) (waiting : List (List ℕ)) (around : List (Option ℕ)) (index : ℕ) : Type 0 where
+pub record PassingOn (cave : Cave) (from : ℕ) (start levels : ℕ → ℕ) (waiting : List (List ℕ))
+    (around : List (Option ℕ)) (index : ℕ) : Type 0 where
   pub whole : around ≡ neighbours_of cave.size from
   pub flood : IsFlood cave (start from + 1) (start from) levels waiting
   pub rises : Rises (start from) start levels
   pub spreads : Spreads cave start levels
   pub offered : (j to : ℕ) → j < index → get_or around j None ≡ Some to → IsPassed cave levels from to
 
-pub passing_start : (cave : Cave) (from : ℕ) (start : ℕ → ℕ) (waiting : List (List ℕ)) (around : List (Option ℕ)) → around ≡ neighbours_of cave.size from → IsFlood cave (start from + 1) (start from) start waiting → PassingOn cave from start start waiting around 0
+-- before the first neighbour no light is passed on
+pub passing_start : (cave : Cave) (from : ℕ) (start : ℕ → ℕ) (waiting : List (List ℕ)) (around : List (Option ℕ))
+    → around ≡ neighbours_of cave.size from → IsFlood cave (start from + 1) (start from) start waiting
+    → PassingOn cave from start start waiting around 0
 passing_start cave from start waiting around whole flood = record {
   whole = whole;
   flood = flood;
@@ -77,16 +91,23 @@ passing_start cave from start waiting around whole flood = record {
 }
 
 -- the cell that passes on has the level that it had
-pub from_kept : (cave : Cave) (from : ℕ) (start levels : ℕ → ℕ) (waiting : List (List ℕ)) (around : List (Option ℕ)) (index : ℕ) → PassingOn cave from start levels waiting around index → levels from ≡ start from
+pub from_kept : (cave : Cave) (from : ℕ) (start levels : ℕ → ℕ) (waiting : List (List ℕ)) (around : List (Option ℕ))
+    (index : ℕ) → PassingOn cave from start levels waiting around index → levels from ≡ start from
 from_kept cave from start levels waiting around index s = s.rises.below from (s.rises.up from)
 
-pub flood_here : (cave : Cave) (from : ℕ) (start levels : ℕ → ℕ) (waiting : List (List ℕ)) (around : List (Option ℕ)) (index : ℕ) → PassingOn cave from start levels waiting around index → IsFlood cave (levels from + 1) (levels from) levels waiting
+-- between two neighbours the flood stands at the level of the cell
+pub flood_here : (cave : Cave) (from : ℕ) (start levels : ℕ → ℕ) (waiting : List (List ℕ)) (around : List (Option ℕ))
+    (index : ℕ) → PassingOn cave from start levels waiting around index
+    → IsFlood cave (levels from + 1) (levels from) levels waiting
 flood_here cave from start levels waiting around index s =
-    subst (λ (level : ℕ). IsFlood cave (level + 1) level levels waiting) (sym (from_kept cave from start levels waiting around index s)) s.flood
+    subst (λ (level : ℕ). IsFlood cave (level + 1) level levels waiting)
+    (sym (from_kept cave from start levels waiting around index s)) s.flood
 
 -- a neighbour was offered light
-pub passing_some : (cave : Cave) (from to : ℕ) (start levels next : ℕ → ℕ) (waiting later : List (List ℕ)) (around : List (Option ℕ)) (index : ℕ) → PassingOn cave from start levels waiting around index
-    → get_or around index None ≡ Some to → IsFlood cave (levels from + 1) (levels from) next later → Rises (levels from) levels next → Spreads cave levels next → IsPassed cave next from to
+pub passing_some : (cave : Cave) (from to : ℕ) (start levels next : ℕ → ℕ) (waiting later : List (List ℕ))
+    (around : List (Option ℕ)) (index : ℕ) → PassingOn cave from start levels waiting around index
+    → get_or around index None ≡ Some to → IsFlood cave (levels from + 1) (levels from) next later
+    → Rises (levels from) levels next → Spreads cave levels next → IsPassed cave next from to
     → PassingOn cave from start next later around (index + 1)
 passing_some cave from to start levels next waiting later around index s here flood rises spreads passed =
     let kept = from_kept cave from start levels waiting around index s in
@@ -97,7 +118,8 @@ passing_some cave from to start levels next waiting later around index s here fl
       rises = rise_on (start from) start levels next s.rises rises_here;
       spreads = spread_on cave start levels next s.spreads spreads;
       offered = λ j other h e. (elim (cases_lt j index) [
-        | inl lt ↦ (let old = s.offered j other lt e in let same = rises.below from (rises.up from) in let up = rises.up other in omega arith)
+        | inl lt ↦ (let old = s.offered j other lt e in let same = rises.below from (rises.up from) in
+            let up = rises.up other in omega arith)
         | inr le ↦ (let now : j ≡ index = omega arith in
             let found : Some other ≡ Some to = sym e ∙ ap (λ (k : ℕ). get_or around k None) now ∙ here in
             let same : to ≡ other = cc in subst (IsPassed cave next from) same passed)
@@ -105,7 +127,9 @@ passing_some cave from to start levels next waiting later around index s here fl
     }
 
 -- there is no neighbour
-pub passing_none : (cave : Cave) (from : ℕ) (start levels : ℕ → ℕ) (waiting : List (List ℕ)) (around : List (Option ℕ)) (index : ℕ) → PassingOn cave from start levels waiting around index → get_or around index None ≡ None → PassingOn cave from start levels waiting around (index + 1)
+pub passing_none : (cave : Cave) (from : ℕ) (start levels : ℕ → ℕ) (waiting : List (List ℕ)) (around : List (Option ℕ))
+    (index : ℕ) → PassingOn cave from start levels waiting around index → get_or around index None ≡ None
+    → PassingOn cave from start levels waiting around (index + 1)
 passing_none cave from start levels waiting around index s here = record {
   whole = s.whole;
   flood = s.flood;
@@ -119,8 +143,11 @@ passing_none cave from start levels waiting around index s here = record {
 }
 
 -- all were
-pub passing_end : (cave : Cave) (from : ℕ) (start levels : ℕ → ℕ) (waiting : List (List ℕ)) (around : List (Option ℕ)) (index : ℕ) → 6 ≤ index → PassingOn cave from start levels waiting around index → HasPassed cave levels from
+pub passing_end : (cave : Cave) (from : ℕ) (start levels : ℕ → ℕ) (waiting : List (List ℕ)) (around : List (Option ℕ))
+    (index : ℕ) → 6 ≤ index → PassingOn cave from start levels waiting around index → HasPassed cave levels from
 passing_end cave from start levels waiting around index all s = λ to shared.
     (let low = index_below shared.face in
-    let there : get_or around (index_of shared.face) None ≡ Some to = ap (λ (l : List (Option ℕ)). get_or l (index_of shared.face) None) s.whole ∙ listed_at cave.size from shared.face ∙ shared.there in
+    let there : get_or around (index_of shared.face) None ≡ Some to =
+    ap (λ (l : List (Option ℕ)). get_or l (index_of shared.face) None) s.whole
+    ∙ listed_at cave.size from shared.face ∙ shared.there in
     s.offered (index_of shared.face) to (omega arith) there)

@@ -1,5 +1,6 @@
 -- One step of a flood.
-use Rattle.std.proofs.Common.{◌≡◌, ℕ, ◌+◌, ◌-◌, ◌<◌, ◌≤◌, List, [], ◌∷◌, ◌++◌, Contains, refl, sym, ap, subst, ◌∙◌, arith, inl, inr}
+use Rattle.std.proofs.Common.{◌≡◌, ℕ, ◌+◌, ◌-◌, ◌<◌, ◌≤◌, List, [], ◌∷◌, ◌++◌, Contains, refl, sym, ap, subst, ◌∙◌}
+use Rattle.std.proofs.Common.{arith, inl, inr}
 use Rattle.std.proofs.lemmas.Bool.{cases_eq, cases_lt}
 use Rattle.std.proofs.lemmas.List.Elements.{Contains-append_left, Contains-push, Contains-push_cases}
 use Rattle.scan_core.specs.Box.{cell_count}
@@ -12,11 +13,13 @@ use Rattle.light_flood.specs.Spreading.{waiting_at, IsWaiting, IsRaised, Spreads
 
 -- ---- paths
 
+-- a path and one from its end are a path
 pub path_onward : {cave : Cave} {a b c m n : ℕ} → Path cave a b m → Path cave b c n → Path cave a c (m + n)
 path_onward {cave = cave} {a = a} {c = c} {m = m} p (start h) = subst (λ (k : ℕ). Path cave a c k) (omega arith) p
 path_onward {cave = cave} {a = a} {c = c} {m = m} p (onward {before = b} {cost = k} q to n) =
     subst (λ (j : ℕ). Path cave a c j) (omega arith) (onward (path_onward p q) to n)
 
+-- a path begins in the box
 pub source_inside : {cave : Cave} {a c n : ℕ} → Path cave a c n → a < cell_count cave.size
 source_inside (start h) = h
 source_inside (onward p to n) = source_inside p
@@ -39,14 +42,16 @@ spread_on cave f g h first second cell = elim (second cell) [
 ]
 
 -- light in the box is brought from some cell
-pub spread_brought : (cave : Cave) (f g : ℕ → ℕ) (cell : ℕ) → Spreads cave f g → cell < cell_count cave.size → (source : ℕ) × BringsFrom cave source (f source) cell (g cell)
+pub spread_brought : (cave : Cave) (f g : ℕ → ℕ) (cell : ℕ) → Spreads cave f g → cell < cell_count cave.size
+    → (source : ℕ) × BringsFrom cave source (f source) cell (g cell)
 spread_brought cave f g cell spreads h = elim (spreads cell) [
   | inl same ↦ (cell, (0, start h, omega (arith, same)))
   | inr b ↦ b
 ]
 
 -- beyond the box nothing changes
-pub spread_outside : (cave : Cave) (f g : ℕ → ℕ) (cell : ℕ) → Spreads cave f g → cell_count cave.size ≤ cell → g cell ≡ f cell
+pub spread_outside : (cave : Cave) (f g : ℕ → ℕ) (cell : ℕ) → Spreads cave f g → cell_count cave.size ≤ cell
+    → g cell ≡ f cell
 spread_outside cave f g cell spreads past = elim (spreads cell) [
   | inl same ↦ same
   | inr b ↦ (let inside = path_end_inside b.1.1 in absurd (omega arith))
@@ -54,19 +59,27 @@ spread_outside cave f g cell spreads past = elim (spreads cell) [
 
 -- ---- one neighbour is raised
 
+-- entering a cell costs at least one
 pub entering_pos : (cave : Cave) (cell : ℕ) → 0 < entering_cost cave cell
 entering_pos cave cell = omega arith
 
-pub raised_spreads : (cave : Cave) (f g : ℕ → ℕ) (from to : ℕ) → AreNeighbours cave.size from to → entering_cost cave to ≤ f from → IsRaised f to (f from - entering_cost cave to) g → Spreads cave f g
+-- a neighbour raised to what the cell's light brings has it by a path
+pub raised_spreads : (cave : Cave) (f g : ℕ → ℕ) (from to : ℕ) → AreNeighbours cave.size from to
+    → entering_cost cave to ≤ f from → IsRaised f to (f from - entering_cost cave to) g → Spreads cave f g
 raised_spreads cave f g from to shared enough raised cell = elim (cases_eq cell to) [
   | inl e ↦ (let here : g cell ≡ f from - entering_cost cave to = ap g e ∙ raised.raised in
-      let path : Path cave from cell (0 + entering_cost cave to) = subst (λ (c : ℕ). Path cave from c (0 + entering_cost cave to)) (sym e) (onward (start shared.inside) to shared) in
+      let path : Path cave from cell (0 + entering_cost cave to) =
+      subst (λ (c : ℕ). Path cave from c (0 + entering_cost cave to)) (sym e)
+      (onward (start shared.inside) to shared) in
       inr (from, (0 + entering_cost cave to, path, omega (arith, here))))
   | inr ne ↦ inl (raised.others cell ne)
 ]
 
-pub raised_flood : (cave : Cave) (f g : ℕ → ℕ) (waiting next : List (List ℕ)) (passed waits to brought : ℕ) → to < cell_count cave.size → IsFlood cave passed waits f waiting
-    → brought < passed → brought ≤ 15 → f to ≤ brought → IsRaised f to brought g → IsWaiting waiting brought (waiting_at waiting brought ++ to ∷ []) next
+-- a cell raised to a level at which it waits keeps the flood
+pub raised_flood : (cave : Cave) (f g : ℕ → ℕ) (waiting next : List (List ℕ)) (passed waits to brought : ℕ)
+    → to < cell_count cave.size → IsFlood cave passed waits f waiting
+    → brought < passed → brought ≤ 15 → f to ≤ brought → IsRaised f to brought g → IsWaiting waiting brought
+    (waiting_at waiting brought ++ to ∷ []) next
     → IsFlood cave passed waits g next
 raised_flood cave f g waiting next passed waits to brought to_in flood under low higher raised pushed = record {
   low = λ cell. (elim (cases_eq cell to) [
@@ -81,14 +94,20 @@ raised_flood cave f g waiting next passed waits to brought to_in flood under low
   ]);
   awaited = λ cell inside lit below. (elim (cases_eq cell to) [
     | inl e ↦ (let here : g cell ≡ brought = ap g e ∙ raised.raised in
-        let at : waiting_at next (g cell) ≡ waiting_at waiting brought ++ to ∷ [] = ap (waiting_at next) here ∙ pushed.here in
-        subst (λ (cells : List ℕ). Contains cells cell) (sym at) (subst (Contains (waiting_at waiting brought ++ to ∷ [])) (sym e) (Contains-push (waiting_at waiting brought) to)))
+        let at : waiting_at next (g cell) ≡ waiting_at waiting brought ++ to ∷ [] = ap (waiting_at next) here
+        ∙ pushed.here in
+        subst (λ (cells : List ℕ). Contains cells cell) (sym at)
+        (subst (Contains (waiting_at waiting brought ++ to ∷ [])) (sym e)
+        (Contains-push (waiting_at waiting brought) to)))
     | inr ne ↦ (let same = raised.others cell ne in
-        let old : Contains (waiting_at waiting (g cell)) cell = subst (λ (level : ℕ). Contains (waiting_at waiting level) cell) (sym same) (flood.awaited cell inside (omega (arith, same)) (omega (arith, same))) in
+        let old : Contains (waiting_at waiting (g cell)) cell =
+        subst (λ (level : ℕ). Contains (waiting_at waiting level) cell) (sym same)
+        (flood.awaited cell inside (omega (arith, same)) (omega (arith, same))) in
         kept (g cell) cell old)
   ]);
   inside = λ level cell has. (elim (cases_eq level brought) [
-    | inl e ↦ (let there : Contains (waiting_at waiting brought ++ to ∷ []) cell = subst (λ (cells : List ℕ). Contains cells cell) (ap (waiting_at next) e ∙ pushed.here) has in
+    | inl e ↦ (let there : Contains (waiting_at waiting brought ++ to ∷ []) cell =
+        subst (λ (cells : List ℕ). Contains cells cell) (ap (waiting_at next) e ∙ pushed.here) has in
         elim (Contains-push_cases (waiting_at waiting brought) to cell there) [
           | inl old ↦ flood.inside brought cell old
           | inr same ↦ subst (λ (c : ℕ). c < cell_count cave.size) same to_in
@@ -99,31 +118,38 @@ raised_flood cave f g waiting next passed waits to brought to_in flood under low
   where
     rises : (cell : ℕ) → f cell ≤ g cell
     rises cell = elim (cases_eq cell to) [
-      | inl e ↦ (let here : g cell ≡ brought = ap g e ∙ raised.raised in let was : f cell ≡ f to = ap f e in omega (arith, here, was))
+      | inl e ↦ (let here : g cell ≡ brought = ap g e ∙ raised.raised in let was : f cell ≡ f to = ap f e in
+          omega (arith, here, was))
       | inr ne ↦ omega (arith, raised.others cell ne)
     ]
 
     kept : (level cell : ℕ) → Contains (waiting_at waiting level) cell → Contains (waiting_at next level) cell
     kept level cell has = elim (cases_eq level brought) [
-      | inl e ↦ subst (λ (l : ℕ). Contains (waiting_at next l) cell) (sym e) (subst (λ (cells : List ℕ). Contains cells cell) (sym pushed.here)
-          (Contains-append_left (waiting_at waiting brought) (to ∷ []) cell (subst (λ (l : ℕ). Contains (waiting_at waiting l) cell) e has)))
+      | inl e ↦ subst (λ (l : ℕ). Contains (waiting_at next l) cell) (sym e)
+          (subst (λ (cells : List ℕ). Contains cells cell) (sym pushed.here)
+          (Contains-append_left (waiting_at waiting brought) (to ∷ []) cell
+          (subst (λ (l : ℕ). Contains (waiting_at waiting l) cell) e has)))
       | inr ne ↦ subst (λ (cells : List ℕ). Contains cells cell) (sym (pushed.others level ne)) has
     ]
 
 -- ---- the end
 
 -- level 1 has nothing to pass on
-pub passed_from_1 : (cave : Cave) (first levels : ℕ → ℕ) → IsSettled cave 1 first levels → (before cell : ℕ) → AreNeighbours cave.size before cell → IsPassed cave levels before cell
+pub passed_from_1 : (cave : Cave) (first levels : ℕ → ℕ) → IsSettled cave 1 first levels → (before cell : ℕ)
+    → AreNeighbours cave.size before cell → IsPassed cave levels before cell
 passed_from_1 cave first levels s before cell shared = elim (cases_lt 1 (levels before)) [
   | inl lt ↦ s.settled before cell shared lt
   | inr le ↦ (let cost = entering_pos cave cell in omega arith)
 ]
 
 -- a path brings what the flood has, as long as it is at least the level at which the flood stopped
-pub path_lit : (cave : Cave) (least : ℕ) (first levels : ℕ → ℕ) (source cell cost level : ℕ) → IsSettled cave least first levels → Path cave source cell cost
+pub path_lit : (cave : Cave) (least : ℕ) (first levels : ℕ → ℕ) (source cell cost level : ℕ)
+    → IsSettled cave least first levels → Path cave source cell cost
     → level + cost ≤ first source → least ≤ level → level ≤ levels cell
-path_lit cave least first levels source cell cost level s (start h) enough above = (let up = s.covered source in omega arith)
+path_lit cave least first levels source cell cost level s (start h) enough above =
+    (let up = s.covered source in omega arith)
 path_lit cave least first levels source cell cost level s (onward {before = b} {cost = c} p to n) enough above =
     let pos = entering_pos cave to in
-    let there = path_lit cave least first levels source b c (level + entering_cost cave to) s p (omega arith) (omega arith) in
+    let there = path_lit cave least first levels source b c (level + entering_cost cave to) s p (omega arith)
+    (omega arith) in
     let passed : IsPassed cave levels b to = s.settled b to n (omega arith) in omega arith

@@ -1,5 +1,7 @@
 -- Levels before light spreads, and what they come to.
-use Rattle.std.proofs.Common.{◌≡◌, ◌≢◌, ℕ, ◌+◌, ◌<◌, ◌≤◌, ◌⊎◌, List, [], ◌∷◌, ◌++◌, length, set, slice_index, Contains, sym, ap, subst, ◌∙◌, arith, inl, inr, length-set, get_or-set_same, get_or-set_other, eq-zero-or-pos}
+use Rattle.std.proofs.Common.{◌≡◌, ◌≢◌, ℕ, ◌+◌, ◌<◌, ◌≤◌, ◌⊎◌, List, [], ◌∷◌, ◌++◌, length, set, slice_index}
+use Rattle.std.proofs.Common.{Contains, sym, ap, subst, ◌∙◌, arith, inl, inr, length-set, get_or-set_same}
+use Rattle.std.proofs.Common.{get_or-set_other, eq-zero-or-pos}
 use Rattle.std.proofs.lemmas.Bool.{cases_eq, cases_lt}
 use Rattle.std.proofs.lemmas.List.{get_or_past}
 use Rattle.std.proofs.lemmas.List.Elements.{Contains-append_left, Contains-push, Contains-push_cases}
@@ -12,6 +14,7 @@ use Rattle.lit_lists.specs.Seeded.{AreSeeded, AreUnlit, AreTaken, ArePutOut}
 use Rattle.lit_lists.specs.Lists.{AreLitCells}
 use Rattle.lit_lists.proofs.RelaxLemmas.{source_inside}
 
+-- no cell is in the empty list
 none_in : {A : Type 0} (cell : ℕ) → Contains [] cell → A
 none_in cell h = absurd (omega (arith, h.1))
 
@@ -22,7 +25,9 @@ pub record Seeding (cave : Cave) (count : ℕ) (levels queue : List ℕ) : Type 
   pub lit : (cell : ℕ) → cell < count → 0 < (class_at cave cell).emission → Contains queue cell
   pub inside : (cell : ℕ) → Contains queue cell → cell < count
 
-pub seeding_none : (cave : Cave) (levels queue : List ℕ) → length levels ≡ cell_count cave.size → queue ≡ [] → Seeding cave 0 levels queue
+-- before the first cell none is seeded
+pub seeding_none : (cave : Cave) (levels queue : List ℕ) → length levels ≡ cell_count cave.size → queue ≡ []
+    → Seeding cave 0 levels queue
 seeding_none cave levels queue whole e = record {
   whole = whole;
   each = λ cell h. absurd (omega arith);
@@ -30,16 +35,21 @@ seeding_none cave levels queue whole e = record {
   inside = λ cell has. none_in cell (subst (λ (l : List ℕ). Contains l cell) e has);
 }
 
+-- a number up to one more is below or the one
 split : (cell count : ℕ) → cell < count + 1 → (cell < count) ⊎ (cell ≡ count)
 split cell count h = elim (cases_lt cell count) [ inl lt ↦ inl lt | inr le ↦ inr (omega arith) ]
 
-module _ (cave : Cave) (count : ℕ) (levels queue : List ℕ) (s : Seeding cave count levels queue) (h : count < cell_count cave.size) (emission : ℕ) (is : emission ≡ (class_at cave count).emission) where
-  each_now : (cell : ℕ) → cell < count + 1 → slice_index (set levels count emission) cell ≡ (class_at cave cell).emission
+module _ (cave : Cave) (count : ℕ) (levels queue : List ℕ) (s : Seeding cave count levels queue)
+    (h : count < cell_count cave.size) (emission : ℕ) (is : emission ≡ (class_at cave count).emission) where
+  each_now : (cell : ℕ) → cell < count + 1
+      → slice_index (set levels count emission) cell ≡ (class_at cave cell).emission
   each_now cell lt = elim (split cell count lt) [
     | inl old ↦ get_or-set_other levels count cell emission 0 (λ e. omega arith) ∙ s.each cell old
-    | inr e ↦ ap (slice_index (set levels count emission)) e ∙ get_or-set_same levels count emission 0 (omega (arith, s.whole)) ∙ is ∙ ap (λ (c : ℕ). (class_at cave c).emission) (sym e)
+    | inr e ↦ ap (slice_index (set levels count emission)) e ∙ get_or-set_same levels count emission 0
+        (omega (arith, s.whole)) ∙ is ∙ ap (λ (c : ℕ). (class_at cave c).emission) (sym e)
   ]
 
+  -- the next cell is seeded with its emission, and queued
   pub seeding_lit : Seeding cave (count + 1) (set levels count emission) (queue ++ count ∷ [])
   seeding_lit = record {
     whole = length-set levels count emission ∙ s.whole;
@@ -54,38 +64,48 @@ module _ (cave : Cave) (count : ℕ) (levels queue : List ℕ) (s : Seeding cave
     ]);
   }
 
+  -- one with none isn't queued
   pub seeding_unlit : emission ≡ 0 → Seeding cave (count + 1) (set levels count emission) queue
   seeding_unlit zero = record {
     whole = length-set levels count emission ∙ s.whole;
     each = each_now;
     lit = λ cell lt p. (elim (split cell count lt) [
       | inl old ↦ s.lit cell old p
-      | inr e ↦ (let none : (class_at cave cell).emission ≡ 0 = ap (λ (c : ℕ). (class_at cave c).emission) e ∙ sym is ∙ zero in absurd (omega arith))
+      | inr e ↦ (let none : (class_at cave cell).emission ≡ 0 = ap (λ (c : ℕ). (class_at cave c).emission) e ∙ sym is
+          ∙ zero in absurd (omega arith))
     ]);
     inside = λ cell has. (let lt = s.inside cell has in omega arith);
   }
 
-pub seeding_all : (cave : Cave) (count : ℕ) (levels queue : List ℕ) → IsSound cave → count ≡ cell_count cave.size → Seeding cave count levels queue → AreSeeded cave levels queue
+-- after the last cell all are seeded
+pub seeding_all : (cave : Cave) (count : ℕ) (levels queue : List ℕ) → IsSound cave → count ≡ cell_count cave.size
+    → Seeding cave count levels queue → AreSeeded cave levels queue
 seeding_all cave count levels queue sound e s = record {
   each = λ cell h. s.each cell (omega arith);
   queued = record {
     lit = λ cell p. (elim (cases_lt cell (cell_count cave.size)) [
       | inl lt ↦ (let now = s.each cell (omega arith) in s.lit cell (omega arith) (omega arith))
-      | inr le ↦ (let none : slice_index levels cell ≡ 0 = get_or_past levels cell 0 (omega (arith, s.whole)) in absurd (omega arith))
+      | inr le ↦ (let none : slice_index levels cell ≡ 0 = get_or_past levels cell 0 (omega (arith, s.whole)) in
+          absurd (omega arith))
     ]);
     inside = λ cell has. (let lt = s.inside cell has in omega arith);
   };
   low = λ cell. (elim (cases_lt cell (cell_count cave.size)) [
     | inl lt ↦ (let now = s.each cell (omega arith) in let f = (sound.classed cell).faint in omega arith)
-    | inr le ↦ (let none : slice_index levels cell ≡ 0 = get_or_past levels cell 0 (omega (arith, s.whole)) in omega arith)
+    | inr le ↦ (let none : slice_index levels cell ≡ 0 = get_or_past levels cell 0 (omega (arith, s.whole)) in
+        omega arith)
   ]);
 }
 
-pub seeded : (cave : Cave) (levels queue : List ℕ) → AreSeeded cave levels queue → IsSeeded cave (slice_index levels) queue
+-- cells with their emissions are where a relaxation begins
+pub seeded : (cave : Cave) (levels queue : List ℕ) → AreSeeded cave levels queue
+    → IsSeeded cave (slice_index levels) queue
 seeded cave levels queue k = record { low = k.low; queued = k.queued }
 
 -- levels that settled from the emissions are those of light
-pub settled_levels : (cave : Cave) (first levels queue next : List ℕ) → AreSeeded cave first queue → IsSettled cave (slice_index first) (slice_index levels) next → length levels ≡ cell_count cave.size → AreLevelsOf cave levels
+pub settled_levels : (cave : Cave) (first levels queue next : List ℕ) → AreSeeded cave first queue
+    → IsSettled cave (slice_index first) (slice_index levels) next → length levels ≡ cell_count cave.size
+    → AreLevelsOf cave levels
 settled_levels cave first levels queue next glow s whole = record {
   whole = whole;
   each = λ cell h. settled_level cave (slice_index levels) cell settled h;
@@ -93,25 +113,32 @@ settled_levels cave first levels queue next glow s whole = record {
   where
     settled : AreSettled cave (λ source. (class_at cave source).emission) (slice_index levels)
     settled = record {
-      brought_there = λ cell h lit. (let b = s.brought_there cell h lit in let from = glow.each b.0 (source_inside b.1.1) in (b.0, (b.1.0, b.1.1, omega (arith, b.1.2))));
+      brought_there = λ cell h lit. (let b = s.brought_there cell h lit in
+          let from = glow.each b.0 (source_inside b.1.1) in (b.0, (b.1.0, b.1.1, omega (arith, b.1.2))));
       covered = λ cell h. (let up = s.covered cell in let e = glow.each cell h in omega arith);
       settled = s.settled;
     }
 
 -- ---- one torch
 
-pub torch_seeded : (cave : Cave) (levels : List ℕ) (place light : ℕ) → AreUnlit levels → place < cell_count cave.size → light ≤ 15 → (queue : List ℕ) → queue ≡ [] ++ place ∷ [] → IsSeeded cave (slice_index (set levels place light)) queue
+-- a torch alone, with no other light, is where a relaxation begins
+pub torch_seeded : (cave : Cave) (levels : List ℕ) (place light : ℕ) → AreUnlit levels → place < cell_count cave.size
+    → light ≤ 15 → (queue : List ℕ) → queue ≡ [] ++ place ∷ []
+    → IsSeeded cave (slice_index (set levels place light)) queue
 torch_seeded cave levels place light unlit inside low queue e = record {
   low = λ cell. (elim (cases_eq cell place) [
     | inl same ↦ (elim (cases_lt place (length levels)) [
-      | inl lt ↦ (let here : slice_index (set levels place light) cell ≡ light = ap (slice_index (set levels place light)) same ∙ get_or-set_same levels place light 0 lt in omega arith)
-      | inr le ↦ (let none : slice_index (set levels place light) cell ≡ 0 = get_or_past (set levels place light) cell 0 (omega (arith, length-set levels place light)) in omega arith)
+      | inl lt ↦ (let here : slice_index (set levels place light) cell ≡ light =
+          ap (slice_index (set levels place light)) same ∙ get_or-set_same levels place light 0 lt in omega arith)
+      | inr le ↦ (let none : slice_index (set levels place light) cell ≡ 0 = get_or_past (set levels place light) cell 0
+          (omega (arith, length-set levels place light)) in omega arith)
     ])
     | inr ne ↦ (let o = other cell ne in omega arith)
   ]);
   queued = record {
     lit = λ cell p. (elim (cases_eq cell place) [
-      | inl same ↦ subst (λ (l : List ℕ). Contains l cell) (sym e) (subst (Contains ([] ++ place ∷ [])) (sym same) (Contains-push [] place))
+      | inl same ↦ subst (λ (l : List ℕ). Contains l cell) (sym e)
+          (subst (Contains ([] ++ place ∷ [])) (sym same) (Contains-push [] place))
       | inr ne ↦ (let o = other cell ne in absurd (omega arith))
     ]);
     inside = λ cell has. (elim (Contains-push_cases [] place cell (subst (λ (l : List ℕ). Contains l cell) e has)) [
@@ -124,8 +151,10 @@ torch_seeded cave levels place light unlit inside low queue e = record {
   other cell ne = get_or-set_other levels place cell light 0 ne ∙ unlit.each cell
 
 -- what settled from one torch: the cells with what is needed are those that it lights
-pub torch_lights : (cave : Cave) (start levels queue cells : List ℕ) (place : ℕ) → 0 < cave.rule.need → AreUnlit start → length start ≡ cell_count cave.size → place < cell_count cave.size
-    → IsSettled cave (slice_index (set start place 14)) (slice_index levels) queue → AreTaken cave.rule.need levels queue cells → AreLitCells cave place cells
+pub torch_lights : (cave : Cave) (start levels queue cells : List ℕ) (place : ℕ) → 0 < cave.rule.need → AreUnlit start
+    → length start ≡ cell_count cave.size → place < cell_count cave.size
+    → IsSettled cave (slice_index (set start place 14)) (slice_index levels) queue
+    → AreTaken cave.rule.need levels queue cells → AreLitCells cave place cells
 torch_lights cave start levels queue cells place pos unlit whole inside s t = record {
   once = t.once;
   exact = λ cell. (
@@ -146,19 +175,26 @@ torch_lights cave start levels queue cells place pos unlit whole inside s t = re
     settled : AreSettled cave (slice_index (set start place 14)) (slice_index levels)
     settled = record { brought_there = s.brought_there; covered = λ c i. s.covered c; settled = s.settled }
 
-    from_torch : (cell from cost : ℕ) → Path cave from cell cost → slice_index levels cell + cost ≤ slice_index (set start place 14) from → 0 < slice_index levels cell → (c : ℕ) × Path cave place cell c × (slice_index levels cell + c ≤ 14)
+    from_torch : (cell from cost : ℕ) → Path cave from cell cost
+        → slice_index levels cell + cost ≤ slice_index (set start place 14) from → 0 < slice_index levels cell
+        → (c : ℕ) × Path cave place cell c × (slice_index levels cell + c ≤ 14)
     from_torch cell from cost p le lit = elim (cases_eq from place) [
-      | inl e ↦ (let same : slice_index (set start place 14) from ≡ 14 = ap (slice_index (set start place 14)) e ∙ here in (cost, subst (λ (c : ℕ). Path cave c cell cost) e p, omega arith))
-      | inr ne ↦ (let none : slice_index (set start place 14) from ≡ 0 = get_or-set_other start place from 14 0 ne ∙ unlit.each from in absurd (omega arith))
+      | inl e ↦ (let same : slice_index (set start place 14) from ≡ 14 = ap (slice_index (set start place 14)) e
+          ∙ here in (cost, subst (λ (c : ℕ). Path cave c cell cost) e p, omega arith))
+      | inr ne ↦ (let none : slice_index (set start place 14) from ≡ 0 = get_or-set_other start place from 14 0 ne
+          ∙ unlit.each from in absurd (omega arith))
     ]
 
-    brings : (cell : ℕ) → cell < cell_count cave.size → cave.rule.need ≤ slice_index levels cell → BringsFrom cave place 14 cell cave.rule.need
+    brings : (cell : ℕ) → cell < cell_count cave.size → cave.rule.need ≤ slice_index levels cell
+        → BringsFrom cave place 14 cell cave.rule.need
     brings cell h enough =
         let b = s.brought_there cell h (omega arith) in
         let f = from_torch cell b.0 b.1.0 b.1.1 b.1.2 (omega arith) in
         (f.0, f.1, omega (arith, f.2))
 
-pub out_again : (cave : Cave) (levels queue now : List ℕ) → Queues cave (slice_index levels) queue → ArePutOut levels queue now → ((cell : ℕ) → Contains queue cell ⊎ (¬ Contains queue cell)) → AreUnlit now
+-- put out again, the cells of a queue that has all light leave none
+pub out_again : (cave : Cave) (levels queue now : List ℕ) → Queues cave (slice_index levels) queue
+    → ArePutOut levels queue now → ((cell : ℕ) → Contains queue cell ⊎ (¬ Contains queue cell)) → AreUnlit now
 out_again cave levels queue now q p or_not = record {
   each = λ cell. (elim (or_not cell) [
     | inl has ↦ p.out cell has

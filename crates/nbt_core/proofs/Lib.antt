@@ -10,5 +10,12 @@ pub mod LeafLaws
 pub mod TreeLaws
 pub mod FaultLaws
 pub mod RootLaws
+pub mod SkipLemmas
+pub mod KindLemmas
+pub mod MemberLemmas
+pub mod ItemLemmas
+pub mod ViewLemmas
+pub mod NextLemmas
 pub mod ReadRoot
+pub mod ViewRoot
 pub mod Uniqueness

@@ -10,4 +10,7 @@ pub mod Answer
 pub mod Reading
 pub mod LeafReading
 pub mod TreeReading
+pub mod Skipping
+pub mod Parts
+pub mod Borrowed
 pub mod Texts

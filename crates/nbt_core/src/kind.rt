@@ -1,4 +1,4 @@
-ghost use Rattle.std.specs.Prelude.{◌≡◌};
+ghost use Rattle.std.specs.Prelude.{◌≡◌, ◌↔◌, IsTrue};
 ghost use Rattle.nbt_core.specs.Ids.{kind_named};
 
 /// What a payload holds.
@@ -7,6 +7,15 @@ pub enum Kind {
     Leaf(LeafKind),
     List,
     Compound,
+}
+
+impl Kind {
+    /// Whether both are one kind.
+    pub fn is_same(self, other: Kind) -> bool
+        ensures { IsTrue result ↔ (self ≡ other) }
+    {
+        self == other
+    }
 }
 
 /// The kinds whose values hold no other values.

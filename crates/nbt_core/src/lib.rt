@@ -1,8 +1,11 @@
-//! NBT bytes as a tree of tags (Minecraft Wiki, "NBT format").
+//! NBT bytes as a tree of tags, or seen where they lie (Minecraft Wiki, "NBT format").
 //!
 //! [`read_root`] gives the value of the root that the bytes begin with, or the first fault in them,
 //! with its place. It returns on all bytes: lists and compounds nest at most 512 deep, and no room
 //! is made for what the bytes only claim to hold.
+//!
+//! [`root_view`] judges the same bytes in the same way and takes no memory: its [`View`] borrows them, and reads the
+//! parts of the value where they are asked for.
 //!
 //! ```rust
 //! let root = read_root(rt.alloc(), &bytes)?;
@@ -12,17 +15,26 @@
 //! ```
 #![tactic(auto)]
 
+mod entries_view;
 mod fault;
+mod items_view;
+mod judge;
 mod kind;
 pub mod laws;
 mod leaf;
 mod reader;
 mod root;
 mod sequence;
+mod skip;
 mod tag;
 mod tree;
+mod view;
 
+pub use entries_view::EntriesView;
 pub use fault::NbtFault;
+pub use items_view::ItemsView;
+pub use judge::root_view;
 pub use root::read_root;
 pub use sequence::Sequence;
 pub use tag::{Entries, Tag, Tags};
+pub use view::View;

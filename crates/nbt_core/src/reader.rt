@@ -1,4 +1,5 @@
-ghost use Rattle.std.specs.Prelude.{◌≡◌, ◌≤◌, ◌<◌, ◌*◌, ◌-◌, length, IfOk};
+ghost use Rattle.std.specs.Prelude.{◌≡◌, ◌≢◌, ◌≤◌, ◌<◌, ◌*◌, ◌-◌, length, IfOk, IfErr};
+ghost use Rattle.nbt_core.specs.declared.fault.NbtFault.{NbtFault};
 ghost use Rattle.std.specs.Int.{w8, w16, w64};
 ghost use Rattle.nbt_core.specs.Reading.{Gives, run_at, signed_at, int_at, text_at, kind_at, count_at};
 ghost use Rattle.nbt_core.specs.LeafReading.{counted_at};
@@ -33,6 +34,7 @@ impl<'a> Reader<'a> {
         ensures end { self.new.end ≡ self.old.end }
         ensures shrinks { length self.new.rest.now ≤ length self.old.rest.now }
         ensures length { IfOk result (λ run. length run.now ≡ n) }
+        ensures no_memory { IfErr result (λ e. e ≢ NbtFault.OutOfMemory) }
     {
         if self.rest.len() < n {
             return Err(NbtFault::Truncated { at: self.end });
@@ -84,6 +86,7 @@ impl<'a> Reader<'a> {
             (int_at self.old.end self.old.rest.now) }
         ensures end { self.new.end ≡ self.old.end }
         ensures shrinks { length self.new.rest.now ≤ length self.old.rest.now }
+        ensures no_memory { IfErr result (λ e. e ≢ NbtFault.OutOfMemory) }
     {
         Ok(BigEndian::read_i32(self.run(4)?))
     }
@@ -106,6 +109,7 @@ impl<'a> Reader<'a> {
             (count_at self.old.end self.old.rest.now) }
         ensures end { self.new.end ≡ self.old.end }
         ensures shrinks { length self.new.rest.now ≤ length self.old.rest.now }
+        ensures no_memory { IfErr result (λ e. e ≢ NbtFault.OutOfMemory) }
     {
         let count = self.int()?;
         Ok(if count > 0 { count as u32 } else { 0 })
@@ -120,6 +124,7 @@ impl<'a> Reader<'a> {
         ensures end { self.new.end ≡ self.old.end }
         ensures shrinks { length self.new.rest.now ≤ length self.old.rest.now }
         ensures length { IfOk result (λ r. length r.1.now ≡ size * r.0) }
+        ensures no_memory { IfErr result (λ e. e ≢ NbtFault.OutOfMemory) }
     {
         let at = self.place();
         let count = self.int()?;
@@ -137,6 +142,7 @@ impl<'a> Reader<'a> {
             (text_at self.old.end self.old.rest.now) }
         ensures end { self.new.end ≡ self.old.end }
         ensures shrinks { length self.new.rest.now ≤ length self.old.rest.now }
+        ensures no_memory { IfErr result (λ e. e ≢ NbtFault.OutOfMemory) }
     {
         let size = BigEndian::read_u16(self.run(2)?);
         self.run(size as usize)
@@ -150,6 +156,7 @@ impl<'a> Reader<'a> {
         ensures end { self.new.end ≡ self.old.end }
         ensures shrinks { length self.new.rest.now ≤ length self.old.rest.now }
         ensures takes_one { IfOk result (λ _. length self.new.rest.now < length self.old.rest.now) }
+        ensures no_memory { IfErr result (λ e. e ≢ NbtFault.OutOfMemory) }
     {
         let [id, rest @ ..] = self.rest else {
             return Err(NbtFault::Truncated { at: self.end });

@@ -13,7 +13,7 @@ use std::alloc::{AllocError, Global};
 
 /// How deep lists and compounds nest at most, the root being the first. This limit is the project's
 /// own.
-const DEEPEST: u16 = 512;
+pub const DEEPEST: u16 = 512;
 
 /// Adds an entry. Where it is the first, room is made for two: as many has a block of a structure, and a file has more
 /// blocks than anything else.
@@ -63,7 +63,7 @@ impl Reader<'_> {
     }
 
     /// The room that is left inside a container that begins here.
-    fn one_deeper(&self, room: u16) -> Result<u16, NbtFault>
+    pub fn one_deeper(&self, room: u16) -> Result<u16, NbtFault>
         ensures ok { IfOk result (λ less. room ≡ less + 1) }
         ensures too_deep { IfErr result (λ e. (room ≡ 0)
             × (e ≡ NbtFault.TooDeep (self.now.end - length self.now.rest.now))) }

@@ -11,6 +11,7 @@ use Rattle.piece_deque.proofs.TotalLemmas.{total_two, total_only, pushed_weight,
 use Rattle.piece_deque.proofs.StepLemmas.{counts}
 use Rattle.piece_deque.proofs.ShareLemmas.{not_first}
 
+-- a pass that is alone at an empty deque knows that all pushed was taken
 pub all_taken : (v : Dealt) → IsAlone v → WasEmpty v → AllTaken v
 all_taken v alone was h =
     let passes = was.passes in

@@ -12,6 +12,7 @@ use Rattle.piece_deque.proofs.TotalLemmas.{total_set, total_snoc, total_two, wei
 use Rattle.piece_deque.proofs.TotalLemmas.{false_of}
 use Rattle.piece_deque.proofs.StepLemmas.{counts, fit_set}
 
+-- an unset flag isn't set
 off : false ≡ true → ⊥
 off e = true≢false (sym e)
 
@@ -20,6 +21,7 @@ pub not_first : (chief n i j : ℕ) (v u : Dealt) → v.first ≡ true → Fits 
     → j ≢ i → u.first ≡ true → ⊥
 not_first chief n i j v u first mine theirs apart p = apart ((theirs.2 p).0 ∙ sym (mine.2 first).0)
 
+-- the owner's pass may be split, and the balance stays
 pub forks : (port : ℕ) (v : Dealt) → v.first ≡ true → v.spent ≡ false
     → Forks Balances port v (one_more_out v) thief_pass
 forks port v first live items passes k at =
@@ -48,6 +50,7 @@ forks port v first live items passes k at =
           (at_snoc part thief_pass u j e);
     }
 
+-- a pass that comes back may be merged, and the balance stays
 pub merges : (port : ℕ) (v : Dealt) (other : ℕ) (u : Dealt) → v.first ≡ true → v.spent ≡ false
     → u.spent ≡ false → Merges Balances port v other u (together v u) nobody
 merges port v other u first live live2 items passes k at apart there =

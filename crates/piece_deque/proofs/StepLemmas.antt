@@ -15,6 +15,7 @@ use Rattle.piece_deque.proofs.TotalLemmas.{total_set, weigh_append, pushed_weigh
 abbrev pub counts : Dealt → ℕ
 counts pass = one_if_unspent pass.spent
 
+-- passes fit where the changed one fits and the others still do
 pub fit_set : (chief n : ℕ) (passes : List Dealt) (i : ℕ) (w : Dealt) → Fits chief n i w
     → ((j : ℕ) (u : Dealt) → j ≢ i → get_elem? passes j ≡ some u → Fits chief n j u)
     → AllFit chief n (set passes i w)
@@ -23,9 +24,11 @@ fit_set chief n passes i w mine others j u e = ⊎_elim
     (λ (x : (j ≢ i) × (get_elem? passes j ≡ some u)). others j u x.0 x.1)
     (at_set passes i j w u e)
 
+-- a pass fits the same number
 fits_still : (chief n m j : ℕ) (u : Dealt) → m ≡ n → Fits chief n j u → Fits chief m j u
 fits_still chief n m j u same h = (h.0, h.1, λ p. ((h.2 p).0, same ∙ (h.2 p).1))
 
+-- the owner's push keeps the balance
 pub pushes : (port : ℕ) (v : Dealt) (x : Subproblem) → v.first ≡ true
     → Pushes Balances port v (x ∷ []) (λ w. w ≡ pushed_too v (x ∷ []))
 pushes port v x first items passes k at =
@@ -49,6 +52,7 @@ pushes port v x first items passes k at =
       refl,
     )
 
+-- a take by any pass keeps the balance
 pub takes : (port : ℕ) (v : Dealt) → v.spent ≡ false → Takes Balances port v 1 (λ xs w. w ≡ took_too v xs)
 takes port v live xs items passes _ _ k at =
     let w : Dealt = took_too v xs in

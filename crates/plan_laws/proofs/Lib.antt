@@ -1,3 +1,6 @@
 pub mod PartLemmas
 pub mod OrderedLemmas
 pub mod AcceptedLemmas
+mod NumberLemmas
+mod TreeLemmas
+mod TextLemmas

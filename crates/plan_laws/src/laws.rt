@@ -1,10 +1,35 @@
 //! Laws over the definitions alone.
-ghost use Rattle.std.specs.Prelude.{◌≡◌, ℕ, List, length};
+ghost use Rattle.std.specs.Prelude.{◌≡◌, ℕ, List, length, All, Contains};
 ghost use Rattle.cave_model.specs.Cave.{Cave, IsSound, IsWorld};
+ghost use Rattle.cave_model.specs.Coverage.{Agrees, of_cave};
+ghost use Rattle.set_cover.specs.Instance.{Instance, of_instance};
+ghost use Rattle.proof_rules.specs.Certificate.{Certificate};
+ghost use Rattle.proof_rules.specs.Good.{Good};
+ghost use Rattle.proof_rules.specs.Text.{IsTextOf};
+ghost use Rattle.proof_rules.specs.Tree.{Tree};
 ghost use Rattle.proof_check.specs.Accepted.{Accepts, IsBestPlan};
 ghost use Rattle.proof_tree.specs.Planned.{AreBestOf, Plan, certificate_of, certificate_text};
 ghost use Rattle.plan_laws.specs.Best.{AreTorchesOf};
 ghost use Rattle.plan_laws.specs.Bounded.{AreBoundedIn, AreInOrder, Bounded, IsPlanWithin, all_torches, total_floor};
+
+/// A tree that is good over an instance is good over a cave whose places light the same of these cells.
+pub fn good_carries()
+    ensures { (cave : Cave) → (instance : Instance) → (cells chosen barred : List ℕ) → (floor : ℕ) → (tree : Tree)
+        → Agrees (of_instance instance) (of_cave cave) cells → All (Contains instance.places) chosen
+        → Good (of_instance instance) cells chosen barred floor tree
+        → Good (of_cave cave) cells chosen barred floor tree }
+{}
+
+/// A certificate has one text.
+pub fn one_text_a_certificate()
+    ensures { (certificate : Certificate) → (one other : List ℕ) → IsTextOf one certificate
+        → IsTextOf other certificate → one ≡ other }
+{}
+
+/// A text is that of one certificate alone.
+pub fn one_certificate_a_text()
+    ensures { (text : List ℕ) → (one other : Certificate) → IsTextOf text one → IsTextOf text other → one ≡ other }
+{}
 
 /// Covers of all regions together are safe torches, and no safe torches are fewer than all floors together.
 pub fn parts_make_a_plan()

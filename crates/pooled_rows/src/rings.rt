@@ -32,6 +32,16 @@ fn ring() -> [Fill; 3] {
     ]
 }
 
+/// The file of a ring in stone, two cells wide, with over 128 places, of which others dominate some.
+pub(crate) fn wide_ring_bytes(alloc: Global) -> Result<Vec<u8>, AllocError> {
+    let fills = [
+        fill([0, 0, 0], [43, 3, 31], 0),
+        fill([1, 1, 1], [42, 2, 30], 1),
+        fill([3, 1, 3], [40, 2, 28], 0),
+    ];
+    bytes_of(alloc, [44, 4, 32], &fills)
+}
+
 /// The file of a ring in stone.
 pub(crate) fn ring_bytes(alloc: Global) -> Result<Vec<u8>, AllocError> {
     bytes_of(alloc, [10, 4, 10], &ring())

@@ -1,7 +1,9 @@
 -- An accepted certificate names the fewest torches.
-use Rattle.std.proofs.Common.{◌≡◌, ℕ, suc, ◌≤◌, IsTrue, List, [], ◌∷◌, ◌++◌, length, All, Contains, map, refl, sym, ap, subst, ◌∙◌, arith, inl, inr, length-append}
+use Rattle.std.proofs.Common.{◌≡◌, ℕ, suc, ◌≤◌, IsTrue, List, [], ◌∷◌, ◌++◌, length, All, Contains, map, refl, sym}
+use Rattle.std.proofs.Common.{ap, subst, ◌∙◌, arith, inl, inr, length-append}
 use Rattle.std.specs.Prelude.{slice_index_or}
-use Rattle.std.proofs.lemmas.List.Elements.{All-head, All-tail, All-cons, Contains-append_cases, Contains-append_left, Contains-append_right}
+use Rattle.std.proofs.lemmas.List.Elements.{All-head, All-tail, All-cons, Contains-append_cases, Contains-append_left}
+use Rattle.std.proofs.lemmas.List.Elements.{Contains-append_right}
 use Rattle.cave_model.specs.Cave.{Cave, IsSound}
 use Rattle.cave_model.specs.Torches.{is_legal, IsPlace, Lights}
 use Rattle.cave_model.specs.Plan.{Torch, cells_of, AreDistinct, AreLegal, IsSafe}
@@ -11,28 +13,38 @@ use Rattle.cave_model.specs.Coverage.{of_cave}
 use Rattle.cave_model.specs.Coverage.{IsLitBy}
 use Rattle.proof_rules.specs.Good.{Good}
 use Rattle.proof_rules.specs.Certificate.{Section, Certificate, torches_of}
-use Rattle.proof_rules.proofs.ListLemmas.{no_member, cons_cases, later, here, has_or_not, distinct_nil, distinct_cons, distinct_append, no_more}
+use Rattle.proof_rules.proofs.ListLemmas.{no_member, cons_cases, later, here, has_or_not, distinct_nil, distinct_cons}
+use Rattle.proof_rules.proofs.ListLemmas.{distinct_append, no_more}
 use Rattle.proof_rules.proofs.BoundLemmas.{bounds}
 use Rattle.proof_check.specs.Accepted.{AreProved, Accepts, IsBestPlan}
 
 -- ---- hanging
 
-pub hung : (cave : Cave) (cells : List ℕ) → All (IsPlace cave) cells → (torches : List Torch) × (cells_of torches ≡ cells) × AreLegal cave torches
+-- at each of some places a torch can be hung
+pub hung : (cave : Cave) (cells : List ℕ) → All (IsPlace cave) cells
+    → (torches : List Torch) × (cells_of torches ≡ cells) × AreLegal cave torches
 hung cave [] h = ([], refl, λ k d lt. absurd (omega arith))
 hung cave (cell ∷ cells) h =
     let rest = hung cave cells (All-tail (IsPlace cave) cell cells h) in
     let first = All-head (IsPlace cave) cell cells h in
-    let torch : Torch = record { cell = cell; hang = first.0 } in
-    (torch ∷ rest.0, ap (λ (l : List ℕ). cell ∷ l) rest.1, All-cons (λ (t : Torch). IsTrue (is_legal cave t.cell t.hang)) torch rest.0 first.1 rest.2)
+    let torch : Torch = record { cell = cell; hang = first.0 } in (
+      torch ∷ rest.0,
+      ap (λ (l : List ℕ). cell ∷ l) rest.1,
+      All-cons (λ (t : Torch). IsTrue (is_legal cave t.cell t.hang)) torch rest.0 first.1 rest.2,
+    )
 
+-- as many cells as torches
 pub length-cells : (torches : List Torch) → length (cells_of torches) ≡ length torches
 length-cells [] = refl
 length-cells (t ∷ ts) = ap suc (length-cells ts)
 
-legal_places : (cave : Cave) (torches : List Torch) → AreLegal cave torches → (p : ℕ) → Contains (cells_of torches) p → IsPlace cave p
+-- the cells of legal torches are places
+legal_places : (cave : Cave) (torches : List Torch) → AreLegal cave torches → (p : ℕ) → Contains (cells_of torches) p
+    → IsPlace cave p
 legal_places cave [] h p c = no_member p c
 legal_places cave (t ∷ ts) h p c = elim (cons_cases t.cell (cells_of ts) p c) [
-  | inl e ↦ subst (IsPlace cave) e (t.hang, All-head (λ (torch : Torch). IsTrue (is_legal cave torch.cell torch.hang)) t ts h)
+  | inl e ↦ subst (IsPlace cave) e
+      (t.hang, All-head (λ (torch : Torch). IsTrue (is_legal cave torch.cell torch.hang)) t ts h)
   | inr c ↦ legal_places cave ts (All-tail (λ (torch : Torch). IsTrue (is_legal cave torch.cell torch.hang)) t ts h) p c
 ]
 
@@ -45,8 +57,19 @@ pub record Picks (cave : Cave) (places cells picked : List ℕ) : Type 0 where
   pub lighting : (p : ℕ) → Contains picked p → (cell : ℕ) × Contains cells cell × Lights cave p cell
   pub covers : (cell : ℕ) → Contains cells cell → IsLitBy (of_cave cave) picked cell
 
-pub pick : (cave : Cave) (places cells : List ℕ) → ((cell : ℕ) → Contains cells cell → IsLitBy (of_cave cave) places cell) → (picked : List ℕ) × Picks cave places cells picked
-pick cave places [] lit = ([], record { distinct = distinct_nil; inside = λ p h. no_member p h; lighting = λ p h. no_member p h; covers = λ c h. no_member c h })
+-- of places that light all cells, some can be picked that light them, each at least one
+pub pick : (cave : Cave) (places cells : List ℕ)
+    → ((cell : ℕ) → Contains cells cell → IsLitBy (of_cave cave) places cell)
+    → (picked : List ℕ) × Picks cave places cells picked
+pick cave places [] lit = (
+  [],
+  record {
+    distinct = distinct_nil;
+    inside = λ p h. no_member p h;
+    lighting = λ p h. no_member p h;
+    covers = λ c h. no_member c h;
+  },
+)
 pick cave places (c ∷ cs) lit =
     let t = pick cave places cs (λ x h. lit x (later c cs x h)) in
     let by = lit c (here c cs) in
@@ -87,7 +110,8 @@ pick cave places (c ∷ cs) lit =
 
 -- no place lights a cell of one and a cell of the others
 pub record IsApart (cave : Cave) (cells others : List ℕ) : Type 0 where
-  pub apart : (place a b : ℕ) → IsPlace cave place → Lights cave place a → Lights cave place b → Contains cells a → ¬ Contains others b
+  pub apart : (place a b : ℕ) → IsPlace cave place → Lights cave place a → Lights cave place b → Contains cells a
+      → ¬ Contains others b
 
 abbrev pub cells_in : List Section → List ℕ
 cells_in sections = all_cells (map (λ section. section.cells) sections)
@@ -103,15 +127,27 @@ pub record PicksAll (cave : Cave) (places : List ℕ) (sections : List Section) 
   pub lighting : (p : ℕ) → Contains picked p → (cell : ℕ) × Contains (cells_in sections) cell × Lights cave p cell
   pub many : length (torches_of sections) ≤ length picked
 
-pub pick_all : (cave : Cave) (places : List ℕ) (sections : List Section) → ((p : ℕ) → Contains places p → IsPlace cave p)
+-- of places that light all regions, distinct ones can be picked, at least as many as there are torches
+pub pick_all : (cave : Cave) (places : List ℕ) (sections : List Section)
+    → ((p : ℕ) → Contains places p → IsPlace cave p)
     → ((cell : ℕ) → Contains (cells_in sections) cell → IsLitBy (of_cave cave) places cell)
     → AreApart cave sections → AreProved cave (λ section. length section.torches) sections
     → (picked : List ℕ) × PicksAll cave places sections picked
-pick_all cave places [] legal lit apart good = ([], record { distinct = distinct_nil; inside = λ p h. no_member p h; lighting = λ p h. no_member p h; many = omega arith })
+pick_all cave places [] legal lit apart good = (
+  [],
+  record {
+    distinct = distinct_nil;
+    inside = λ p h. no_member p h;
+    lighting = λ p h. no_member p h;
+    many = omega arith;
+  },
+)
 pick_all cave places (s ∷ ss) legal lit apart good =
-    let rest = pick_all cave places ss legal (λ c h. lit c (Contains-append_right s.cells (cells_in ss) c h)) apart.1 (All-tail (λ (s : Section). Good (of_cave cave) s.cells [] [] (length s.torches) s.tree) s ss good) in
+    let rest = pick_all cave places ss legal (λ c h. lit c (Contains-append_right s.cells (cells_in ss) c h))
+    apart.1 (All-tail (λ (s : Section). Good (of_cave cave) s.cells [] [] (length s.torches) s.tree) s ss good) in
     let one = pick cave places s.cells (λ c h. lit c (Contains-append_left s.cells (cells_in ss) c h)) in
-    let bound : length s.torches ≤ length one.0 = bounds (of_cave cave) s.cells [] [] s.tree (length s.torches) one.0 distinct_nil
+    let bound : length s.torches ≤ length one.0 = bounds (of_cave cave) s.cells [] [] s.tree (length s.torches)
+    one.0 distinct_nil
     (All-head (λ (s : Section). Good (of_cave cave) s.cells [] [] (length s.torches) s.tree) s ss good)
     (record {
       distinct = one.1.distinct;
@@ -123,7 +159,8 @@ pick_all cave places (s ∷ ss) legal lit apart good =
       one.0 ++ rest.0,
       record {
         distinct = distinct_append one.0 rest.0 one.1.distinct rest.1.distinct (λ p h g.
-            (let a = one.1.lighting p h in let b = rest.1.lighting p g in apart.0.apart p a.0 b.0 (legal p (one.1.inside p h)) a.2 b.2 a.1 b.1));
+            (let a = one.1.lighting p h in let b = rest.1.lighting p g in
+            apart.0.apart p a.0 b.0 (legal p (one.1.inside p h)) a.2 b.2 a.1 b.1));
         inside = λ p h. elim (Contains-append_cases one.0 rest.0 p h) [
           | inl h ↦ one.1.inside p h
           | inr h ↦ rest.1.inside p h
@@ -138,7 +175,9 @@ pick_all cave places (s ∷ ss) legal lit apart good =
 
 -- ---- regions are apart
 
-which : (regions : List (List ℕ)) (cell : ℕ) → Contains (all_cells regions) cell → (i : ℕ) × Contains (slice_index_or regions i []) cell
+-- a cell of some lists stands in one of them
+which : (regions : List (List ℕ)) (cell : ℕ) → Contains (all_cells regions) cell
+    → (i : ℕ) × Contains (slice_index_or regions i []) cell
 which [] cell h = no_member cell h
 which (r ∷ rs) cell h = elim (Contains-append_cases r (all_cells rs) cell h) [
   | inl h ↦ (0, h)
@@ -146,21 +185,27 @@ which (r ∷ rs) cell h = elim (Contains-append_cases r (all_cells rs) cell h) [
 ]
 
 abbrev IsApartBy : Cave → List (List ℕ) → Type 0
-IsApartBy cave regions = (place a b i j : ℕ) → IsPlace cave place → Lights cave place a → Lights cave place b → Contains (slice_index_or regions i []) a → Contains (slice_index_or regions j []) b → i ≡ j
+IsApartBy cave regions = (place a b i j : ℕ) → IsPlace cave place → Lights cave place a → Lights cave place b
+    → Contains (slice_index_or regions i []) a → Contains (slice_index_or regions j []) b → i ≡ j
 
-pub are_apart : (cave : Cave) (sections : List Section) → IsApartBy cave (map (λ section. section.cells) sections) → AreApart cave sections
+-- regions of which no place lights two are apart from each other
+pub are_apart : (cave : Cave) (sections : List Section) → IsApartBy cave (map (λ section. section.cells) sections)
+    → AreApart cave sections
 are_apart cave [] h = tt
 are_apart cave (s ∷ ss) h = (
   record {
     apart = λ p a b l x y ha hb. (let w = which (map (λ (s : Section). s.cells) ss) b hb in
         let same : 0 ≡ suc w.0 = h p a b 0 (suc w.0) l x y ha w.1 in absurd (omega arith));
   },
-  are_apart cave ss (λ p a b i j l x y ha hb. (let same : suc i ≡ suc j = h p a b (suc i) (suc j) l x y ha hb in omega arith)),
+  are_apart cave ss (λ p a b i j l x y ha hb.
+      (let same : suc i ≡ suc j = h p a b (suc i) (suc j) l x y ha hb in omega arith)),
 )
 
 -- ---- the law
 
-pub best_plan : (cave : Cave) (bytes : List ℕ) (certificate : Certificate) → IsSound cave → Accepts cave bytes certificate → IsBestPlan cave (torches_of certificate.sections)
+-- the torches of an accepted certificate are a best plan of a sound cave
+pub best_plan : (cave : Cave) (bytes : List ℕ) (certificate : Certificate) → IsSound cave
+    → Accepts cave bytes certificate → IsBestPlan cave (torches_of certificate.sections)
 best_plan cave bytes certificate sound a =
     let cells = torches_of certificate.sections in
     let p = a.proves in
@@ -176,8 +221,10 @@ best_plan cave bytes certificate sound a =
         enough = (t.0, safe, sym (length-cells t.0) ∙ ap length t.1);
         least = λ others safe. (let cover = safe_covers cave others sound safe in
             let picked = pick_all cave (cells_of others) certificate.sections (legal_places cave others cover.legal)
-            (λ c h. cover.covered c ((p.regions.exact c).0 h)) (are_apart cave certificate.sections p.regions.apart) p.trees in
-            let few : length picked.0 ≤ length (cells_of others) = no_more picked.0 (cells_of others) picked.1.distinct picked.1.inside in
+            (λ c h. cover.covered c ((p.regions.exact c).0 h))
+            (are_apart cave certificate.sections p.regions.apart) p.trees in
+            let few : length picked.0 ≤ length (cells_of others) =
+            no_more picked.0 (cells_of others) picked.1.distinct picked.1.inside in
             omega (arith, picked.1.many, length-cells others));
       };
     }

@@ -1,5 +1,6 @@
 -- What the judge keeps, line after line.
-use Rattle.std.proofs.Common.{◌≡◌, ◌≢◌, ℕ, ◌+◌, inl, inr, List, [], ◌∷◌, ◌++◌, length, Contains, refl, sym, ap, subst, ◌∙◌, length-append, append_assoc}
+use Rattle.std.proofs.Common.{◌≡◌, ◌≢◌, ℕ, ◌+◌, inl, inr, List, [], ◌∷◌, ◌++◌, length, Contains, refl, sym, ap, subst}
+use Rattle.std.proofs.Common.{◌∙◌, length-append, append_assoc}
 use Rattle.std.specs.Prelude.{Bool, false, flat_map}
 use Rattle.std.proofs.lemmas.List.{append-nil, get_or_append_left, get_or_past}
 use Rattle.std.proofs.lemmas.Bool.{cases_lt}
@@ -14,23 +15,32 @@ use Rattle.proof_check.specs.Refused.{IsListed}
 use Rattle.proof_check.specs.Judged.{State, Judged, at, stuck, NodeSteps, Runs, start}
 use Rattle.proof_check.specs.Kept.{IsWide, Keeps, Judges}
 use Rattle.proof_check.specs.Homes.{Homes, AreHomesOf, Joins, Stands}
-use Rattle.proof_check.specs.Heard.{part_if, is_dark_line, is_torch_line, dark_parts, torch_parts, IsBefore, IsLed, Hears}
+use Rattle.proof_check.specs.Heard.{part_if, is_dark_line, is_torch_line, dark_parts, torch_parts, IsBefore, IsLed}
+use Rattle.proof_check.specs.Heard.{Hears}
 use Rattle.proof_check.specs.declared.judge.Judge.{Judge}
 use Rattle.proof_check.proofs.JudgedLemmas.{runs_push}
 use Rattle.proof_check.proofs.HomeLemmas.{stands_new}
 
 -- ---- the lists of one line more
 
-pub flat_push : (f : Said → List (List ℕ)) (all : List Said) (s : Said) → flat_map f (all ++ s ∷ []) ≡ flat_map f all ++ f s
+-- the lists of one line more are followed by that line's
+pub flat_push : (f : Said → List (List ℕ)) (all : List Said) (s : Said)
+    → flat_map f (all ++ s ∷ []) ≡ flat_map f all ++ f s
 flat_push f [] s = append-nil (f s)
-flat_push f (t ∷ all) s = ap (λ (l : List (List ℕ)). f t ++ l) (flat_push f all s) ∙ sym (append_assoc (f t) (flat_map f all) (f s))
+flat_push f (t ∷ all) s = ap (λ (l : List (List ℕ)). f t ++ l) (flat_push f all s)
+    ∙ sym (append_assoc (f t) (flat_map f all) (f s))
 
-pub dark_push : (all : List Said) (numbers : List ℕ) → dark_parts (all ++ said kind.Dark numbers ∷ []) ≡ dark_parts all ++ numbers ∷ []
+-- a line of dark cells adds its list to the regions
+pub dark_push : (all : List Said) (numbers : List ℕ)
+    → dark_parts (all ++ said kind.Dark numbers ∷ []) ≡ dark_parts all ++ numbers ∷ []
 dark_push all numbers = flat_push (λ s. part_if (is_dark_line s.kind) s.numbers) all (said kind.Dark numbers)
 
-pub torch_push : (all : List Said) (numbers : List ℕ) → torch_parts (all ++ said kind.Torches numbers ∷ []) ≡ torch_parts all ++ numbers ∷ []
+-- a line of torches adds its list to the torches
+pub torch_push : (all : List Said) (numbers : List ℕ)
+    → torch_parts (all ++ said kind.Torches numbers ∷ []) ≡ torch_parts all ++ numbers ∷ []
 torch_push all numbers = flat_push (λ s. part_if (is_torch_line s.kind) s.numbers) all (said kind.Torches numbers)
 
+-- any other kind is no line of dark cells
 dark_other : (k : Kind) → (k ≢ kind.Dark) → is_dark_line k ≡ false
 dark_other kind.Version ne = refl
 dark_other kind.Size ne = refl
@@ -45,6 +55,7 @@ dark_other kind.Branch ne = refl
 dark_other kind.Bar ne = refl
 dark_other kind.End ne = refl
 
+-- any other kind is no line of torches
 torch_other : (k : Kind) → (k ≢ kind.Torches) → is_torch_line k ≡ false
 torch_other kind.Version ne = refl
 torch_other kind.Size ne = refl
@@ -59,33 +70,55 @@ torch_other kind.Branch ne = refl
 torch_other kind.Bar ne = refl
 torch_other kind.End ne = refl
 
-pub no_dark : (all : List Said) (k : Kind) (numbers : List ℕ) → (k ≢ kind.Dark) → dark_parts (all ++ said k numbers ∷ []) ≡ dark_parts all
-no_dark all k numbers ne = flat_push (λ s. part_if (is_dark_line s.kind) s.numbers) all (said k numbers) ∙ ap (λ (b : Bool). dark_parts all ++ part_if b numbers) (dark_other k ne) ∙ append-nil (dark_parts all)
+-- a line of another kind leaves the regions as they were
+pub no_dark : (all : List Said) (k : Kind) (numbers : List ℕ) → (k ≢ kind.Dark)
+    → dark_parts (all ++ said k numbers ∷ []) ≡ dark_parts all
+no_dark all k numbers ne = flat_push (λ s. part_if (is_dark_line s.kind) s.numbers) all (said k numbers)
+    ∙ ap (λ (b : Bool). dark_parts all ++ part_if b numbers) (dark_other k ne) ∙ append-nil (dark_parts all)
 
-pub no_torch : (all : List Said) (k : Kind) (numbers : List ℕ) → (k ≢ kind.Torches) → torch_parts (all ++ said k numbers ∷ []) ≡ torch_parts all
-no_torch all k numbers ne = flat_push (λ s. part_if (is_torch_line s.kind) s.numbers) all (said k numbers) ∙ ap (λ (b : Bool). torch_parts all ++ part_if b numbers) (torch_other k ne) ∙ append-nil (torch_parts all)
+-- a line of another kind leaves the torches as they were
+pub no_torch : (all : List Said) (k : Kind) (numbers : List ℕ) → (k ≢ kind.Torches)
+    → torch_parts (all ++ said k numbers ∷ []) ≡ torch_parts all
+no_torch all k numbers ne = flat_push (λ s. part_if (is_torch_line s.kind) s.numbers) all (said k numbers)
+    ∙ ap (λ (b : Bool). torch_parts all ++ part_if b numbers) (torch_other k ne) ∙ append-nil (torch_parts all)
 
 -- ---- the judge of nodes
 
+-- a cell keeps its list when lists follow
 stands_on : (xs ys : List (List ℕ)) (i cell : ℕ) → Stands xs i cell → Stands (xs ++ ys) i cell
 stands_on xs ys i cell h = elim (cases_lt i (length xs)) [
   | inl lt ↦ subst (λ (l : List ℕ). Contains l cell) (sym (get_or_append_left xs ys [] i lt)) h
   | inr le ↦ no_member cell (subst (λ (l : List ℕ). Contains l cell) (get_or_past xs i [] le) h)
 ]
 
-listed_before : (all : List Said) (s : Said) (cell : ℕ) → IsListed (dark_parts all) cell → IsListed (dark_parts (all ++ s ∷ [])) cell
-listed_before all s cell l = (l.0, subst (λ (p : List (List ℕ)). Stands p l.0 cell) (sym (flat_push (λ s. part_if (is_dark_line s.kind) s.numbers) all s)) (stands_on (dark_parts all) (part_if (is_dark_line s.kind) s.numbers) l.0 cell l.1))
+-- what was listed in a region still is after one line more
+listed_before : (all : List Said) (s : Said) (cell : ℕ) → IsListed (dark_parts all) cell
+    → IsListed (dark_parts (all ++ s ∷ [])) cell
+listed_before all s cell l = (
+  l.0,
+  subst (λ (p : List (List ℕ)). Stands p l.0 cell)
+      (sym (flat_push (λ s. part_if (is_dark_line s.kind) s.numbers) all s))
+      (stands_on (dark_parts all) (part_if (is_dark_line s.kind) s.numbers) l.0 cell l.1),
+)
 
-listed_now : (all : List Said) (k : Kind) (numbers : List ℕ) (cell : ℕ) → k ≡ kind.Dark → Contains numbers cell → IsListed (dark_parts (all ++ said k numbers ∷ [])) cell
-listed_now all k numbers cell e h = subst (λ (j : Kind). IsListed (dark_parts (all ++ said j numbers ∷ [])) cell) (sym e)
-    (length (dark_parts all), subst (λ (p : List (List ℕ)). Stands p (length (dark_parts all)) cell) (sym (dark_push all numbers)) (stands_new (dark_parts all) numbers cell h))
+-- the cells of a line of dark cells are listed in a region
+listed_now : (all : List Said) (k : Kind) (numbers : List ℕ) (cell : ℕ) → k ≡ kind.Dark → Contains numbers cell
+    → IsListed (dark_parts (all ++ said k numbers ∷ [])) cell
+listed_now all k numbers cell e h = subst (λ (j : Kind). IsListed (dark_parts (all ++ said j numbers ∷ [])) cell)
+    (sym e) (
+      length (dark_parts all),
+      subst (λ (p : List (List ℕ)). Stands p (length (dark_parts all)) cell)
+          (sym (dark_push all numbers)) (stands_new (dark_parts all) numbers cell h),
+    )
 
 -- a step leads one line on
 line_of : Judged → ℕ
 line_of (at s) = s.line
 line_of (stuck bad) = 0
 
-step_line : (cave : Cave) (k : Kind) (numbers : List ℕ) (s : State) (j : Judged) → NodeSteps cave k numbers s j → IsBefore j (s.line + 1)
+-- after a step the next line is expected
+step_line : (cave : Cave) (k : Kind) (numbers : List ℕ) (s : State) (j : Judged) → NodeSteps cave k numbers s j
+    → IsBefore j (s.line + 1)
 unfolding line_of
 step_line cave k numbers s (stuck bad) h = tt
 step_line cave kind.Version numbers s (at t) h = ap line_of h
@@ -111,9 +144,13 @@ step_line cave kind.Bar (a ∷ b ∷ []) s (at t) (inl h) = ap line_of h.1
 step_line cave kind.Bar (a ∷ b ∷ []) s (at t) (inr h) = absurd (let e = h.1 in cc)
 step_line cave kind.Bar (a ∷ b ∷ c ∷ ns) s (at t) h = ap line_of h
 
-pub nodes_led : (cave : Cave) (old new : Judge) (all : List Said) (k : Kind) (numbers : List ℕ) (line : ℕ) → new.lists ≡ old.lists → AreListsOf cave old.lists → Judges old.lists k numbers line old.nodes new.nodes → line ≡ length all + 1
+-- a line more, judged by its kind, leads the judge of nodes on
+pub nodes_led : (cave : Cave) (old new : Judge) (all : List Said) (k : Kind) (numbers : List ℕ) (line : ℕ)
+    → new.lists ≡ old.lists → AreListsOf cave old.lists → Judges old.lists k numbers line old.nodes new.nodes
+    → line ≡ length all + 1
     → (((cell : ℕ) → IsListed (dark_parts all) cell → IsDark cave cell) → IsLed cave old all)
-    → ((cell : ℕ) → IsListed (dark_parts (all ++ said k numbers ∷ [])) cell → IsDark cave cell) → IsLed cave new (all ++ said k numbers ∷ [])
+    → ((cell : ℕ) → IsListed (dark_parts (all ++ said k numbers ∷ [])) cell → IsDark cave cell)
+    → IsLed cave new (all ++ said k numbers ∷ [])
 nodes_led cave old new all k numbers line same known judges e led dark = go was.j was.runs was.keeps was.before where
   was : IsLed cave old all
   was = led (λ cell l. dark cell (listed_before all (said k numbers) cell l))
@@ -121,7 +158,8 @@ nodes_led cave old new all k numbers line same known judges e led dark = go was.
   long : length (all ++ said k numbers ∷ []) ≡ length all + 1
   long = length-append all (said k numbers ∷ [])
 
-  go : (j : Judged) → Runs cave all start j → Keeps cave old.lists old.nodes j → IsBefore j (length all + 1) → IsLed cave new (all ++ said k numbers ∷ [])
+  go : (j : Judged) → Runs cave all start j → Keeps cave old.lists old.nodes j → IsBefore j (length all + 1)
+      → IsLed cave new (all ++ said k numbers ∷ [])
   go (stuck bad) r kept b = record {
     j = stuck bad;
     runs = runs_push cave all (said k numbers) start (stuck bad) (stuck bad) r refl;
@@ -129,20 +167,27 @@ nodes_led cave old new all k numbers line same known judges e led dark = go was.
     before = tt;
   }
   go (at s) r kept b =
-      let step = (judges.steps kept.good).each cave s known kept (e ∙ sym b) (λ d cell h. dark cell (listed_now all k numbers cell d h)) in
+      let step = (judges.steps kept.good).each cave s known kept (e ∙ sym b)
+      (λ d cell h. dark cell (listed_now all k numbers cell d h)) in
       record {
         j = step.0;
         runs = runs_push cave all (said k numbers) start (at s) step.0 r step.1;
         keeps = subst (λ (l : Lists). Keeps cave l new.nodes step.0) (sym same) step.2;
-        before = subst (IsBefore step.0) (ap (λ (n : ℕ). n + 1) b ∙ ap (λ (n : ℕ). n + 1) (sym long)) (step_line cave k numbers s step.0 step.1);
+        before = subst (IsBefore step.0) (ap (λ (n : ℕ). n + 1) b ∙ ap (λ (n : ℕ). n + 1) (sym long))
+            (step_line cave k numbers s step.0 step.1);
       }
 
 -- ---- a line more
 
-pub hears_by : (k : Kind) (numbers : List ℕ) (line : ℕ) (old new : Judge) → new.lists ≡ old.lists → Judges old.lists k numbers line old.nodes new.nodes → IsWide old.lists new.nodes
-    → ((all : List Said) → AreHomesOf (torch_parts all) old.torches → AreHomesOf (torch_parts (all ++ said k numbers ∷ [])) new.torches)
-    → ((all : List Said) → AreHomesOf (dark_parts all) old.regions → AreHomesOf (dark_parts (all ++ said k numbers ∷ [])) new.regions)
-    → length new.torches.homes ≡ length old.torches.homes → length new.regions.homes ≡ length old.regions.homes → Hears k numbers line old new
+-- the judge has heard a line once nodes, torches and regions have
+pub hears_by : (k : Kind) (numbers : List ℕ) (line : ℕ) (old new : Judge) → new.lists ≡ old.lists
+    → Judges old.lists k numbers line old.nodes new.nodes → IsWide old.lists new.nodes
+    → ((all : List Said) → AreHomesOf (torch_parts all) old.torches
+    → AreHomesOf (torch_parts (all ++ said k numbers ∷ [])) new.torches)
+    → ((all : List Said) → AreHomesOf (dark_parts all) old.regions
+    → AreHomesOf (dark_parts (all ++ said k numbers ∷ [])) new.regions)
+    → length new.torches.homes ≡ length old.torches.homes → length new.regions.homes ≡ length old.regions.homes
+    → Hears k numbers line old new
 hears_by k numbers line old new same judges wide torches regions t r = record {
   each = λ cave all a e. record {
     known = subst (AreListsOf cave) (sym same) a.known;
@@ -155,14 +200,27 @@ hears_by k numbers line old new same judges wide torches regions t r = record {
   };
 }
 
-pub regions_join : (all : List Said) (k : Kind) (numbers : List ℕ) (old new : Homes) → k ≡ kind.Dark → Joins numbers old new → AreHomesOf (dark_parts all) old → AreHomesOf (dark_parts (all ++ said k numbers ∷ [])) new
-regions_join all k numbers old new e j a = subst (λ (x : Kind). AreHomesOf (dark_parts (all ++ said x numbers ∷ [])) new) (sym e) (subst (λ (p : List (List ℕ)). AreHomesOf p new) (sym (dark_push all numbers)) (j.each (dark_parts all) a))
+-- cells that join as the next list are the next region
+pub regions_join : (all : List Said) (k : Kind) (numbers : List ℕ) (old new : Homes) → k ≡ kind.Dark
+    → Joins numbers old new → AreHomesOf (dark_parts all) old → AreHomesOf (dark_parts (all ++ said k numbers ∷ [])) new
+regions_join all k numbers old new e j a =
+    subst (λ (x : Kind). AreHomesOf (dark_parts (all ++ said x numbers ∷ [])) new) (sym e)
+    (subst (λ (p : List (List ℕ)). AreHomesOf p new) (sym (dark_push all numbers)) (j.each (dark_parts all) a))
 
-pub torches_join : (all : List Said) (k : Kind) (numbers : List ℕ) (old new : Homes) → k ≡ kind.Torches → Joins numbers old new → AreHomesOf (torch_parts all) old → AreHomesOf (torch_parts (all ++ said k numbers ∷ [])) new
-torches_join all k numbers old new e j a = subst (λ (x : Kind). AreHomesOf (torch_parts (all ++ said x numbers ∷ [])) new) (sym e) (subst (λ (p : List (List ℕ)). AreHomesOf p new) (sym (torch_push all numbers)) (j.each (torch_parts all) a))
+-- torches that join as the next list are the next list of torches
+pub torches_join : (all : List Said) (k : Kind) (numbers : List ℕ) (old new : Homes) → k ≡ kind.Torches
+    → Joins numbers old new → AreHomesOf (torch_parts all) old
+    → AreHomesOf (torch_parts (all ++ said k numbers ∷ [])) new
+torches_join all k numbers old new e j a =
+    subst (λ (x : Kind). AreHomesOf (torch_parts (all ++ said x numbers ∷ [])) new) (sym e)
+    (subst (λ (p : List (List ℕ)). AreHomesOf p new) (sym (torch_push all numbers)) (j.each (torch_parts all) a))
 
-pub regions_stay : (all : List Said) (k : Kind) (numbers : List ℕ) (h : Homes) → (k ≢ kind.Dark) → AreHomesOf (dark_parts all) h → AreHomesOf (dark_parts (all ++ said k numbers ∷ [])) h
+-- the homes of the regions stay at a line of another kind
+pub regions_stay : (all : List Said) (k : Kind) (numbers : List ℕ) (h : Homes) → (k ≢ kind.Dark)
+    → AreHomesOf (dark_parts all) h → AreHomesOf (dark_parts (all ++ said k numbers ∷ [])) h
 regions_stay all k numbers h ne a = subst (λ (p : List (List ℕ)). AreHomesOf p h) (sym (no_dark all k numbers ne)) a
 
-pub torches_stay : (all : List Said) (k : Kind) (numbers : List ℕ) (h : Homes) → (k ≢ kind.Torches) → AreHomesOf (torch_parts all) h → AreHomesOf (torch_parts (all ++ said k numbers ∷ [])) h
+-- the homes of the torches stay at a line of another kind
+pub torches_stay : (all : List Said) (k : Kind) (numbers : List ℕ) (h : Homes) → (k ≢ kind.Torches)
+    → AreHomesOf (torch_parts all) h → AreHomesOf (torch_parts (all ++ said k numbers ∷ [])) h
 torches_stay all k numbers h ne a = subst (λ (p : List (List ℕ)). AreHomesOf p h) (sym (no_torch all k numbers ne)) a

@@ -1,5 +1,6 @@
 -- What judging has found at the end of a tree, of a region, of a certificate.
-use Rattle.std.proofs.Common.{◌≡◌, ℕ, ◌+◌, ◌⊎◌, inl, inr, List, [], ◌∷◌, ◌++◌, length, All, refl, sym, subst, ◌∙◌, arith, append_assoc, length-append}
+use Rattle.std.proofs.Common.{◌≡◌, ℕ, ◌+◌, ◌⊎◌, inl, inr, List, [], ◌∷◌, ◌++◌, length, All, refl, sym, subst, ◌∙◌}
+use Rattle.std.proofs.Common.{arith, append_assoc, length-append}
 use Rattle.std.specs.Prelude.{Option, Some, None, flat_map}
 use Rattle.std.specs.Option.{option_or}
 use Rattle.std.proofs.lemmas.List.Elements.{All-nil, All-cons, All-head, All-tail}
@@ -10,25 +11,34 @@ use Rattle.proof_rules.specs.Tree.{Tree, Forest, leaf, branch, bar, none, more, 
 use Rattle.proof_rules.specs.Good.{Good, AreGood}
 use Rattle.std.proofs.lemmas.List.Kept.{AllPairs-from_increasing}
 use Rattle.cave_model.specs.Plan.{AreDistinct}
-use Rattle.proof_rules.specs.Certificate.{Section, Version, first, second, Certificate, AreListed, IsTreeIn, AreTreesIn, IsSectionIn}
+use Rattle.proof_rules.specs.Certificate.{Section, Version, first, second, Certificate, AreListed, IsTreeIn}
+use Rattle.proof_rules.specs.Certificate.{AreTreesIn, IsSectionIn}
 use Rattle.certificate_lines.specs.Said.{Said, said, tree_said, forest_said, section_said, said_of}
 use Rattle.certificate_lines.specs.declared.kind.Kind.TheVariants as kind
 use Rattle.proof_check.specs.Accepted.{AreProved}
 use Rattle.proof_check.specs.Refused.{IsBadAt, AreBadAt, IsFirstBad, weak_leaf, weak_leaf_of, first_weak, start_line}
 use Rattle.proof_check.specs.Judged.{Frame, Spot, State, Judged, at, stuck, enter, close, next_line, Steps, Runs, start}
 
-pub stays : (cave : Cave) (all : List Said) (bad : ℕ) (final : Judged) → Runs cave all (stuck bad) final → final ≡ stuck bad
+-- judging that stands still stays at its bad line
+pub stays : (cave : Cave) (all : List Said) (bad : ℕ) (final : Judged) → Runs cave all (stuck bad) final
+    → final ≡ stuck bad
 stays cave [] bad final r = sym r
-stays cave (s ∷ all) bad final (next, step, rest) = stays cave all bad final (subst (λ (j : Judged). Runs cave all j final) step rest)
+stays cave (s ∷ all) bad final (next, step, rest) = stays cave all bad final
+    (subst (λ (j : Judged). Runs cave all j final) step rest)
 
-pub runs_push : (cave : Cave) (all : List Said) (s : Said) (a b c : Judged) → Runs cave all a b → Steps cave s b c → Runs cave (all ++ s ∷ []) a c
+-- a run over some lines and a step of the next are a run over both
+pub runs_push : (cave : Cave) (all : List Said) (s : Said) (a b c : Judged) → Runs cave all a b → Steps cave s b c
+    → Runs cave (all ++ s ∷ []) a c
 runs_push cave [] s a b c r step = (c, subst (λ (j : Judged). Steps cave s j c) (sym r) step, refl)
-runs_push cave (t ∷ all) s a b c (next, first_step, rest) step = (next, first_step, runs_push cave all s next b c rest step)
+runs_push cave (t ∷ all) s a b c (next, first_step, rest) step =
+    (next, first_step, runs_push cave all s next b c rest step)
 
+-- the first that is there, of three
 option_or_assoc : (a b c : Option ℕ) → option_or (option_or a b) c ≡ option_or a (option_or b c)
 option_or_assoc None b c = refl
 option_or_assoc (Some x) b c = refl
 
+-- with nothing after it, an option is itself
 option_or_none : (a : Option ℕ) → option_or a None ≡ a
 option_or_none None = refl
 option_or_none (Some x) = refl
@@ -44,58 +54,112 @@ module _ (cave : Cave) (box : ℕ) (cells : List ℕ) (floor : ℕ) where
   distinct these a = λ i j d lt h e. (let r = AllPairs-from_increasing these a.ascending i j d lt h in omega arith)
 
   mutual
-    pub tree_runs : (t : Tree) → IsTreeIn box t → (line : ℕ) (chosen barred : List ℕ) (frames : List Frame) (weak : Option ℕ) (rest : List Said) (final : Judged)
+    -- a run over a tree's lines stops at its first bad line, or the tree is good and the run goes on after it
+    pub tree_runs : (t : Tree) → IsTreeIn box t
+        → (line : ℕ) (chosen barred : List ℕ) (frames : List Frame) (weak : Option ℕ) (rest : List Said)
+        (final : Judged)
         → Runs cave (tree_said t ++ rest) (at (state line (spot_of chosen barred frames) weak)) final
         → ((bad : ℕ) × IsBadAt cave cells chosen barred t line bad × (final ≡ stuck bad))
-        ⊎ (Good (of_cave cave) cells chosen barred 0 t × Runs cave rest (at (state (line + node_count t) (close frames) (option_or weak (weak_leaf floor (length chosen) t line)))) final)
+        ⊎ (Good (of_cave cave) cells chosen barred 0 t × Runs cave rest
+        (at (state (line + node_count t) (close frames)
+        (option_or weak (weak_leaf floor (length chosen) t line)))) final)
     tree_runs (leaf these) i line chosen barred frames weak rest final (next, inl (good, e), r) =
         inr ((good (distinct these i), omega arith), subst (λ (j : Judged). Runs cave rest j final) e r)
     tree_runs (leaf these) i line chosen barred frames weak rest final (next, inr (bad, e), r) =
-        inl (line, (bad (distinct these i), refl), stays cave rest line final (subst (λ (j : Judged). Runs cave rest j final) e r))
+        inl (
+          line,
+          (bad (distinct these i), refl),
+          stays cave rest line final
+              (subst (λ (j : Judged). Runs cave rest j final) e r),
+        )
     tree_runs (branch cell kids) i line chosen barred frames weak rest final (next, inl (places, is, e), r) =
-        elim (forest_runs kids i.2 places (line + 1) chosen barred frames weak rest final is.2 (subst (λ (j : Judged). Runs cave (forest_said kids ++ rest) j final) e r)) [
+        elim (forest_runs kids i.2 places (line + 1) chosen barred frames weak rest final
+        is.2 (subst (λ (j : Judged). Runs cave (forest_said kids ++ rest) j final) e r)) [
           | inl (bad, b, f) ↦ inl (bad, inr (places, is, b), f)
           | inr (good, q) ↦ (let n : line + 1 + node_counts kids ≡ line + (1 + node_counts kids) = omega arith in
-              inr ((is.0, places, is.1, good), subst (λ (k : ℕ). Runs cave rest (at (state k (close frames) (option_or weak (weak_leaf_of floor (length chosen + 1) kids (line + 1))))) final) n q))
+              inr (
+                (is.0, places, is.1, good),
+                subst (λ (k : ℕ). Runs cave rest
+                    (at (state k (close frames)
+                    (option_or weak (weak_leaf_of floor (length chosen + 1) kids (line + 1))))) final) n q,
+              ))
         ]
     tree_runs (branch cell kids) i line chosen barred frames weak rest final (next, inr (none_such, e), r) =
-        inl (line, inl (none_such, refl), stays cave (forest_said kids ++ rest) line final (subst (λ (j : Judged). Runs cave (forest_said kids ++ rest) j final) e r))
+        inl (
+          line,
+          inl (none_such, refl),
+          stays cave (forest_said kids ++ rest) line final
+              (subst (λ (j : Judged). Runs cave (forest_said kids ++ rest) j final) e r),
+        )
     tree_runs (bar place by kid) i line chosen barred frames weak rest final (next, inl (good, e), r) =
-        elim (tree_runs kid i.2 (line + 1) chosen (barred ++ place ∷ []) frames weak rest final (subst (λ (j : Judged). Runs cave (tree_said kid ++ rest) j final) e r)) [
+        elim (tree_runs kid i.2 (line + 1) chosen (barred ++ place ∷ []) frames weak rest final
+        (subst (λ (j : Judged). Runs cave (tree_said kid ++ rest) j final) e r)) [
           | inl (bad, b, f) ↦ inl (bad, inr (good, b), f)
           | inr (fine, q) ↦ (let n : line + 1 + node_count kid ≡ line + (1 + node_count kid) = omega arith in
-              inr ((good, fine), subst (λ (k : ℕ). Runs cave rest (at (state k (close frames) (option_or weak (weak_leaf floor (length chosen) kid (line + 1))))) final) n q))
+              inr (
+                (good, fine),
+                subst (λ (k : ℕ). Runs cave rest
+                    (at (state k (close frames)
+                    (option_or weak (weak_leaf floor (length chosen) kid (line + 1))))) final) n q,
+              ))
         ]
     tree_runs (bar place by kid) i line chosen barred frames weak rest final (next, inr (bad, e), r) =
-        inl (line, inl (bad, refl), stays cave (tree_said kid ++ rest) line final (subst (λ (j : Judged). Runs cave (tree_said kid ++ rest) j final) e r))
+        inl (
+          line,
+          inl (bad, refl),
+          stays cave (tree_said kid ++ rest) line final
+              (subst (λ (j : Judged). Runs cave (tree_said kid ++ rest) j final) e r),
+        )
 
-    pub forest_runs : (ts : Forest) → AreTreesIn box ts → (places : List ℕ) (line : ℕ) (chosen barred : List ℕ) (frames : List Frame) (weak : Option ℕ) (rest : List Said) (final : Judged) → length places ≡ tree_count ts
+    -- and so does a run over the lines of kids
+    pub forest_runs : (ts : Forest) → AreTreesIn box ts
+        → (places : List ℕ) (line : ℕ) (chosen barred : List ℕ) (frames : List Frame) (weak : Option ℕ)
+        (rest : List Said) (final : Judged) → length places ≡ tree_count ts
         → Runs cave (forest_said ts ++ rest) (at (state line (enter chosen barred places frames) weak)) final
         → ((bad : ℕ) × AreBadAt cave cells chosen barred places ts line bad × (final ≡ stuck bad))
-        ⊎ (AreGood (of_cave cave) cells chosen barred 0 places ts × Runs cave rest (at (state (line + node_counts ts) (close frames) (option_or weak (weak_leaf_of floor (length chosen + 1) ts line)))) final)
+        ⊎ (AreGood (of_cave cave) cells chosen barred 0 places ts × Runs cave rest
+        (at (state (line + node_counts ts) (close frames)
+        (option_or weak (weak_leaf_of floor (length chosen + 1) ts line)))) final)
     forest_runs none i [] line chosen barred frames weak rest final e r =
         let n : line ≡ line + 0 = omega arith in
-        inr (tt, subst (λ (o : Option ℕ). Runs cave rest (at (state (line + 0) (close frames) o)) final) (sym (option_or_none weak)) (subst (λ (k : ℕ). Runs cave rest (at (state k (close frames) weak)) final) n r))
+        inr (
+          tt,
+          subst (λ (o : Option ℕ). Runs cave rest (at (state (line + 0) (close frames) o)) final)
+              (sym (option_or_none weak))
+              (subst (λ (k : ℕ). Runs cave rest (at (state k (close frames) weak)) final) n r),
+        )
     forest_runs none i (p ∷ ps) line chosen barred frames weak rest final e r = absurd (omega arith)
     forest_runs (more t ts) i [] line chosen barred frames weak rest final e r = absurd (omega arith)
     forest_runs (more t ts) i (p ∷ ps) line chosen barred frames weak rest final e r =
         let frame : Frame = record { chosen = chosen; barred = barred; place = p; later = ps } in
         let long : length (chosen ++ p ∷ []) ≡ length chosen + 1 = length-append chosen (p ∷ []) in
-        let apart = subst (λ (l : List Said). Runs cave l (at (state line (spot_of (chosen ++ p ∷ []) barred (frame ∷ frames)) weak)) final) (append_assoc (tree_said t) (forest_said ts) rest) r in
-        elim (tree_runs t i.0 line (chosen ++ p ∷ []) barred (frame ∷ frames) weak (forest_said ts ++ rest) final apart) [
+        let apart = subst (λ (l : List Said). Runs cave l
+        (at (state line (spot_of (chosen ++ p ∷ []) barred (frame ∷ frames)) weak)) final)
+        (append_assoc (tree_said t) (forest_said ts) rest) r in
+        elim (tree_runs t i.0 line (chosen ++ p ∷ []) barred (frame ∷ frames) weak
+        (forest_said ts ++ rest) final apart) [
           | inl (bad, b, f) ↦ inl (bad, inl b, f)
           | inr (good, q) ↦
               let w = option_or weak (weak_leaf floor (length chosen + 1) t line) in
-              let q' = subst (λ (n : ℕ). Runs cave (forest_said ts ++ rest) (at (state (line + node_count t) (close (frame ∷ frames)) (option_or weak (weak_leaf floor n t line)))) final) long q in
-              elim (forest_runs ts i.1 ps (line + node_count t) chosen (barred ++ p ∷ []) frames w rest final (omega arith) q') [
+              let q' = subst (λ (n : ℕ). Runs cave (forest_said ts ++ rest)
+              (at (state (line + node_count t) (close (frame ∷ frames))
+              (option_or weak (weak_leaf floor n t line)))) final) long q in
+              elim (forest_runs ts i.1 ps (line + node_count t) chosen (barred ++ p ∷ []) frames w rest final
+              (omega arith) q') [
                 | inl (bad, b, f) ↦ inl (bad, inr (good, b), f)
                 | inr (fine, s) ↦
-                    let n : line + node_count t + node_counts ts ≡ line + (node_count t + node_counts ts) = omega arith in
-                    let o = option_or_assoc weak (weak_leaf floor (length chosen + 1) t line) (weak_leaf_of floor (length chosen + 1) ts (line + node_count t)) in
+                    let n : line + node_count t + node_counts ts ≡ line + (node_count t + node_counts ts) =
+                    omega arith in
+                    let o = option_or_assoc weak (weak_leaf floor (length chosen + 1) t line)
+                    (weak_leaf_of floor (length chosen + 1) ts (line + node_count t)) in
                     inr (
                       (good, fine),
-                      subst (λ (o : Option ℕ). Runs cave rest (at (state (line + (node_count t + node_counts ts)) (close frames) o)) final) o
-                          (subst (λ (k : ℕ). Runs cave rest (at (state k (close frames) (option_or w (weak_leaf_of floor (length chosen + 1) ts (line + node_count t))))) final) n s),
+                      subst (λ (o : Option ℕ). Runs cave rest
+                          (at (state (line + (node_count t + node_counts ts)) (close frames) o)) final) o
+                          (subst (λ (k : ℕ). Runs cave rest
+                          (at (state k (close frames)
+                          (option_or w (weak_leaf_of floor (length chosen + 1) ts
+                          (line + node_count t))))) final) n s),
                     )
               ]
         ]
@@ -105,9 +169,12 @@ module _ (cave : Cave) (box : ℕ) (cells : List ℕ) (floor : ℕ) where
 -- what was found at the end of the regions
 abbrev pub Found : Cave → List Section → ℕ → Option ℕ → Judged → Type 0
 Found cave sections line weak final = ((bad : ℕ) × IsFirstBad cave sections line bad × (final ≡ stuck bad))
-    ⊎ (AreProved cave (λ section. 0) sections × (last : State) × (final ≡ at last) × (last.weak ≡ option_or weak (first_weak sections line)))
+    ⊎ (AreProved cave (λ section. 0) sections × (last : State) × (final ≡ at last)
+    × (last.weak ≡ option_or weak (first_weak sections line)))
 
-after_region : (cave : Cave) (box : ℕ) (s : Section) (ss : List Section) (rest : List Said) (j : State) (final : Judged) → IsSectionIn box s
+-- what is found after a region's lines and the rest is found of both
+after_region : (cave : Cave) (box : ℕ) (s : Section) (ss : List Section) (rest : List Said) (j : State) (final : Judged)
+    → IsSectionIn box s
     → ((after : State) → Runs cave rest (at after) final → Found cave ss after.line after.weak final)
     → Runs cave (section_said s ++ rest) (at j) final → Found cave (s ∷ ss) j.line j.weak final
 after_region cave box s ss rest j final here again (j1, e1, (j2, e2, (j3, e3, r3))) =
@@ -115,44 +182,86 @@ after_region cave box s ss rest j final here again (j1, e1, (j2, e2, (j3, e3, r3
     let f3 = subst (λ (x : Judged). Steps cave (said kind.Torches s.torches) x j3) f2 e3 in
     let g3 = subst (λ (x : Judged). Runs cave (tree_said s.tree ++ rest) x final) f3 r3 in
     let n : j.line + 1 + 1 + 1 ≡ j.line + 3 = omega arith in
-    let h3 = subst (λ (k : ℕ). Runs cave (tree_said s.tree ++ rest) (at (record { line = k; cells = s.cells; floor = length s.torches; spot = record { chosen = []; barred = []; frames = [] }; weak = j.weak })) final) n g3 in
+    let h3 = subst (λ (k : ℕ). Runs cave (tree_said s.tree ++ rest)
+    (at (record {
+      line = k;
+      cells = s.cells;
+      floor = length s.torches;
+      spot = record { chosen = []; barred = []; frames = [] };
+      weak = j.weak;
+    })) final) n g3 in
     elim (tree_runs cave box s.cells (length s.torches) s.tree here.proof (j.line + 3) [] [] [] j.weak rest final h3) [
       | inl (bad, b, e) ↦ inl (bad, inl b, e)
       | inr (good, q) ↦
-          elim (again (record { line = j.line + 3 + node_count s.tree; cells = s.cells; floor = length s.torches; spot = close []; weak = option_or j.weak (weak_leaf (length s.torches) 0 s.tree (j.line + 3)) }) q) [
+          elim (again (record {
+            line = j.line + 3 + node_count s.tree;
+            cells = s.cells;
+            floor = length s.torches;
+            spot = close [];
+            weak =
+                option_or j.weak (weak_leaf (length s.torches) 0 s.tree (j.line + 3));
+          }) q) [
             | inl (bad, b, e) ↦ inl (bad, inr (good, b), e)
             | inr (fine, last, e, w) ↦ inr (
               All-cons (λ (s : Section). Good (of_cave cave) s.cells [] [] 0 s.tree) s ss good fine,
               last,
               e,
-              w ∙ option_or_assoc j.weak (weak_leaf (length s.torches) 0 s.tree (j.line + 3)) (first_weak ss (j.line + 3 + node_count s.tree)),
+              w ∙ option_or_assoc j.weak (weak_leaf (length s.torches) 0 s.tree (j.line + 3))
+                  (first_weak ss (j.line + 3 + node_count s.tree)),
             )
           ]
     ]
 
-pub regions_run : (cave : Cave) (box : ℕ) (sections : List Section) (j : State) (final : Judged) → All (IsSectionIn box) sections
-    → Runs cave (flat_map section_said sections ++ said kind.End [] ∷ []) (at j) final → Found cave sections j.line j.weak final
-regions_run cave box [] j final i (next, step, r) = inr (All-nil (λ (s : Section). Good (of_cave cave) s.cells [] [] 0 s.tree), next_line j, sym r ∙ step, sym (option_or_none j.weak))
+-- a run over the lines of all regions finds the first bad line and the first weak one
+pub regions_run : (cave : Cave) (box : ℕ) (sections : List Section) (j : State) (final : Judged)
+    → All (IsSectionIn box) sections
+    → Runs cave (flat_map section_said sections ++ said kind.End [] ∷ []) (at j) final
+    → Found cave sections j.line j.weak final
+regions_run cave box [] j final i (next, step, r) =
+    inr (
+      All-nil (λ (s : Section). Good (of_cave cave) s.cells [] [] 0 s.tree),
+      next_line j,
+      sym r ∙ step,
+      sym (option_or_none j.weak),
+    )
 regions_run cave box (s ∷ ss) j final i r =
-    let apart = subst (λ (l : List Said). Runs cave l (at j) final) (append_assoc (section_said s) (flat_map section_said ss) (said kind.End [] ∷ [])) r in
-    after_region cave box s ss (flat_map section_said ss ++ said kind.End [] ∷ []) j final (All-head (IsSectionIn box) s ss i)
+    let apart = subst (λ (l : List Said). Runs cave l (at j) final)
+    (append_assoc (section_said s) (flat_map section_said ss) (said kind.End [] ∷ [])) r in
+    after_region cave box s ss (flat_map section_said ss ++ said kind.End [] ∷ []) j final
+    (All-head (IsSectionIn box) s ss i)
     (λ after q. regions_run cave box ss after final (All-tail (IsSectionIn box) s ss i) q) apart
 
 -- the first lines say nothing of nodes
-pub certificate_runs : (cave : Cave) (c : Certificate) (final : Judged) → All (IsSectionIn (cell_count c.size)) c.sections → Runs cave (said_of c) start final
+pub certificate_runs : (cave : Cave) (c : Certificate) (final : Judged)
+    → All (IsSectionIn (cell_count c.size)) c.sections → Runs cave (said_of c) start final
     → Found cave c.sections (start_line c.version) None final
 certificate_runs cave c final i r = go c.version r where
-  go : (v : Version) → Runs cave (said_of (record c { version = v })) start final → Found cave c.sections (start_line v) None final
+  go : (v : Version) → Runs cave (said_of (record c { version = v })) start final
+      → Found cave c.sections (start_line v) None final
   go first (j1, e1, (j2, e2, (j3, e3, (j4, e4, r4)))) =
       let f2 = subst (λ (x : Judged). Steps cave (said kind.Size (c.size.x ∷ c.size.y ∷ c.size.z ∷ [])) x j2) e1 e2 in
       let f3 = subst (λ (x : Judged). Steps cave (said kind.Headroom (c.headroom ∷ [])) x j3) f2 e3 in
       let f4 = subst (λ (x : Judged). Steps cave (said kind.Regions (length c.sections ∷ [])) x j4) f3 e4 in
-      regions_run cave (cell_count c.size) c.sections (record { line = 5; cells = []; floor = 0; spot = record { chosen = []; barred = []; frames = [] }; weak = None }) final i
+      regions_run cave (cell_count c.size)
+      c.sections (record {
+        line = 5;
+        cells = [];
+        floor = 0;
+        spot = record { chosen = []; barred = []; frames = [] };
+        weak = None;
+      }) final i
       (subst (λ (x : Judged). Runs cave (flat_map section_said c.sections ++ said kind.End [] ∷ []) x final) f4 r4)
   go (second need) (j1, e1, (j2, e2, (j3, e3, (j4, e4, (j5, e5, r5))))) =
       let f2 = subst (λ (x : Judged). Steps cave (said kind.Size (c.size.x ∷ c.size.y ∷ c.size.z ∷ [])) x j2) e1 e2 in
       let f3 = subst (λ (x : Judged). Steps cave (said kind.Headroom (c.headroom ∷ [])) x j3) f2 e3 in
       let f4 = subst (λ (x : Judged). Steps cave (said kind.Need (need ∷ [])) x j4) f3 e4 in
       let f5 = subst (λ (x : Judged). Steps cave (said kind.Regions (length c.sections ∷ [])) x j5) f4 e5 in
-      regions_run cave (cell_count c.size) c.sections (record { line = 6; cells = []; floor = 0; spot = record { chosen = []; barred = []; frames = [] }; weak = None }) final i
+      regions_run cave (cell_count c.size)
+      c.sections (record {
+        line = 6;
+        cells = [];
+        floor = 0;
+        spot = record { chosen = []; barred = []; frames = [] };
+        weak = None;
+      }) final i
       (subst (λ (x : Judged). Runs cave (flat_map section_said c.sections ++ said kind.End [] ∷ []) x final) f5 r5)

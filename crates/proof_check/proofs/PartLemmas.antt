@@ -13,25 +13,57 @@ use Rattle.proof_check.specs.Ends.{home_of, is_unparted, IsNoneBelow, DecidesLig
 use Rattle.proof_check.specs.declared.homes.Home.{Home}
 use Rattle.proof_check.specs.declared.homes.Home.TheVariants as home
 
-pub lights_none : (cave : Cave) (lists : Lists) (regions : Homes) (place : ℕ) → is_marked lists.places place ≡ false → DecidesLights cave lists regions place false
+-- a cell that is no place lights no two regions
+pub lights_none : (cave : Cave) (lists : Lists) (regions : Homes) (place : ℕ) → is_marked lists.places place ≡ false
+    → DecidesLights cave lists regions place false
 lights_none cave lists regions place off = record {
-  each = λ parts known a whole. (λ t. absurd (true≢false (sym t)), λ two. absurd (true≢false (sym ((known.places.exact place).1 two.0) ∙ off)));
+  each = λ parts known a whole. (
+    λ t. absurd (true≢false (sym t)),
+    λ two. absurd (true≢false (sym ((known.places.exact place).1 two.0) ∙ off)),
+  );
 }
 
-pub lights_some : (cave : Cave) (lists : Lists) (regions : Homes) (place : ℕ) (cells : List ℕ) (result : Bool) → is_marked lists.places place ≡ true → AreLitCells cave place cells → DecidesTwo cells regions result → DecidesLights cave lists regions place result
+-- a place lights two regions just where its lit cells have two homes
+pub lights_some : (cave : Cave) (lists : Lists) (regions : Homes) (place : ℕ) (cells : List ℕ) (result : Bool)
+    → is_marked lists.places place ≡ true → AreLitCells cave place cells → DecidesTwo cells regions result
+    → DecidesLights cave lists regions place result
 lights_some cave lists regions place cells result on lit d = record {
   each = λ parts known a whole.
       (let both = d.each parts a (λ cell h. (let lt = path_end_inside ((lit.exact cell).0 h).1 in omega arith)) in (
-        λ t. (let w = both.0 t in ((known.places.exact place).0 on, w.0, w.1, w.2, w.3, w.4, w.5, w.6, (lit.exact w.2).0 w.7, (lit.exact w.3).0 w.8)),
-        λ two. both.1 (two.1, two.2, two.3, two.4, two.5, two.6, two.7, (lit.exact two.3).1 two.8, (lit.exact two.4).1 two.9),
+        λ t. (let w = both.0 t in (
+          (known.places.exact place).0 on,
+          w.0,
+          w.1,
+          w.2,
+          w.3,
+          w.4,
+          w.5,
+          w.6,
+          (lit.exact w.2).0 w.7,
+          (lit.exact w.3).0 w.8,
+        )),
+        λ two. both.1 (
+          two.1,
+          two.2,
+          two.3,
+          two.4,
+          two.5,
+          two.6,
+          two.7,
+          (lit.exact two.3).1 two.8,
+          (lit.exact two.4).1 two.9,
+        ),
       ));
 }
 
 -- the first two reasons of a cell
 OwnReason : Cave → List (List ℕ) → ℕ → Type 0
-OwnReason cave parts cell = (IsDark cave cell × ((¬ IsListed parts cell) ⊎ IsInTwo parts cell)) ⊎ (IsListed parts cell × (¬ IsDark cave cell))
+OwnReason cave parts cell = (IsDark cave cell × ((¬ IsListed parts cell) ⊎ IsInTwo parts cell))
+    ⊎ (IsListed parts cell × (¬ IsDark cave cell))
 
-unparted : (cave : Cave) (parts : List (List ℕ)) (cell : ℕ) (h : Home) (dark : Bool) → IsHomeOf parts cell h → IsTrue dark ↔ IsDark cave cell → IsTrue (is_unparted h dark) ↔ OwnReason cave parts cell
+-- the home of a cell and whether it is dark tell whether it is listed wrongly
+unparted : (cave : Cave) (parts : List (List ℕ)) (cell : ℕ) (h : Home) (dark : Bool) → IsHomeOf parts cell h
+    → IsTrue dark ↔ IsDark cave cell → IsTrue (is_unparted h dark) ↔ OwnReason cave parts cell
 unfolding OwnReason
 unparted cave parts cell home.Nowhere dark is d = (
   λ t. inl (d.0 t, inl is),
@@ -40,7 +72,11 @@ unparted cave parts cell home.Nowhere dark is d = (
 unparted cave parts cell (home.Only i) true is d = (
   λ t. absurd (true≢false (sym t)),
   λ r. absurd (elim r [
-    | inl b ↦ elim b.1 [ inl out ↦ out (i, is.0) | inr two ↦ (let p = is.1 two.0 two.3 in let q = is.1 two.1 two.4 in let lt : two.0 < two.1 = two.2 in omega arith) ]
+    | inl b ↦ elim b.1 [
+      | inl out ↦ out (i, is.0)
+      | inr two ↦
+          (let p = is.1 two.0 two.3 in let q = is.1 two.1 two.4 in let lt : two.0 < two.1 = two.2 in omega arith)
+    ]
     | inr b ↦ b.1 (d.0 refl)
   ]),
 )
@@ -51,31 +87,43 @@ unparted cave parts cell (home.Only i) false is d = (
 unparted cave parts cell home.Several true is d = (λ t. inl (d.0 refl, inr is), λ r. refl)
 unparted cave parts cell home.Several false is d = (λ t. inr ((is.0, is.3), λ k. true≢false (sym (d.1 k))), λ r. refl)
 
+-- a cell listed wrongly is bad
 bad_of_own : (cave : Cave) (parts : List (List ℕ)) (cell : ℕ) → OwnReason cave parts cell → IsBadCell cave parts cell
 unfolding OwnReason
 bad_of_own cave parts cell (inl b) = inl b
 bad_of_own cave parts cell (inr b) = inr (inl b)
 
-own_or_lights : (cave : Cave) (parts : List (List ℕ)) (cell : ℕ) → IsBadCell cave parts cell → OwnReason cave parts cell ⊎ LightsTwo cave parts cell
+-- a bad cell is listed wrongly, or lights two regions
+own_or_lights : (cave : Cave) (parts : List (List ℕ)) (cell : ℕ) → IsBadCell cave parts cell
+    → OwnReason cave parts cell ⊎ LightsTwo cave parts cell
 unfolding OwnReason
 own_or_lights cave parts cell (inl b) = inl (inl b)
 own_or_lights cave parts cell (inr (inl b)) = inl (inr b)
 own_or_lights cave parts cell (inr (inr b)) = inr b
 
+-- below the first cell none is bad
 pub none_start : (cave : Cave) (lists : Lists) (regions : Homes) → NoneBad cave lists regions 0
-none_start cave lists regions = record { each = λ parts known a whole. record { each = λ cell lt. absurd (omega arith) } }
+none_start cave lists regions =
+    record { each = λ parts known a whole. record { each = λ cell lt. absurd (omega arith) } }
 
-module _ (cave : Cave) (lists : Lists) (regions : Homes) (cell : ℕ) (inside : cell < cell_count cave.size) (s : NoneBad cave lists regions cell) where
-  pub first_own : IsTrue (is_unparted (home_of regions cell) (is_marked lists.dark cell)) → DecidesBad cave lists regions (cell_count cave.size) (Some cell)
+module _ (cave : Cave) (lists : Lists) (regions : Homes) (cell : ℕ) (inside : cell < cell_count cave.size)
+    (s : NoneBad cave lists regions cell) where
+  -- with none bad before, a cell listed wrongly is the first
+  pub first_own : IsTrue (is_unparted (home_of regions cell) (is_marked lists.dark cell))
+      → DecidesBad cave lists regions (cell_count cave.size) (Some cell)
   first_own t = record {
     each = λ parts known a whole. record {
       inside = inside;
-      is = bad_of_own cave parts cell ((unparted cave parts cell (home_of regions cell) (is_marked lists.dark cell) (a.each cell (omega arith)) (known.dark.exact cell)).0 t);
+      is = bad_of_own cave parts cell
+          ((unparted cave parts cell (home_of regions cell) (is_marked lists.dark cell) (a.each cell (omega arith))
+          (known.dark.exact cell)).0 t);
       before = s.each parts known a whole;
     };
   }
 
-  pub first_lights : (result : Bool) → DecidesLights cave lists regions cell result → IsTrue result → DecidesBad cave lists regions (cell_count cave.size) (Some cell)
+  -- and so is a place that lights two regions
+  pub first_lights : (result : Bool) → DecidesLights cave lists regions cell result → IsTrue result
+      → DecidesBad cave lists regions (cell_count cave.size) (Some cell)
   first_lights result d t = record {
     each = λ parts known a whole. record {
       inside = inside;
@@ -84,12 +132,15 @@ module _ (cave : Cave) (lists : Lists) (regions : Homes) (cell : ℕ) (inside : 
     };
   }
 
-  pub none_more : (result : Bool) → is_unparted (home_of regions cell) (is_marked lists.dark cell) ≡ false → DecidesLights cave lists regions cell result → result ≡ false → NoneBad cave lists regions (cell + 1)
+  -- a cell that is neither is not bad
+  pub none_more : (result : Bool) → is_unparted (home_of regions cell) (is_marked lists.dark cell) ≡ false
+      → DecidesLights cave lists regions cell result → result ≡ false → NoneBad cave lists regions (cell + 1)
   none_more result off d out = record {
     each = λ parts known a whole. record {
       each = λ other lt bad. (elim (cases_eq other cell) [
         | inl e ↦ (elim (own_or_lights cave parts cell (subst (IsBadCell cave parts) e bad)) [
-          | inl own ↦ true≢false (sym ((unparted cave parts cell (home_of regions cell) (is_marked lists.dark cell) (a.each cell (omega arith)) (known.dark.exact cell)).1 own) ∙ off)
+          | inl own ↦ true≢false (sym ((unparted cave parts cell (home_of regions cell) (is_marked lists.dark cell)
+              (a.each cell (omega arith)) (known.dark.exact cell)).1 own) ∙ off)
           | inr two ↦ true≢false (sym ((d.each parts known a whole).1 two) ∙ out)
         ])
         | inr ne ↦ (s.each parts known a whole).each other (less other lt ne) bad
@@ -99,5 +150,8 @@ module _ (cave : Cave) (lists : Lists) (regions : Homes) (cell : ℕ) (inside : 
     less : (other : ℕ) → other < cell + 1 → other ≢ cell → other < cell
     less other lt ne = elim (cases_lt other cell) [ inl l ↦ l | inr le ↦ absurd (ne (omega arith)) ]
 
-pub none_all : (cave : Cave) (lists : Lists) (regions : Homes) (count : ℕ) → count ≡ cell_count cave.size → NoneBad cave lists regions count → DecidesBad cave lists regions (cell_count cave.size) None
-none_all cave lists regions count e s = record { each = λ parts known a whole. subst (IsNoneBelow (IsBadCell cave parts)) e (s.each parts known a whole) }
+-- with none bad below the last, no cell of the box is bad
+pub none_all : (cave : Cave) (lists : Lists) (regions : Homes) (count : ℕ) → count ≡ cell_count cave.size
+    → NoneBad cave lists regions count → DecidesBad cave lists regions (cell_count cave.size) None
+none_all cave lists regions count e s =
+    record { each = λ parts known a whole. subst (IsNoneBelow (IsBadCell cave parts)) e (s.each parts known a whole) }

@@ -1,12 +1,14 @@
 -- The lists that the lines of a certificate have, and whether they agree with a cave.
-use Rattle.std.proofs.Common.{◌≡◌, ℕ, ◌<◌, List, [], ◌∷◌, ◌++◌, length, map, All, refl, sym, ap, subst, ◌∙◌, append_assoc}
+use Rattle.std.proofs.Common.{◌≡◌, ℕ, ◌<◌, List, [], ◌∷◌, ◌++◌, length, map, All, refl, sym, ap, subst, ◌∙◌}
+use Rattle.std.proofs.Common.{append_assoc}
 use Rattle.std.specs.Prelude.{flat_map}
 use Rattle.std.proofs.lemmas.Grind.{flat_map-append}
 use Rattle.std.proofs.lemmas.List.Elements.{All-nil, All-cons, All-head, All-tail, All-append}
 use Rattle.scan_core.specs.Box.{Point}
 use Rattle.cave_model.specs.Cave.{Cave}
 use Rattle.proof_rules.specs.Tree.{Tree, Forest, leaf, branch, bar, none, more, tree_count}
-use Rattle.proof_rules.specs.Certificate.{Section, Version, first, second, Certificate, AreListed, IsSectionIn, need_of, regions_of, torch_lists}
+use Rattle.proof_rules.specs.Certificate.{Section, Version, first, second, Certificate, AreListed, IsSectionIn}
+use Rattle.proof_rules.specs.Certificate.{need_of, regions_of, torch_lists}
 use Rattle.certificate_lines.specs.Said.{Said, said, tree_said, forest_said, section_said, said_of}
 use Rattle.certificate_lines.specs.declared.kind.Kind.TheVariants as kind
 use Rattle.proof_check.specs.Accepted.{IsOfCave}
@@ -15,56 +17,81 @@ use Rattle.proof_check.specs.Tried.{Agrees, Differs}
 
 -- ---- lists
 
+-- two empty lists are empty together
 two_none : (xs ys : List (List ℕ)) → xs ≡ [] → ys ≡ [] → xs ++ ys ≡ []
 two_none xs ys e f = ap (λ (x : List (List ℕ)). x ++ ys) e ∙ f
 
-module _ (f : Said → List (List ℕ)) (l : (ns : List ℕ) → f (said kind.Leaf ns) ≡ []) (b : (ns : List ℕ) → f (said kind.Branch ns) ≡ []) (e : (ns : List ℕ) → f (said kind.Bar ns) ≡ []) where
+module _ (f : Said → List (List ℕ)) (l : (ns : List ℕ) → f (said kind.Leaf ns) ≡ [])
+    (b : (ns : List ℕ) → f (said kind.Branch ns) ≡ []) (e : (ns : List ℕ) → f (said kind.Bar ns) ≡ []) where
   mutual
     tree_none : (t : Tree) → flat_map f (tree_said t) ≡ []
     tree_none (leaf cells) = two_none (f (said kind.Leaf (length cells ∷ cells))) [] (l (length cells ∷ cells)) refl
-    tree_none (branch cell kids) = two_none (f (said kind.Branch (cell ∷ tree_count kids ∷ []))) (flat_map f (forest_said kids)) (b (cell ∷ tree_count kids ∷ [])) (forest_none kids)
-    tree_none (bar place by kid) = two_none (f (said kind.Bar (place ∷ by ∷ []))) (flat_map f (tree_said kid)) (e (place ∷ by ∷ [])) (tree_none kid)
+    tree_none (branch cell kids) = two_none (f (said kind.Branch (cell ∷ tree_count kids ∷ [])))
+        (flat_map f (forest_said kids)) (b (cell ∷ tree_count kids ∷ [])) (forest_none kids)
+    tree_none (bar place by kid) = two_none (f (said kind.Bar (place ∷ by ∷ []))) (flat_map f (tree_said kid))
+        (e (place ∷ by ∷ [])) (tree_none kid)
 
     forest_none : (ts : Forest) → flat_map f (forest_said ts) ≡ []
     forest_none none = refl
-    forest_none (more t ts) = flat_map-append f (tree_said t) (forest_said ts) ∙ two_none (flat_map f (tree_said t)) (flat_map f (forest_said ts)) (tree_none t) (forest_none ts)
+    forest_none (more t ts) = flat_map-append f (tree_said t) (forest_said ts) ∙ two_none (flat_map f (tree_said t))
+        (flat_map f (forest_said ts)) (tree_none t) (forest_none ts)
 
   after_tree : (t : Tree) (rest : List Said) → flat_map f (tree_said t ++ rest) ≡ flat_map f rest
-  after_tree t rest = flat_map-append f (tree_said t) rest ∙ ap (λ (x : List (List ℕ)). x ++ flat_map f rest) (tree_none t)
+  after_tree t rest = flat_map-append f (tree_said t) rest ∙ ap (λ (x : List (List ℕ)). x ++ flat_map f rest)
+      (tree_none t)
 
+-- the lines of sections say their lists of torches
 torch_sections : (ss : List Section) → torch_parts (flat_map section_said ss ++ said kind.End [] ∷ []) ≡ torch_lists ss
 torch_sections [] = refl
-torch_sections (s ∷ ss) = ap torch_parts (append_assoc (section_said s) (flat_map section_said ss) (said kind.End [] ∷ []))
-    ∙ ap (λ (p : List (List ℕ)). s.torches ∷ p) (after_tree (λ s. part_if (is_torch_line s.kind) s.numbers) (λ ns. refl) (λ ns. refl) (λ ns. refl) s.tree (flat_map section_said ss ++ said kind.End [] ∷ []) ∙ torch_sections ss)
+torch_sections (s ∷ ss) = ap torch_parts
+    (append_assoc (section_said s) (flat_map section_said ss) (said kind.End [] ∷ []))
+    ∙ ap (λ (p : List (List ℕ)). s.torches ∷ p)
+    (after_tree (λ s. part_if (is_torch_line s.kind) s.numbers) (λ ns. refl) (λ ns. refl)
+    (λ ns. refl) s.tree (flat_map section_said ss ++ said kind.End [] ∷ []) ∙ torch_sections ss)
 
+-- the lines of a certificate say its lists of torches
 pub torches_said : (c : Certificate) → torch_parts (said_of c) ≡ torch_lists c.sections
 torches_said c = go c.version where
   go : (v : Version) → torch_parts (said_of (record c { version = v })) ≡ torch_lists c.sections
   go first = torch_sections c.sections
   go (second need) = torch_sections c.sections
 
-dark_sections : (ss : List Section) → dark_parts (flat_map section_said ss ++ said kind.End [] ∷ []) ≡ map (λ s. s.cells) ss
+-- the lines of sections say their regions
+dark_sections : (ss : List Section)
+    → dark_parts (flat_map section_said ss ++ said kind.End [] ∷ []) ≡ map (λ s. s.cells) ss
 dark_sections [] = refl
-dark_sections (s ∷ ss) = ap dark_parts (append_assoc (section_said s) (flat_map section_said ss) (said kind.End [] ∷ []))
-    ∙ ap (λ (p : List (List ℕ)). s.cells ∷ p) (after_tree (λ s. part_if (is_dark_line s.kind) s.numbers) (λ ns. refl) (λ ns. refl) (λ ns. refl) s.tree (flat_map section_said ss ++ said kind.End [] ∷ []) ∙ dark_sections ss)
+dark_sections (s ∷ ss) = ap dark_parts
+    (append_assoc (section_said s) (flat_map section_said ss) (said kind.End [] ∷ []))
+    ∙ ap (λ (p : List (List ℕ)). s.cells ∷ p)
+    (after_tree (λ s. part_if (is_dark_line s.kind) s.numbers) (λ ns. refl) (λ ns. refl)
+    (λ ns. refl) s.tree (flat_map section_said ss ++ said kind.End [] ∷ []) ∙ dark_sections ss)
 
+-- the lines of a certificate say its regions
 pub regions_said : (c : Certificate) → dark_parts (said_of c) ≡ regions_of c
 regions_said c = go c.version where
   go : (v : Version) → dark_parts (said_of (record c { version = v })) ≡ regions_of c
   go first = dark_sections c.sections
   go (second need) = dark_sections c.sections
 
+-- sections within a box list torches within it
 pub torches_in : (count : ℕ) (ss : List Section) → All (IsSectionIn count) ss → All (AreListed count) (torch_lists ss)
 torches_in count [] a = All-nil (AreListed count)
-torches_in count (s ∷ ss) a = All-cons (AreListed count) s.torches (torch_lists ss) (All-head (IsSectionIn count) s ss a).lit_by (torches_in count ss (All-tail (IsSectionIn count) s ss a))
+torches_in count (s ∷ ss) a = All-cons (AreListed count) s.torches (torch_lists ss)
+    (All-head (IsSectionIn count) s ss a).lit_by (torches_in count ss (All-tail (IsSectionIn count) s ss a))
 
-pub regions_in : (count : ℕ) (ss : List Section) → All (IsSectionIn count) ss → All (AreListed count) (map (λ s. s.cells) ss)
+-- and regions within it
+pub regions_in : (count : ℕ) (ss : List Section) → All (IsSectionIn count) ss
+    → All (AreListed count) (map (λ s. s.cells) ss)
 regions_in count [] a = All-nil (AreListed count)
-regions_in count (s ∷ ss) a = All-cons (AreListed count) s.cells (map (λ s. s.cells) ss) (All-head (IsSectionIn count) s ss a).dark (regions_in count ss (All-tail (IsSectionIn count) s ss a))
+regions_in count (s ∷ ss) a = All-cons (AreListed count) s.cells (map (λ s. s.cells) ss)
+    (All-head (IsSectionIn count) s ss a).dark (regions_in count ss (All-tail (IsSectionIn count) s ss a))
 
-pub regions_filled : (count : ℕ) (ss : List Section) → All (IsSectionIn count) ss → All (λ cells. 0 < length cells) (map (λ s. s.cells) ss)
+-- none of which is empty
+pub regions_filled : (count : ℕ) (ss : List Section) → All (IsSectionIn count) ss
+    → All (λ cells. 0 < length cells) (map (λ s. s.cells) ss)
 regions_filled count [] a = All-nil (λ cells. 0 < length cells)
-regions_filled count (s ∷ ss) a = All-cons (λ cells. 0 < length cells) s.cells (map (λ s. s.cells) ss) (All-head (IsSectionIn count) s ss a).filled (regions_filled count ss (All-tail (IsSectionIn count) s ss a))
+regions_filled count (s ∷ ss) a = All-cons (λ cells. 0 < length cells) s.cells (map (λ s. s.cells) ss)
+    (All-head (IsSectionIn count) s ss a).filled (regions_filled count ss (All-tail (IsSectionIn count) s ss a))
 
 -- ---- agreement
 
@@ -78,26 +105,31 @@ module _ (cave : Cave) where
   mutual
     tree_agrees : (t : Tree) → AllAgree (tree_said t)
     tree_agrees (leaf cells) = with_line (said kind.Leaf (length cells ∷ cells)) [] tt (All-nil (Agrees cave))
-    tree_agrees (branch cell kids) = with_line (said kind.Branch (cell ∷ tree_count kids ∷ [])) (forest_said kids) tt (forest_agrees kids)
+    tree_agrees (branch cell kids) = with_line (said kind.Branch (cell ∷ tree_count kids ∷ [])) (forest_said kids) tt
+        (forest_agrees kids)
     tree_agrees (bar place by kid) = with_line (said kind.Bar (place ∷ by ∷ [])) (tree_said kid) tt (tree_agrees kid)
 
     forest_agrees : (ts : Forest) → AllAgree (forest_said ts)
     forest_agrees none = All-nil (Agrees cave)
-    forest_agrees (more t ts) = All-append (Agrees cave) (tree_said t) (forest_said ts) (tree_agrees t) (forest_agrees ts)
+    forest_agrees (more t ts) = All-append (Agrees cave) (tree_said t) (forest_said ts) (tree_agrees t)
+        (forest_agrees ts)
 
   section_agrees : (s : Section) → AllAgree (section_said s)
   section_agrees s =
-      with_line (said kind.Region (length s.cells ∷ length s.torches ∷ [])) (said kind.Dark s.cells ∷ said kind.Torches s.torches ∷ tree_said s.tree) tt
+      with_line (said kind.Region (length s.cells ∷ length s.torches ∷ []))
+      (said kind.Dark s.cells ∷ said kind.Torches s.torches ∷ tree_said s.tree) tt
       (with_line (said kind.Dark s.cells) (said kind.Torches s.torches ∷ tree_said s.tree) tt
       (with_line (said kind.Torches s.torches) (tree_said s.tree) tt (tree_agrees s.tree)))
 
   sections_agree : (ss : List Section) → AllAgree (flat_map section_said ss)
   sections_agree [] = All-nil (Agrees cave)
-  sections_agree (s ∷ ss) = All-append (Agrees cave) (section_said s) (flat_map section_said ss) (section_agrees s) (sections_agree ss)
+  sections_agree (s ∷ ss) = All-append (Agrees cave) (section_said s) (flat_map section_said ss) (section_agrees s)
+      (sections_agree ss)
 
   same_size : (a b : Point) → a ≡ b → a.x ∷ a.y ∷ a.z ∷ [] ≡ b.x ∷ b.y ∷ b.z ∷ []
   same_size a b e = ap (λ (p : Point). p.x ∷ p.y ∷ p.z ∷ []) e
 
+  -- the lines of a certificate of the cave agree with it
   pub agrees_of : (c : Certificate) → IsOfCave cave c → AllAgree (said_of c)
   agrees_of c o = go c.version o.need where
     size : Agrees cave (said kind.Size (c.size.x ∷ c.size.y ∷ c.size.z ∷ []))
@@ -106,20 +138,40 @@ module _ (cave : Cave) where
     headroom : Agrees cave (said kind.Headroom (c.headroom ∷ []))
     headroom = ap (λ (n : ℕ). n ∷ []) o.headroom
 
-    rest : AllAgree (said kind.Regions (length c.sections ∷ []) ∷ (flat_map section_said c.sections ++ said kind.End [] ∷ []))
-    rest = with_line (said kind.Regions (length c.sections ∷ [])) (flat_map section_said c.sections ++ said kind.End [] ∷ []) tt
-        (All-append (Agrees cave) (flat_map section_said c.sections) (said kind.End [] ∷ []) (sections_agree c.sections) (with_line (said kind.End []) [] tt (All-nil (Agrees cave))))
+    rest : AllAgree (said kind.Regions (length c.sections ∷ [])
+        ∷ (flat_map section_said c.sections ++ said kind.End [] ∷ []))
+    rest = with_line (said kind.Regions (length c.sections ∷ []))
+        (flat_map section_said c.sections ++ said kind.End [] ∷ []) tt
+        (All-append (Agrees cave) (flat_map section_said c.sections) (said kind.End [] ∷ []) (sections_agree c.sections)
+        (with_line (said kind.End []) [] tt (All-nil (Agrees cave))))
 
     go : (v : Version) → need_of v ≡ cave.rule.need → AllAgree (said_of (record c { version = v }))
     go first n =
-        with_line (said kind.Version (1 ∷ [])) (said kind.Size (c.size.x ∷ c.size.y ∷ c.size.z ∷ []) ∷ said kind.Headroom (c.headroom ∷ []) ∷ said kind.Regions (length c.sections ∷ []) ∷ (flat_map section_said c.sections ++ said kind.End [] ∷ [])) (λ e. sym n)
-        (with_line (said kind.Size (c.size.x ∷ c.size.y ∷ c.size.z ∷ [])) (said kind.Headroom (c.headroom ∷ []) ∷ said kind.Regions (length c.sections ∷ []) ∷ (flat_map section_said c.sections ++ said kind.End [] ∷ [])) size
-        (with_line (said kind.Headroom (c.headroom ∷ [])) (said kind.Regions (length c.sections ∷ []) ∷ (flat_map section_said c.sections ++ said kind.End [] ∷ [])) headroom rest))
+        with_line (said kind.Version (1 ∷ []))
+        (said kind.Size (c.size.x ∷ c.size.y ∷ c.size.z ∷ []) ∷ said kind.Headroom (c.headroom ∷ []) ∷ said
+        kind.Regions (length c.sections ∷ []) ∷ (flat_map section_said c.sections ++ said kind.End [] ∷ []))
+        (λ e. sym n)
+        (with_line (said kind.Size (c.size.x ∷ c.size.y ∷ c.size.z ∷ []))
+        (said kind.Headroom (c.headroom ∷ []) ∷ said kind.Regions (length c.sections ∷ [])
+        ∷ (flat_map section_said c.sections ++ said kind.End [] ∷ [])) size
+        (with_line (said kind.Headroom (c.headroom ∷ []))
+        (said kind.Regions (length c.sections ∷ []) ∷ (flat_map section_said c.sections ++ said kind.End [] ∷ []))
+        headroom rest))
     go (second need) n =
-        with_line (said kind.Version (2 ∷ [])) (said kind.Size (c.size.x ∷ c.size.y ∷ c.size.z ∷ []) ∷ said kind.Headroom (c.headroom ∷ []) ∷ said kind.Need (need ∷ []) ∷ said kind.Regions (length c.sections ∷ []) ∷ (flat_map section_said c.sections ++ said kind.End [] ∷ [])) (λ e. absurd cc)
-        (with_line (said kind.Size (c.size.x ∷ c.size.y ∷ c.size.z ∷ [])) (said kind.Headroom (c.headroom ∷ []) ∷ said kind.Need (need ∷ []) ∷ said kind.Regions (length c.sections ∷ []) ∷ (flat_map section_said c.sections ++ said kind.End [] ∷ [])) size
-        (with_line (said kind.Headroom (c.headroom ∷ [])) (said kind.Need (need ∷ []) ∷ said kind.Regions (length c.sections ∷ []) ∷ (flat_map section_said c.sections ++ said kind.End [] ∷ [])) headroom
-        (with_line (said kind.Need (need ∷ [])) (said kind.Regions (length c.sections ∷ []) ∷ (flat_map section_said c.sections ++ said kind.End [] ∷ [])) (ap (λ (k : ℕ). k ∷ []) n) rest)))
+        with_line (said kind.Version (2 ∷ []))
+        (said kind.Size (c.size.x ∷ c.size.y ∷ c.size.z ∷ []) ∷ said kind.Headroom (c.headroom ∷ []) ∷ said
+        kind.Need (need ∷ []) ∷ said kind.Regions (length c.sections ∷ [])
+        ∷ (flat_map section_said c.sections ++ said kind.End [] ∷ [])) (λ e. absurd cc)
+        (with_line (said kind.Size (c.size.x ∷ c.size.y ∷ c.size.z ∷ []))
+        (said kind.Headroom (c.headroom ∷ []) ∷ said kind.Need (need ∷ []) ∷ said
+        kind.Regions (length c.sections ∷ []) ∷ (flat_map section_said c.sections ++ said kind.End [] ∷ []))
+        size
+        (with_line (said kind.Headroom (c.headroom ∷ []))
+        (said kind.Need (need ∷ []) ∷ said kind.Regions (length c.sections ∷ [])
+        ∷ (flat_map section_said c.sections ++ said kind.End [] ∷ [])) headroom
+        (with_line (said kind.Need (need ∷ []))
+        (said kind.Regions (length c.sections ∷ []) ∷ (flat_map section_said c.sections ++ said kind.End [] ∷ []))
+        (ap (λ (k : ℕ). k ∷ []) n) rest)))
 
   one_number : (a b : ℕ) → a ∷ [] ≡ b ∷ [] → a ≡ b
   one_number a b e = cc
@@ -134,11 +186,13 @@ module _ (cave : Cave) where
       let z : a.z ≡ b.z = cc in
       point_same a b x y z
 
+  -- and where all lines agree it is one
   pub of_agreeing : (c : Certificate) → AllAgree (said_of c) → IsOfCave cave c
   of_agreeing c a = go c.version a where
     go : (v : Version) → AllAgree (said_of (record c { version = v })) → IsOfCave cave (record c { version = v })
     go first a =
-        let regions : List Said = said kind.Regions (length c.sections ∷ []) ∷ (flat_map section_said c.sections ++ said kind.End [] ∷ []) in
+        let regions : List Said = said kind.Regions (length c.sections ∷ [])
+        ∷ (flat_map section_said c.sections ++ said kind.End [] ∷ []) in
         let size : Said = said kind.Size (c.size.x ∷ c.size.y ∷ c.size.z ∷ []) in
         let headroom : Said = said kind.Headroom (c.headroom ∷ []) in
         let a1 = All-tail (Agrees cave) (said kind.Version (1 ∷ [])) (size ∷ headroom ∷ regions) a in
@@ -149,7 +203,8 @@ module _ (cave : Cave) where
           need = sym (All-head (Agrees cave) (said kind.Version (1 ∷ [])) (size ∷ headroom ∷ regions) a refl);
         }
     go (second need) a =
-        let regions : List Said = said kind.Regions (length c.sections ∷ []) ∷ (flat_map section_said c.sections ++ said kind.End [] ∷ []) in
+        let regions : List Said = said kind.Regions (length c.sections ∷ [])
+        ∷ (flat_map section_said c.sections ++ said kind.End [] ∷ []) in
         let size : Said = said kind.Size (c.size.x ∷ c.size.y ∷ c.size.z ∷ []) in
         let headroom : Said = said kind.Headroom (c.headroom ∷ []) in
         let needed : Said = said kind.Need (need ∷ []) in
@@ -162,5 +217,6 @@ module _ (cave : Cave) where
           need = one_number need cave.rule.need (All-head (Agrees cave) needed regions a3);
         }
 
+  -- where a line differs it isn't
   pub differing : (c : Certificate) → Differs cave (said_of c) → ¬ IsOfCave cave c
   differing c d o = d.other (subst (Agrees cave) d.there.2 (agrees_of c o d.there.0 d.line d.there.1))

@@ -13,7 +13,9 @@ use Rattle.proof_check.specs.Kept.{IsNew, IsWide}
 use Rattle.proof_check.specs.declared.judge.Judge.{Judge}
 use Rattle.proof_check.specs.declared.nodes.Nodes.{Nodes}
 
-wide_start : (cave : Cave) (lists : Lists) (nodes : Nodes) → AreListsOf cave lists → IsNew (cell_count cave.size) nodes → IsWide lists nodes
+-- new nodes are as wide as the box
+wide_start : (cave : Cave) (lists : Lists) (nodes : Nodes) → AreListsOf cave lists → IsNew (cell_count cave.size) nodes
+    → IsWide lists nodes
 wide_start cave lists nodes known n = record {
   region = n.region ∙ sym known.places.whole;
   seen = n.seen ∙ sym known.places.whole;
@@ -21,11 +23,16 @@ wide_start cave lists nodes known n = record {
   barred = n.barred ∙ sym known.places.whole;
   none = n.no_seen;
   inside = record {
-    each = λ place cell h. (let lt = marked_inside cave (IsPlace cave) lists.places place known.places ((known.lit_by place cell).0 h).legal in omega (arith, known.places.whole));
+    each = λ place cell h. (let lt = marked_inside cave
+        (IsPlace cave) lists.places place known.places ((known.lit_by place cell).0 h).legal in
+        omega (arith, known.places.whole));
   };
 }
 
-pub after_none : (cave : Cave) (judge : Judge) → AreListsOf cave judge.lists → IsNew (cell_count cave.size) judge.nodes → AreHomesOf [] judge.torches → length judge.torches.homes ≡ cell_count cave.size → AreHomesOf [] judge.regions → length judge.regions.homes ≡ cell_count cave.size → IsAfter cave judge []
+-- a new judge with empty homes has heard no line
+pub after_none : (cave : Cave) (judge : Judge) → AreListsOf cave judge.lists → IsNew (cell_count cave.size) judge.nodes
+    → AreHomesOf [] judge.torches → length judge.torches.homes ≡ cell_count cave.size → AreHomesOf [] judge.regions
+    → length judge.regions.homes ≡ cell_count cave.size → IsAfter cave judge []
 after_none cave judge known n torches torch_cells regions region_cells = record {
   known = known;
   wide = wide_start cave judge.lists judge.nodes known n;

@@ -1,5 +1,6 @@
 -- Steps of the judge of nodes, by the kind of the line.
-use Rattle.std.proofs.Common.{◌≡◌, ◌≢◌, ℕ, ◌-◌, ◌<◌, List, [], ◌∷◌, length, take, drop, refl, sym, ap, subst, ◌∙◌, arith}
+use Rattle.std.proofs.Common.{◌≡◌, ◌≢◌, ℕ, ◌-◌, ◌<◌, List, [], ◌∷◌, length, take, drop, refl, sym, ap, subst, ◌∙◌}
+use Rattle.std.proofs.Common.{arith}
 use Rattle.std.proofs.lemmas.List.{take_all}
 use Rattle.cave_model.specs.Cave.{Cave}
 use Rattle.cave_model.specs.Spawn.{IsDark}
@@ -18,59 +19,94 @@ use Rattle.proof_check.specs.Tally.{Tally}
 abbrev SaysNothing : Kind → List ℕ → Type 0
 SaysNothing k numbers = (cave : Cave) (s : State) → NodeSteps cave k numbers s (at (next_line s))
 
-pub nothing_said : (lists : Lists) (k : Kind) (numbers : List ℕ) (line : ℕ) (nodes : Nodes) → ((cave : Cave) (s : State) → NodeSteps cave k numbers s (at (next_line s))) → StepsOn lists k numbers line nodes nodes
+-- a line by which no state changes but its number leaves the nodes as they are
+pub nothing_said : (lists : Lists) (k : Kind) (numbers : List ℕ) (line : ℕ) (nodes : Nodes)
+    → ((cave : Cave) (s : State) → NodeSteps cave k numbers s (at (next_line s)))
+    → StepsOn lists k numbers line nodes nodes
 nothing_said lists k numbers line nodes f = record {
-  each = λ cave s known i e d. (at (next_line s), f cave s, record { good = i.good; cells = i.cells; floor = i.floor; weak = i.weak; spot = i.spot; dark = i.dark });
+  each = λ cave s known i e d. (
+    at (next_line s),
+    f cave s,
+    record { good = i.good; cells = i.cells; floor = i.floor; weak = i.weak; spot = i.spot; dark = i.dark },
+  );
 }
 
-pub leaf_nothing : (lists : Lists) (numbers : List ℕ) (line : ℕ) (nodes : Nodes) → length numbers < 1 → StepsOn lists kind.Leaf numbers line nodes nodes
+-- a leaf with no numbers says nothing
+pub leaf_nothing : (lists : Lists) (numbers : List ℕ) (line : ℕ) (nodes : Nodes) → length numbers < 1
+    → StepsOn lists kind.Leaf numbers line nodes nodes
 leaf_nothing lists [] line nodes h = nothing_said lists kind.Leaf [] line nodes (λ cave s. refl)
 leaf_nothing lists (n ∷ ns) line nodes h = absurd (omega arith)
 
-pub branch_nothing : (lists : Lists) (numbers : List ℕ) (line : ℕ) (nodes : Nodes) → (length numbers ≢ 2) → StepsOn lists kind.Branch numbers line nodes nodes
+-- nor does a branch with other than two
+pub branch_nothing : (lists : Lists) (numbers : List ℕ) (line : ℕ) (nodes : Nodes) → (length numbers ≢ 2)
+    → StepsOn lists kind.Branch numbers line nodes nodes
 branch_nothing lists [] line nodes h = nothing_said lists kind.Branch [] line nodes (λ cave s. refl)
 branch_nothing lists (a ∷ []) line nodes h = nothing_said lists kind.Branch (a ∷ []) line nodes (λ cave s. refl)
 branch_nothing lists (a ∷ b ∷ []) line nodes h = absurd (h refl)
-branch_nothing lists (a ∷ b ∷ c ∷ ns) line nodes h = nothing_said lists kind.Branch (a ∷ b ∷ c ∷ ns) line nodes (λ cave s. refl)
+branch_nothing lists (a ∷ b ∷ c ∷ ns) line nodes h = nothing_said lists kind.Branch (a ∷ b ∷ c ∷ ns) line nodes
+    (λ cave s. refl)
 
-pub bar_nothing : (lists : Lists) (numbers : List ℕ) (line : ℕ) (nodes : Nodes) → (length numbers ≢ 2) → StepsOn lists kind.Bar numbers line nodes nodes
+-- nor a bar with other than two
+pub bar_nothing : (lists : Lists) (numbers : List ℕ) (line : ℕ) (nodes : Nodes) → (length numbers ≢ 2)
+    → StepsOn lists kind.Bar numbers line nodes nodes
 bar_nothing lists [] line nodes h = nothing_said lists kind.Bar [] line nodes (λ cave s. refl)
 bar_nothing lists (a ∷ []) line nodes h = nothing_said lists kind.Bar (a ∷ []) line nodes (λ cave s. refl)
 bar_nothing lists (a ∷ b ∷ []) line nodes h = absurd (h refl)
-bar_nothing lists (a ∷ b ∷ c ∷ ns) line nodes h = nothing_said lists kind.Bar (a ∷ b ∷ c ∷ ns) line nodes (λ cave s. refl)
+bar_nothing lists (a ∷ b ∷ c ∷ ns) line nodes h = nothing_said lists kind.Bar (a ∷ b ∷ c ∷ ns) line nodes
+    (λ cave s. refl)
 
-pub leaf_steps : (lists : Lists) (numbers : List ℕ) (line : ℕ) (old new : Nodes) → 0 < length numbers → JudgesLeaf lists (take (length numbers - 1) (drop 1 numbers)) line old new → StepsOn lists kind.Leaf numbers line old new
+-- a leaf that is judged by the cells after its count is a step
+pub leaf_steps : (lists : Lists) (numbers : List ℕ) (line : ℕ) (old new : Nodes) → 0 < length numbers
+    → JudgesLeaf lists (take (length numbers - 1) (drop 1 numbers)) line old new
+    → StepsOn lists kind.Leaf numbers line old new
 leaf_steps lists [] line old new h j = absurd (omega arith)
 leaf_steps lists (n ∷ ns) line old new h j =
     let all : take (length (n ∷ ns) - 1) ns ≡ ns = take_all (length (n ∷ ns) - 1) ns (omega arith) in
     let here : JudgesLeaf lists ns line old new = subst (λ (l : List ℕ). JudgesLeaf lists l line old new) all j in
     record { each = λ cave s known i e d. here.each cave s known i e }
 
-pub other_nothing : (lists : Lists) (k : Kind) (numbers : List ℕ) (line : ℕ) (nodes : Nodes) → (k ≢ kind.Dark) → (k ≢ kind.Torches) → (k ≢ kind.Leaf) → (k ≢ kind.Branch) → (k ≢ kind.Bar) → StepsOn lists k numbers line nodes nodes
-other_nothing lists kind.Version numbers line nodes a b c d e = nothing_said lists kind.Version numbers line nodes (λ cave s. refl)
-other_nothing lists kind.Size numbers line nodes a b c d e = nothing_said lists kind.Size numbers line nodes (λ cave s. refl)
-other_nothing lists kind.Headroom numbers line nodes a b c d e = nothing_said lists kind.Headroom numbers line nodes (λ cave s. refl)
-other_nothing lists kind.Need numbers line nodes a b c d e = nothing_said lists kind.Need numbers line nodes (λ cave s. refl)
-other_nothing lists kind.Regions numbers line nodes a b c d e = nothing_said lists kind.Regions numbers line nodes (λ cave s. refl)
-other_nothing lists kind.Region numbers line nodes a b c d e = nothing_said lists kind.Region numbers line nodes (λ cave s. refl)
-other_nothing lists kind.End numbers line nodes a b c d e = nothing_said lists kind.End numbers line nodes (λ cave s. refl)
+-- a line of no kind of node says nothing of nodes
+pub other_nothing : (lists : Lists) (k : Kind) (numbers : List ℕ) (line : ℕ) (nodes : Nodes) → (k ≢ kind.Dark)
+    → (k ≢ kind.Torches) → (k ≢ kind.Leaf) → (k ≢ kind.Branch) → (k ≢ kind.Bar)
+    → StepsOn lists k numbers line nodes nodes
+other_nothing lists kind.Version numbers line nodes a b c d e = nothing_said lists kind.Version numbers line nodes
+    (λ cave s. refl)
+other_nothing lists kind.Size numbers line nodes a b c d e = nothing_said lists kind.Size numbers line nodes
+    (λ cave s. refl)
+other_nothing lists kind.Headroom numbers line nodes a b c d e = nothing_said lists kind.Headroom numbers line nodes
+    (λ cave s. refl)
+other_nothing lists kind.Need numbers line nodes a b c d e = nothing_said lists kind.Need numbers line nodes
+    (λ cave s. refl)
+other_nothing lists kind.Regions numbers line nodes a b c d e = nothing_said lists kind.Regions numbers line nodes
+    (λ cave s. refl)
+other_nothing lists kind.Region numbers line nodes a b c d e = nothing_said lists kind.Region numbers line nodes
+    (λ cave s. refl)
+other_nothing lists kind.End numbers line nodes a b c d e = nothing_said lists kind.End numbers line nodes
+    (λ cave s. refl)
 other_nothing lists kind.Dark numbers line nodes a b c d e = absurd (a refl)
 other_nothing lists kind.Torches numbers line nodes a b c d e = absurd (b refl)
 other_nothing lists kind.Leaf numbers line nodes a b c d e = absurd (c refl)
 other_nothing lists kind.Branch numbers line nodes a b c d e = absurd (d refl)
 other_nothing lists kind.Bar numbers line nodes a b c d e = absurd (e refl)
 
-spot_kept : (lists : Lists) (s : State) (old new : Track) → new ≡ old → IsAt lists s.spot old.chosen.items old.barred.items old.frames.items → IsAt lists s.spot new.chosen.items new.barred.items new.frames.items
-spot_kept lists s old new e i = subst (λ (t : Track). IsAt lists s.spot t.chosen.items t.barred.items t.frames.items) (sym e) i
+-- the same track is at the same spot
+spot_kept : (lists : Lists) (s : State) (old new : Track) → new ≡ old
+    → IsAt lists s.spot old.chosen.items old.barred.items old.frames.items
+    → IsAt lists s.spot new.chosen.items new.barred.items new.frames.items
+spot_kept lists s old new e i = subst (λ (t : Track). IsAt lists s.spot t.chosen.items t.barred.items t.frames.items)
+    (sym e) i
 
-pub dark_steps : (lists : Lists) (cells : List ℕ) (line : ℕ) (old new : Nodes) → IsWide lists old → Begins cells old new → StepsOn lists kind.Dark cells line old new
+-- a line of dark cells begins a region
+pub dark_steps : (lists : Lists) (cells : List ℕ) (line : ℕ) (old new : Nodes) → IsWide lists old → Begins cells old new
+    → StepsOn lists kind.Dark cells line old new
 dark_steps lists cells line old new w b = record {
   each = λ cave s known i e d. (
     at (record (next_line s) { cells = cells }),
     refl,
     record {
       good = b.bad ∙ i.good;
-      cells = b.region (λ c h. (let lt = marked_inside cave (IsDark cave) lists.dark c known.dark (d refl c h) in omega (arith, w.region, known.places.whole)));
+      cells = b.region (λ c h. (let lt = marked_inside cave (IsDark cave) lists.dark c known.dark (d refl c h) in
+          omega (arith, w.region, known.places.whole)));
       floor = b.floor ∙ i.floor;
       weak = b.weak ∙ i.weak;
       spot = spot_kept lists s old.track new.track b.track i.spot;
@@ -79,7 +115,9 @@ dark_steps lists cells line old new w b = record {
   );
 }
 
-pub torch_steps : (lists : Lists) (torches : List ℕ) (line : ℕ) (old new : Nodes) → Expects (length torches) old new → StepsOn lists kind.Torches torches line old new
+-- a line of torches says how many are to be proved
+pub torch_steps : (lists : Lists) (torches : List ℕ) (line : ℕ) (old new : Nodes) → Expects (length torches) old new
+    → StepsOn lists kind.Torches torches line old new
 torch_steps lists torches line old new x = record {
   each = λ cave s known i e d. (
     at (record (next_line s) { floor = length torches; spot = record { chosen = []; barred = []; frames = [] } }),

@@ -1,5 +1,7 @@
 -- Open branches, as they end and begin.
-use Rattle.std.proofs.Common.{◌≡◌, ℕ, suc, ◌+◌, ◌-◌, ◌<◌, ◌≤◌, inl, inr, List, [], ◌∷◌, ◌++◌, length, take, drop, slice_index, Contains, IsTrue, refl, sym, ap, subst, ◌∙◌, arith, append_assoc, length-append, drop-cons}
+use Rattle.std.proofs.Common.{◌≡◌, ℕ, suc, ◌+◌, ◌-◌, ◌<◌, ◌≤◌, inl, inr, List, [], ◌∷◌, ◌++◌, length, take, drop}
+use Rattle.std.proofs.Common.{slice_index, Contains, IsTrue, refl, sym, ap, subst, ◌∙◌, arith, append_assoc}
+use Rattle.std.proofs.Common.{length-append, drop-cons}
 use Rattle.std.specs.Prelude.{Bool, false}
 use Rattle.std.proofs.lemmas.Bool.{true≢false, cases_lt}
 use Rattle.std.proofs.lemmas.List.{append-nil, get_or_past, drop_all}
@@ -9,10 +11,12 @@ use Rattle.proof_check.specs.Track.{IsFrameOf, Fits, IsAt, Closes, Enters}
 use Rattle.proof_check.specs.declared.track.Frame as held
 use Rattle.proof_check.proofs.TestLemmas.{element_of}
 
+-- a list with a last element isn't empty
 snoc_nil : {A : Type 0} {B : Type 0} (xs : List A) (x : A) → xs ++ x ∷ [] ≡ [] → B
 snoc_nil [] x e = absurd cc
 snoc_nil (y ∷ xs) x e = absurd cc
 
+-- lists with a last element are equal by front and last
 snoc_same : {A : Type 0} (xs ys : List A) (x y : A) → xs ++ x ∷ [] ≡ ys ++ y ∷ [] → (xs ≡ ys) × (x ≡ y)
 snoc_same [] [] x y e = (refl, cc)
 snoc_same [] (z ∷ ys) x y e = (let f : [] ≡ ys ++ y ∷ [] = cc in snoc_nil ys y (sym f))
@@ -23,6 +27,7 @@ snoc_same (z ∷ xs) (w ∷ ys) x y e =
     let r = snoc_same xs ys x y f in
     ((let a = r.0 in cc), r.1)
 
+-- the list without its last element is the front
 pub front_of : (xs : List ℕ) (x : ℕ) → take (length (xs ++ x ∷ []) - 1) (xs ++ x ∷ []) ≡ xs
 front_of xs x =
     let n : length (xs ++ x ∷ []) - 1 ≡ length xs = omega (arith, length-append xs (x ∷ [])) in
@@ -31,12 +36,14 @@ front_of xs x =
       front_part [] ys = refl
       front_part (x ∷ xs) ys = ap (λ (l : List ℕ). x ∷ l) (front_part xs ys)
 
+-- the front of a joined list is its first part
 front_part : (xs ys : List ℕ) → take (length xs) (xs ++ ys) ≡ xs
 front_part [] ys = refl
 front_part (x ∷ xs) ys = ap (λ (l : List ℕ). x ∷ l) (front_part xs ys)
 
 -- the innermost frame is taken away
-pub record Popped (lists : Lists) (chosen barred : List ℕ) (front : List held.Frame) (last : held.Frame) (frames : List Frame) : Type 0 where
+pub record Popped (lists : Lists) (chosen barred : List ℕ) (front : List held.Frame) (last : held.Frame)
+    (frames : List Frame) : Type 0 where
   pub frame : Frame
   pub outer : List Frame
   pub are : frames ≡ frame ∷ outer
@@ -45,7 +52,10 @@ pub record Popped (lists : Lists) (chosen barred : List ℕ) (front : List held.
   pub barred_is : take last.bars barred ≡ frame.barred
   pub fits : Fits lists frame.chosen frame.barred front outer
 
-pub popped : (lists : Lists) (chosen barred : List ℕ) (kept front : List held.Frame) (last : held.Frame) (frames : List Frame) → Fits lists chosen barred kept frames → kept ≡ front ++ last ∷ [] → Popped lists chosen barred front last frames
+-- the last frame kept is the innermost open branch
+pub popped : (lists : Lists) (chosen barred : List ℕ) (kept front : List held.Frame) (last : held.Frame)
+    (frames : List Frame) → Fits lists chosen barred kept frames → kept ≡ front ++ last ∷ []
+    → Popped lists chosen barred front last frames
 popped lists chosen barred kept front last [] f e = snoc_nil front last (sym e ∙ f.0)
 popped lists chosen barred kept front last (a ∷ fs) (front2, last2, at, is, c, more, b, rest) e =
     let same = snoc_same front2 front last2 last (sym at ∙ e) in
@@ -56,49 +66,67 @@ popped lists chosen barred kept front last (a ∷ fs) (front2, last2, at, is, c,
       are = refl;
       is = here;
       chosen_is = ap (λ (l : List ℕ). take (length l - 1) l) c ∙ front_of a.chosen a.place;
-      barred_is = ap (λ (l : List ℕ). take last.bars l) b ∙ ap (λ (n : ℕ). take n (a.barred ++ more)) here.bars ∙ front_part a.barred more;
+      barred_is = ap (λ (l : List ℕ). take last.bars l) b ∙ ap (λ (n : ℕ). take n (a.barred ++ more)) here.bars
+          ∙ front_part a.barred more;
       fits = subst (λ (l : List held.Frame). Fits lists a.chosen a.barred l fs) same.0 rest;
     }
 
-pub no_frames : (lists : Lists) (chosen barred : List ℕ) (kept : List held.Frame) (frames : List Frame) → Fits lists chosen barred kept frames → kept ≡ [] → (frames ≡ []) × (chosen ≡ [])
+-- where no frame is kept no branch is open, and nothing is chosen
+pub no_frames : (lists : Lists) (chosen barred : List ℕ) (kept : List held.Frame) (frames : List Frame)
+    → Fits lists chosen barred kept frames → kept ≡ [] → (frames ≡ []) × (chosen ≡ [])
 no_frames lists chosen barred kept [] f e = (refl, f.1)
 no_frames lists chosen barred kept (a ∷ fs) f e = snoc_nil f.0 f.1 (sym f.2 ∙ e)
 
 -- a frame with no later place
 pub ended : (frame : Frame) (frames : List Frame) → frame.later ≡ [] → close (frame ∷ frames) ≡ close frames
-ended frame frames e = ap (λ (l : List ℕ). enter_or frame.chosen (frame.barred ++ frame.place ∷ []) l frames (close frames)) e
+ended frame frames e = ap (λ (l : List ℕ). enter_or frame.chosen (frame.barred ++ frame.place ∷ []) l frames
+    (close frames)) e
 
-pub marked_below : (marks : List Bool) (place limit : ℕ) → length marks ≡ limit → IsTrue (is_marked marks place) → place < limit
+-- a marked place lies in the box
+pub marked_below : (marks : List Bool) (place limit : ℕ) → length marks ≡ limit → IsTrue (is_marked marks place)
+    → place < limit
 marked_below marks place limit e m = elim (cases_lt place limit) [
   | inl lt ↦ lt
   | inr le ↦ absurd (true≢false (sym m ∙ get_or_past marks place false (omega arith)))
 ]
 
-pub place_below : (lists : Lists) (last : held.Frame) (frame : Frame) (limit k : ℕ) → length lists.places ≡ limit → IsFrameOf lists last frame → k < length last.places.items → slice_index last.places.items k < limit
-place_below lists last frame limit k e is h = marked_below lists.places (slice_index last.places.items k) limit e (is.legal (slice_index last.places.items k) (element_of last.places.items k h))
+-- the places of a frame lie in the box
+pub place_below : (lists : Lists) (last : held.Frame) (frame : Frame) (limit k : ℕ) → length lists.places ≡ limit
+    → IsFrameOf lists last frame → k < length last.places.items → slice_index last.places.items k < limit
+place_below lists last frame limit k e is h = marked_below lists.places (slice_index last.places.items k) limit e
+    (is.legal (slice_index last.places.items k) (element_of last.places.items k h))
 
 -- more places may be barred
-pub fits_wider : (lists : Lists) (chosen barred more : List ℕ) (kept : List held.Frame) (frames : List Frame) → Fits lists chosen barred kept frames → Fits lists chosen (barred ++ more) kept frames
+pub fits_wider : (lists : Lists) (chosen barred more : List ℕ) (kept : List held.Frame) (frames : List Frame)
+    → Fits lists chosen barred kept frames → Fits lists chosen (barred ++ more) kept frames
 fits_wider lists chosen barred more kept [] f = f
 fits_wider lists chosen barred more kept (a ∷ fs) (front, last, k, is, c, rest, b, outer) =
     (front, last, k, is, c, rest ++ more, ap (λ (l : List ℕ). l ++ more) b ∙ append_assoc a.barred rest more, outer)
 
 -- the next place of a frame
-next_later : (places : List ℕ) (index : ℕ) → index + 1 < length places → drop (index + 1) places ≡ slice_index places (index + 1) ∷ drop (index + 1 + 1) places
+next_later : (places : List ℕ) (index : ℕ) → index + 1 < length places
+    → drop (index + 1) places ≡ slice_index places (index + 1) ∷ drop (index + 1 + 1) places
 next_later places index h =
     let n : suc (index + 1) ≡ index + 1 + 1 = omega arith in
     drop-cons places (index + 1) 0 h ∙ ap (λ (k : ℕ). slice_index places (index + 1) ∷ drop k places) n
 
-pub next_fits : (lists : Lists) (last now : held.Frame) (frame : Frame) (frames : List Frame) (front : List held.Frame) (chosen barred : List ℕ) (kept : List held.Frame)
-    → IsFrameOf lists last frame → Fits lists frame.chosen frame.barred front frames → last.index + 1 < length last.places.items
+-- after the next place of a branch the track is where the tree ends
+pub next_fits : (lists : Lists) (last now : held.Frame) (frame : Frame) (frames : List Frame) (front : List held.Frame)
+    (chosen barred : List ℕ) (kept : List held.Frame)
+    → IsFrameOf lists last frame → Fits lists frame.chosen frame.barred front frames
+    → last.index + 1 < length last.places.items
     → now.places.items ≡ last.places.items → now.index ≡ last.index + 1 → kept ≡ front ++ now ∷ []
-    → chosen ≡ frame.chosen ++ slice_index last.places.items (last.index + 1) ∷ [] → barred ≡ frame.barred ++ slice_index last.places.items last.index ∷ []
+    → chosen ≡ frame.chosen ++ slice_index last.places.items (last.index + 1) ∷ []
+    → barred ≡ frame.barred ++ slice_index last.places.items last.index ∷ []
     → now.bars ≡ length barred → IsAt lists (close (frame ∷ frames)) chosen barred kept
 next_fits lists last now frame frames front chosen barred kept is fits more same index at c b bars =
-    let later : frame.later ≡ slice_index last.places.items (last.index + 1) ∷ drop (last.index + 1 + 1) last.places.items = sym is.later ∙ next_later last.places.items last.index more in
+    let later : frame.later ≡ slice_index last.places.items (last.index + 1) ∷ drop
+    (last.index + 1 + 1) last.places.items = sym is.later ∙ next_later last.places.items last.index more in
     let next : ℕ = slice_index last.places.items (last.index + 1) in
     let barred_now : barred ≡ frame.barred ++ frame.place ∷ [] = b ∙ ap (λ (p : ℕ). frame.barred ++ p ∷ []) is.place in
-    let closed : close (frame ∷ frames) ≡ enter_or frame.chosen (frame.barred ++ frame.place ∷ []) (slice_index last.places.items (last.index + 1) ∷ drop (last.index + 1 + 1) last.places.items) frames (close frames)
+    let closed : close (frame ∷ frames) ≡ enter_or frame.chosen (frame.barred ++ frame.place ∷ [])
+    (slice_index last.places.items (last.index + 1) ∷ drop (last.index + 1 + 1) last.places.items) frames
+    (close frames)
     = ap (λ (l : List ℕ). enter_or frame.chosen (frame.barred ++ frame.place ∷ []) l frames (close frames)) later in
     subst (λ (s : Spot). IsAt lists s chosen barred kept) (sym closed) (record {
       chosen_is = c;
@@ -111,7 +139,8 @@ next_fits lists last now frame frames front chosen barred kept is fits more same
           bars = bars ∙ ap length barred_now;
           within = omega (arith, ap length same);
           place = ap (λ (l : List ℕ). slice_index l now.index) same ∙ ap (slice_index last.places.items) index;
-          later = ap (λ (l : List ℕ). drop (now.index + 1) l) same ∙ ap (λ (n : ℕ). drop (n + 1) last.places.items) index;
+          later = ap (λ (l : List ℕ). drop (now.index + 1) l) same
+              ∙ ap (λ (n : ℕ). drop (n + 1) last.places.items) index;
           legal = λ place has. is.legal place (subst (λ (l : List ℕ). Contains l place) same has);
         },
         c,
@@ -123,59 +152,83 @@ next_fits lists last now frame frames front chosen barred kept is fits more same
 
 -- ---- the loop
 
-pub record Closing (limit : ℕ) (chosen barred : List ℕ) (kept : List held.Frame) (new_chosen new_barred : List ℕ) (new_kept : List held.Frame) : Type 0 where
+pub record Closing (limit : ℕ) (chosen barred : List ℕ) (kept : List held.Frame) (new_chosen new_barred : List ℕ)
+    (new_kept : List held.Frame) : Type 0 where
   pub each : (lists : Lists) (frames : List Frame) → length lists.places ≡ limit → Fits lists chosen barred kept frames
       → (left : List Frame) × Fits lists new_chosen new_barred new_kept left × (close left ≡ close frames)
 
-pub closing_start : (limit : ℕ) (chosen barred : List ℕ) (kept : List held.Frame) → Closing limit chosen barred kept chosen barred kept
+-- before the first frame is closed nothing has changed
+pub closing_start : (limit : ℕ) (chosen barred : List ℕ) (kept : List held.Frame)
+    → Closing limit chosen barred kept chosen barred kept
 closing_start limit chosen barred kept = record { each = λ lists frames e f. (frames, f, refl) }
 
-pub closing_next : (limit : ℕ) (c0 b0 : List ℕ) (k0 : List held.Frame) (chosen barred : List ℕ) (kept front : List held.Frame) (last : held.Frame) (new_chosen new_barred : List ℕ)
+-- a branch with no place left is closed, its chosen place and its barred ones taken back
+pub closing_next : (limit : ℕ) (c0 b0 : List ℕ) (k0 : List held.Frame) (chosen barred : List ℕ)
+    (kept front : List held.Frame) (last : held.Frame) (new_chosen new_barred : List ℕ)
     → Closing limit c0 b0 k0 chosen barred kept → kept ≡ front ++ last ∷ [] → length last.places.items ≤ last.index + 1
-    → new_chosen ≡ take (length chosen - 1) chosen → new_barred ≡ take last.bars barred → Closing limit c0 b0 k0 new_chosen new_barred front
+    → new_chosen ≡ take (length chosen - 1) chosen → new_barred ≡ take last.bars barred
+    → Closing limit c0 b0 k0 new_chosen new_barred front
 closing_next limit c0 b0 k0 chosen barred kept front last new_chosen new_barred s e done c b = record {
   each = λ lists frames el f.
       (let g = s.each lists frames el f in
       let p = popped lists chosen barred kept front last g.0 g.1 e in
       let none : p.frame.later ≡ [] = sym p.is.later ∙ drop_all (last.index + 1) last.places.items done in (
         p.outer,
-        subst (λ (l : List ℕ). Fits lists l new_barred front p.outer) (sym (c ∙ p.chosen_is)) (subst (λ (l : List ℕ). Fits lists p.frame.chosen l front p.outer) (sym (b ∙ p.barred_is)) p.fits),
+        subst (λ (l : List ℕ). Fits lists l new_barred front p.outer) (sym (c ∙ p.chosen_is))
+            (subst (λ (l : List ℕ). Fits lists p.frame.chosen l front p.outer) (sym (b ∙ p.barred_is)) p.fits),
         sym (ended p.frame p.outer none) ∙ sym (ap close p.are) ∙ g.2,
       ));
 }
 
-pub closing_end : (limit : ℕ) (c0 b0 : List ℕ) (k0 : List held.Frame) (chosen barred : List ℕ) (kept : List held.Frame) (new_barred : List ℕ)
-    → Closing limit c0 b0 k0 chosen barred kept → kept ≡ [] → new_barred ≡ [] → Closes limit c0 b0 k0 chosen new_barred kept
+-- with no frame left all is closed
+pub closing_end : (limit : ℕ) (c0 b0 : List ℕ) (k0 : List held.Frame) (chosen barred : List ℕ) (kept : List held.Frame)
+    (new_barred : List ℕ)
+    → Closing limit c0 b0 k0 chosen barred kept → kept ≡ [] → new_barred ≡ []
+    → Closes limit c0 b0 k0 chosen new_barred kept
 closing_end limit c0 b0 k0 chosen barred kept new_barred s e b = record {
   each = λ lists frames el f.
       (let g = s.each lists frames el f in
       let n = no_frames lists chosen barred kept g.0 g.1 e in
-      subst (λ (spot : Spot). IsAt lists spot chosen new_barred kept) (sym (ap close n.0) ∙ g.2) (record { chosen_is = n.1; barred_is = b; fits = (e, n.1) }));
+      subst (λ (spot : Spot). IsAt lists spot chosen new_barred kept) (sym (ap close n.0) ∙ g.2)
+      (record { chosen_is = n.1; barred_is = b; fits = (e, n.1) }));
 }
 
-pub closing_kid : (limit : ℕ) (c0 b0 : List ℕ) (k0 : List held.Frame) (chosen barred : List ℕ) (kept front : List held.Frame) (last now : held.Frame) (cut_chosen cut_barred new_chosen new_barred : List ℕ) (new_kept : List held.Frame)
+-- a branch with a place left goes on to it
+pub closing_kid : (limit : ℕ) (c0 b0 : List ℕ) (k0 : List held.Frame) (chosen barred : List ℕ)
+    (kept front : List held.Frame) (last now : held.Frame) (cut_chosen cut_barred new_chosen new_barred : List ℕ)
+    (new_kept : List held.Frame)
     → Closing limit c0 b0 k0 chosen barred kept → kept ≡ front ++ last ∷ [] → last.index + 1 < length last.places.items
     → cut_chosen ≡ take (length chosen - 1) chosen → cut_barred ≡ take last.bars barred
-    → (slice_index last.places.items last.index < limit → new_barred ≡ cut_barred ++ slice_index last.places.items last.index ∷ [])
-    → (slice_index last.places.items (last.index + 1) < limit → new_chosen ≡ cut_chosen ++ slice_index last.places.items (last.index + 1) ∷ [])
-    → new_kept ≡ front ++ now ∷ [] → now.places.items ≡ last.places.items → now.index ≡ last.index + 1 → now.bars ≡ length new_barred
+    → (slice_index last.places.items last.index < limit
+    → new_barred ≡ cut_barred ++ slice_index last.places.items last.index ∷ [])
+    → (slice_index last.places.items (last.index + 1) < limit
+    → new_chosen ≡ cut_chosen ++ slice_index last.places.items (last.index + 1) ∷ [])
+    → new_kept ≡ front ++ now ∷ [] → now.places.items ≡ last.places.items → now.index ≡ last.index + 1
+    → now.bars ≡ length new_barred
     → Closes limit c0 b0 k0 new_chosen new_barred new_kept
-closing_kid limit c0 b0 k0 chosen barred kept front last now cut_chosen cut_barred new_chosen new_barred new_kept s e more c b place next k same index bars = record {
-  each = λ lists frames el f.
-      (let g = s.each lists frames el f in
-      let p = popped lists chosen barred kept front last g.0 g.1 e in
-      let low = place_below lists last p.frame limit last.index el p.is (omega arith) in
-      let high = place_below lists last p.frame limit (last.index + 1) el p.is more in
-      let chosen_now = next high ∙ ap (λ (l : List ℕ). l ++ slice_index last.places.items (last.index + 1) ∷ []) (c ∙ p.chosen_is) in
-      let barred_now = place low ∙ ap (λ (l : List ℕ). l ++ slice_index last.places.items last.index ∷ []) (b ∙ p.barred_is) in
-      subst (λ (spot : Spot). IsAt lists spot new_chosen new_barred new_kept) (sym (ap close p.are) ∙ g.2)
-      (next_fits lists last now p.frame p.outer front new_chosen new_barred new_kept p.is p.fits more same index k chosen_now barred_now bars));
-}
+closing_kid limit c0 b0 k0 chosen barred kept front last now cut_chosen cut_barred new_chosen new_barred new_kept s e
+    more c b place next k same index bars = record {
+      each = λ lists frames el f.
+          (let g = s.each lists frames el f in
+          let p = popped lists chosen barred kept front last g.0 g.1 e in
+          let low = place_below lists last p.frame limit last.index el p.is (omega arith) in
+          let high = place_below lists last p.frame limit (last.index + 1) el p.is more in
+          let chosen_now = next high ∙ ap (λ (l : List ℕ). l ++ slice_index last.places.items (last.index + 1) ∷ [])
+          (c ∙ p.chosen_is) in
+          let barred_now = place low ∙ ap (λ (l : List ℕ). l ++ slice_index last.places.items last.index ∷ [])
+          (b ∙ p.barred_is) in
+          subst (λ (spot : Spot). IsAt lists spot new_chosen new_barred new_kept) (sym (ap close p.are) ∙ g.2)
+          (next_fits lists last now p.frame p.outer front new_chosen new_barred new_kept p.is p.fits more same index k
+          chosen_now barred_now bars));
+    }
 
 -- ---- a branch begins
 
-pub entered : (limit : ℕ) (places chosen barred : List ℕ) (kept : List held.Frame) (now : held.Frame) (new_chosen : List ℕ) (new_kept : List held.Frame) → 0 < length places
-    → (slice_index places 0 < limit → new_chosen ≡ chosen ++ slice_index places 0 ∷ []) → new_kept ≡ kept ++ now ∷ [] → now.places.items ≡ places → now.index ≡ 0 → now.bars ≡ length barred
+-- a branch with places enters the first
+pub entered : (limit : ℕ) (places chosen barred : List ℕ) (kept : List held.Frame) (now : held.Frame)
+    (new_chosen : List ℕ) (new_kept : List held.Frame) → 0 < length places
+    → (slice_index places 0 < limit → new_chosen ≡ chosen ++ slice_index places 0 ∷ []) → new_kept ≡ kept ++ now ∷ []
+    → now.places.items ≡ places → now.index ≡ 0 → now.bars ≡ length barred
     → Enters limit places chosen barred kept new_chosen barred new_kept
 entered limit [] chosen barred kept now new_chosen new_kept some c k same index bars = absurd (omega arith)
 entered limit (p ∷ ps) chosen barred kept now new_chosen new_kept some c k same index bars = record {
@@ -204,8 +257,12 @@ entered limit (p ∷ ps) chosen barred kept now new_chosen new_kept some c k sam
       });
 }
 
-pub entered_none : (limit : ℕ) (places chosen barred : List ℕ) (kept : List held.Frame) (new_chosen new_barred : List ℕ) (new_kept : List held.Frame) → places ≡ []
-    → Closes limit chosen barred kept new_chosen new_barred new_kept → Enters limit places chosen barred kept new_chosen new_barred new_kept
-entered_none limit places chosen barred kept new_chosen new_barred new_kept e s = subst (λ (l : List ℕ). Enters limit l chosen barred kept new_chosen new_barred new_kept) (sym e) (record {
-  each = λ lists frames el legal f. s.each lists frames el f;
-})
+-- a branch with none is closed at once
+pub entered_none : (limit : ℕ) (places chosen barred : List ℕ) (kept : List held.Frame) (new_chosen new_barred : List ℕ)
+    (new_kept : List held.Frame) → places ≡ []
+    → Closes limit chosen barred kept new_chosen new_barred new_kept
+    → Enters limit places chosen barred kept new_chosen new_barred new_kept
+entered_none limit places chosen barred kept new_chosen new_barred new_kept e s =
+    subst (λ (l : List ℕ). Enters limit l chosen barred kept new_chosen new_barred new_kept) (sym e) (record {
+      each = λ lists frames el legal f. s.each lists frames el f;
+    })

@@ -1,5 +1,6 @@
 -- What a trial has heard, line after line.
-use Rattle.std.proofs.Common.{◌≡◌, ℕ, ◌+◌, ◌^◌, ◌<◌, ◌≤◌, List, [], ◌∷◌, ◌++◌, length, refl, sym, ap, subst, ◌∙◌, arith, append_assoc, length-append}
+use Rattle.std.proofs.Common.{◌≡◌, ℕ, ◌+◌, ◌^◌, ◌<◌, ◌≤◌, List, [], ◌∷◌, ◌++◌, length, refl, sym, ap, subst, ◌∙◌}
+use Rattle.std.proofs.Common.{arith, append_assoc, length-append}
 use Rattle.std.specs.Prelude.{Bool, true, false, MatchBool, None, flat_map, decimal}
 use Rattle.std.proofs.lemmas.Grind.{flat_map-append}
 use Rattle.std.proofs.lemmas.List.{append-nil}
@@ -17,22 +18,28 @@ use Rattle.certificate_lines.specs.declared.kind.Kind.{Kind}
 use Rattle.certificate_lines.specs.declared.kind.Kind.TheVariants as kind
 use Rattle.proof_check.specs.Heard.{part_if, is_dark_line, is_torch_line, torch_parts, Hears}
 use Rattle.proof_check.specs.Kept.{AreAscending, IsWide}
-use Rattle.proof_check.specs.Tried.{AgreesOn, Agrees, Differs, IsHeard, Follows, Tried, HasRoom, IsBehind, Catches, HearsTo, HearsAll, torches_on}
+use Rattle.proof_check.specs.Tried.{AgreesOn, Agrees, Differs, IsHeard, Follows, Tried, HasRoom, IsBehind, Catches}
+use Rattle.proof_check.specs.Tried.{HearsTo, HearsAll, torches_on}
 use Rattle.proof_check.specs.declared.judge.Judge.{Judge}
 use Rattle.proof_check.specs.declared.trial.Trial.{Trial}
 use Rattle.proof_check.proofs.HearLemmas.{flat_push}
 
 -- ---- how much the lines say
 
+-- numbers are at most as many as the bytes of their text
 numbers_long : (numbers : List ℕ) → length numbers ≤ length (numbers_text numbers)
 numbers_long [] = omega arith
 numbers_long (n ∷ ns) = omega (arith, numbers_long ns, length-append (decimal n) (numbers_text ns))
 
-part_length : (b : Bool) (ns : List ℕ) (more : List (List ℕ)) → length (all_cells (part_if b ns ++ more)) ≤ length ns + length (all_cells more)
+-- a line adds at most its own numbers to the lists
+part_length : (b : Bool) (ns : List ℕ) (more : List (List ℕ))
+    → length (all_cells (part_if b ns ++ more)) ≤ length ns + length (all_cells more)
 part_length true ns more = omega (arith, length-append ns (all_cells more))
 part_length false ns more = omega arith
 
-parts_fit : (lines : List (List ℕ)) (all : List Said) → AreSaid lines all → length (all_cells (torch_parts all)) ≤ length (ended lines)
+-- the torches listed so far are at most as many as the bytes of the lines
+parts_fit : (lines : List (List ℕ)) (all : List Said) → AreSaid lines all
+    → length (all_cells (torch_parts all)) ≤ length (ended lines)
 parts_fit [] [] a = omega arith
 parts_fit [] (s ∷ all) a = absurd a
 parts_fit (t ∷ ts) [] a = absurd a
@@ -47,27 +54,44 @@ parts_fit (t ∷ ts) (s ∷ all) a = omega (
   length-append t (10 ∷ []),
 )
 
+-- a line adds at most one list
 part_few : (b : Bool) (ns : List ℕ) (more : List (List ℕ)) → length (part_if b ns ++ more) ≤ 1 + length more
 part_few true ns more = omega arith
 part_few false ns more = omega arith
 
-parts_few : (is : Kind → Bool) (all : List Said) → length (flat_map (λ s. part_if (is s.kind) s.numbers) all) ≤ length all
+-- there are at most as many lists as lines
+parts_few : (is : Kind → Bool) (all : List Said)
+    → length (flat_map (λ s. part_if (is s.kind) s.numbers) all) ≤ length all
 parts_few is [] = omega arith
-parts_few is (s ∷ all) = omega (arith, parts_few is all, part_few (is s.kind) s.numbers (flat_map (λ s. part_if (is s.kind) s.numbers) all))
+parts_few is (s ∷ all) = omega
+    (arith, parts_few is all, part_few (is s.kind) s.numbers (flat_map (λ s. part_if (is s.kind) s.numbers) all))
 
 -- ---- lines taken
 
-pub taken_many : (bytes : List ℕ) (all : List Said) (kept : Kept) → kept.misfit ≡ None → Holds bytes all kept → kept.taken ≡ length all
-taken_many bytes all kept e h = (let g = going bytes all kept e h in g.walked.counted ∙ said_many g.walked.before all g.says)
+-- with no misfit each line was taken
+pub taken_many : (bytes : List ℕ) (all : List Said) (kept : Kept) → kept.misfit ≡ None → Holds bytes all kept
+    → kept.taken ≡ length all
+taken_many bytes all kept e h =
+    (let g = going bytes all kept e h in g.walked.counted ∙ said_many g.walked.before all g.says)
 
-taken_few : (bytes : List ℕ) (all : List Said) (kept : Kept) → kept.misfit ≡ None → Holds bytes all kept → kept.taken ≤ length bytes
+-- lines taken are at most as many as bytes
+taken_few : (bytes : List ℕ) (all : List Said) (kept : Kept) → kept.misfit ≡ None → Holds bytes all kept
+    → kept.taken ≤ length bytes
 taken_few bytes all kept e h = (let g = going bytes all kept e h in let w = g.walked.within in omega arith)
 
-torches_fit : (bytes : List ℕ) (all : List Said) (kept : Kept) → kept.misfit ≡ None → Holds bytes all kept → length (all_cells (torch_parts all)) ≤ length bytes
+-- torches listed are at most as many as bytes
+torches_fit : (bytes : List ℕ) (all : List Said) (kept : Kept) → kept.misfit ≡ None → Holds bytes all kept
+    → length (all_cells (torch_parts all)) ≤ length bytes
 torches_fit bytes all kept e h =
     let g = going bytes all kept e h in
-    omega (arith, parts_fit g.walked.before all g.says, ap length g.walked.parts, length-append (ended g.walked.before) kept.last)
+    omega (
+      arith,
+      parts_fit g.walked.before all g.says,
+      ap length g.walked.parts,
+      length-append (ended g.walked.before) kept.last,
+    )
 
+-- the torches of a line are those that it is counted with
 on_length : (k : Kind) (ns : List ℕ) → length (all_cells (part_if (is_torch_line k) ns)) ≡ torches_on k ns
 on_length kind.Version ns = refl
 on_length kind.Size ns = refl
@@ -82,11 +106,20 @@ on_length kind.Branch ns = refl
 on_length kind.Bar ns = refl
 on_length kind.End ns = refl
 
-torches_push : (all : List Said) (k : Kind) (ns : List ℕ) → length (all_cells (torch_parts (all ++ said k ns ∷ []))) ≡ length (all_cells (torch_parts all)) + torches_on k ns
+-- a line more adds its torches to the number
+torches_push : (all : List Said) (k : Kind) (ns : List ℕ)
+    → length (all_cells (torch_parts (all ++ said k ns ∷ []))) ≡ length (all_cells (torch_parts all)) + torches_on k ns
 torches_push all k ns =
-    let e = ap (λ (p : List (List ℕ)). length (all_cells p)) (flat_push (λ s. part_if (is_torch_line s.kind) s.numbers) all (said k ns)) in
+    let e = ap (λ (p : List (List ℕ)). length (all_cells p))
+    (flat_push (λ s. part_if (is_torch_line s.kind) s.numbers) all (said k ns)) in
     let f = ap length (flat_map-append (λ (cells : List ℕ). cells) (torch_parts all) (part_if (is_torch_line k) ns)) in
-    omega (arith, e, f, length-append (all_cells (torch_parts all)) (all_cells (part_if (is_torch_line k) ns)), on_length k ns)
+    omega (
+      arith,
+      e,
+      f,
+      length-append (all_cells (torch_parts all)) (all_cells (part_if (is_torch_line k) ns)),
+      on_length k ns,
+    )
 
 -- ---- before a line is heard
 
@@ -103,18 +136,23 @@ module _ (cave : Cave) (t : Trial) (k : Kind) (b : IsBehind cave t k) (same : t.
     b.fits,
   )
 
+  -- the judge's tallies are as wide as the box
   pub behind_wide : IsWide t.judge.lists t.judge.nodes
   behind_wide = heard.after.wide
 
+  -- the places of each cell ascend
   pub behind_ascending : AreAscending t.judge.lists
   behind_ascending = record { each = heard.after.known.ascending }
 
+  -- there is room for a list of torches more
   pub behind_torches : t.judge.torches.count + 1 < 2 ^ 64
   behind_torches = omega (arith, heard.after.torches.counted, parts_few is_torch_line b.all, few)
 
+  -- and for a region more
   pub behind_regions : t.judge.regions.count + 1 < 2 ^ 64
   behind_regions = omega (arith, heard.after.regions.counted, parts_few is_dark_line b.all, few)
 
+  -- and for the torches of a line more
   pub behind_sum : t.torches + torches_on k t.pieces.numbers < 2 ^ 64
   behind_sum = omega (
     arith,
@@ -126,31 +164,52 @@ module _ (cave : Cave) (t : Trial) (k : Kind) (b : IsBehind cave t k) (same : t.
 
 -- ---- a line is heard
 
+-- what differs from the cave still differs after a line more
 differs_more : (cave : Cave) (all : List Said) (s : Said) → Differs cave all → Differs cave (all ++ s ∷ [])
-differs_more cave all s d = record { line = d.line; there = Contains-append_left all (s ∷ []) d.line d.there; other = d.other }
+differs_more cave all s d = record {
+  line = d.line;
+  there = Contains-append_left all (s ∷ []) d.line d.there;
+  other = d.other;
+}
 
+-- once something differs, nothing more is heard
 pub catches_differing : (cave : Cave) (k : Kind) (t : Trial) → t.differs ≡ true → Catches cave k t t
 catches_differing cave k t e = record {
   each = λ all n f.
       let d = subst (λ (d : Bool). MatchBool d (Differs cave all) (IsHeard cave t.judge t.torches all)) e f in
-      subst (λ (d : Bool). MatchBool d (Differs cave (all ++ said k t.pieces.numbers ∷ [])) (IsHeard cave t.judge t.torches (all ++ said k t.pieces.numbers ∷ []))) (sym e) (differs_more cave all (said k t.pieces.numbers) d);
+      subst (λ (d : Bool). MatchBool d (Differs cave (all ++ said k t.pieces.numbers ∷ []))
+      (IsHeard cave t.judge t.torches (all ++ said k t.pieces.numbers ∷ []))) (sym e)
+      (differs_more cave all (said k t.pieces.numbers) d);
 }
 
-pub catches_other : (cave : Cave) (k : Kind) (old new : Trial) → new.differs ≡ true → (¬ AgreesOn cave k old.pieces.numbers) → Catches cave k old new
+-- a line that differs from the cave is caught
+pub catches_other : (cave : Cave) (k : Kind) (old new : Trial) → new.differs ≡ true
+    → (¬ AgreesOn cave k old.pieces.numbers) → Catches cave k old new
 catches_other cave k old new e no_other = record {
   each = λ all n f.
-      subst (λ (d : Bool). MatchBool d (Differs cave (all ++ said k old.pieces.numbers ∷ [])) (IsHeard cave new.judge new.torches (all ++ said k old.pieces.numbers ∷ []))) (sym e)
-      (record { line = said k old.pieces.numbers; there = Contains-push all (said k old.pieces.numbers); other = no_other });
+      subst (λ (d : Bool). MatchBool d (Differs cave (all ++ said k old.pieces.numbers ∷ []))
+      (IsHeard cave new.judge new.torches (all ++ said k old.pieces.numbers ∷ []))) (sym e)
+      (record {
+        line = said k old.pieces.numbers;
+        there = Contains-push all (said k old.pieces.numbers);
+        other = no_other;
+      });
 }
 
-pub catches_line : (cave : Cave) (k : Kind) (line : ℕ) (old new : Trial) → old.differs ≡ false → new.differs ≡ false → AgreesOn cave k old.pieces.numbers → new.torches ≡ old.torches + torches_on k old.pieces.numbers → line ≡ old.pieces.taken
+-- a line that agrees is heard by the judge, and its torches are counted
+pub catches_line : (cave : Cave) (k : Kind) (line : ℕ) (old new : Trial) → old.differs ≡ false → new.differs ≡ false
+    → AgreesOn cave k old.pieces.numbers → new.torches ≡ old.torches + torches_on k old.pieces.numbers
+    → line ≡ old.pieces.taken
     → Hears k old.pieces.numbers line old.judge new.judge → Catches cave k old new
 catches_line cave k line old new e g agrees sum_is at hears = record {
   each = λ all n f.
       let h = subst (λ (d : Bool). MatchBool d (Differs cave all) (IsHeard cave old.judge old.torches all)) e f in
-      subst (λ (d : Bool). MatchBool d (Differs cave (all ++ said k old.pieces.numbers ∷ [])) (IsHeard cave new.judge new.torches (all ++ said k old.pieces.numbers ∷ []))) (sym g)
+      subst (λ (d : Bool). MatchBool d (Differs cave (all ++ said k old.pieces.numbers ∷ []))
+      (IsHeard cave new.judge new.torches (all ++ said k old.pieces.numbers ∷ []))) (sym g)
       (record {
-        agrees = All-append (Agrees cave) all (said k old.pieces.numbers ∷ []) h.agrees (All-cons (Agrees cave) (said k old.pieces.numbers) [] agrees (All-nil (Agrees cave)));
+        agrees = All-append (Agrees cave) all
+            (said k old.pieces.numbers ∷ []) h.agrees (All-cons (Agrees cave) (said k old.pieces.numbers) [] agrees
+            (All-nil (Agrees cave)));
         after = hears.each cave all h.after (at ∙ n);
         counted = (let c = h.counted in omega (arith, torches_push all k old.pieces.numbers));
       });
@@ -158,13 +217,17 @@ catches_line cave k line old new e g agrees sum_is at hears = record {
 
 -- ---- pieces
 
-follows_same : (cave : Cave) (old new : Trial) (all : List Said) → new.judge ≡ old.judge → new.differs ≡ old.differs → new.torches ≡ old.torches → Follows cave old all → Follows cave new all
+-- the same judge, flag and number follow the same lines
+follows_same : (cave : Cave) (old new : Trial) (all : List Said) → new.judge ≡ old.judge → new.differs ≡ old.differs
+    → new.torches ≡ old.torches → Follows cave old all → Follows cave new all
 follows_same cave old new all e f g h =
     subst (λ (d : Bool). MatchBool d (Differs cave all) (IsHeard cave new.judge new.torches all)) (sym f)
     (subst (λ (j : Judge). MatchBool old.differs (Differs cave all) (IsHeard cave j new.torches all)) (sym e)
     (subst (λ (n : ℕ). MatchBool old.differs (Differs cave all) (IsHeard cave old.judge n all)) (sym g) h))
 
-pub ends_piece : (cave : Cave) (piece : List ℕ) (old new : Trial) → new.judge ≡ old.judge → new.differs ≡ old.differs → new.torches ≡ old.torches → EndsPiece piece old.pieces new.pieces → HearsAll cave piece old new
+-- a piece in which no line ends changes the pieces alone
+pub ends_piece : (cave : Cave) (piece : List ℕ) (old new : Trial) → new.judge ≡ old.judge → new.differs ≡ old.differs
+    → new.torches ≡ old.torches → EndsPiece piece old.pieces new.pieces → HearsAll cave piece old new
 ends_piece cave piece old new e f g ends = record {
   each = λ bytes t. record {
     all = t.all;
@@ -173,24 +236,38 @@ ends_piece cave piece old new e f g ends = record {
   };
 }
 
-pub is_behind : (cave : Cave) (piece after : List ℕ) (k : Kind) (old mid : Trial) → HasRoom cave old (length piece) → mid.judge ≡ old.judge → mid.differs ≡ old.differs → mid.torches ≡ old.torches → TakesLine piece after k old.pieces mid.pieces → IsBehind cave mid k
+-- a line that was just taken is one that the judge hasn't heard yet
+pub is_behind : (cave : Cave) (piece after : List ℕ) (k : Kind) (old mid : Trial) → HasRoom cave old (length piece)
+    → mid.judge ≡ old.judge → mid.differs ≡ old.differs → mid.torches ≡ old.torches
+    → TakesLine piece after k old.pieces mid.pieces → IsBehind cave mid k
 is_behind cave piece after k old mid r e f g takes = record {
   bytes = r.bytes ++ takes.front;
   all = r.tried.all;
   holds = takes.each r.bytes r.tried.all r.tried.holds;
   follows = follows_same cave old mid r.tried.all e f g r.tried.follows;
-  fits = omega (arith, r.room, ap length takes.parts, length-append takes.front after, length-append r.bytes takes.front);
+  fits = omega (
+    arith,
+    r.room,
+    ap length takes.parts,
+    length-append takes.front after,
+    length-append r.bytes takes.front,
+  );
   going = takes.going;
 }
 
-pub hears_to : (cave : Cave) (piece after : List ℕ) (k : Kind) (old mid new : Trial) → mid.judge ≡ old.judge → mid.differs ≡ old.differs → mid.torches ≡ old.torches → TakesLine piece after k old.pieces mid.pieces → new.pieces ≡ mid.pieces → Catches cave k mid new → HearsTo cave piece after old new
+-- the line taken from a piece was heard
+pub hears_to : (cave : Cave) (piece after : List ℕ) (k : Kind) (old mid new : Trial) → mid.judge ≡ old.judge
+    → mid.differs ≡ old.differs → mid.torches ≡ old.torches → TakesLine piece after k old.pieces mid.pieces
+    → new.pieces ≡ mid.pieces → Catches cave k mid new → HearsTo cave piece after old new
 hears_to cave piece after k old mid new e f g takes same catches = record {
   front = takes.front;
   parts = takes.parts;
   some = takes.some;
   each = λ bytes t.
       let h = takes.each bytes t.all t.holds in
-      let n : mid.pieces.taken ≡ length t.all + 1 = taken_many (bytes ++ takes.front) (t.all ++ said k mid.pieces.numbers ∷ []) mid.pieces takes.going h ∙ length-append t.all (said k mid.pieces.numbers ∷ []) in
+      let n : mid.pieces.taken ≡ length t.all + 1 = taken_many (bytes ++ takes.front)
+      (t.all ++ said k mid.pieces.numbers ∷ []) mid.pieces takes.going h
+      ∙ length-append t.all (said k mid.pieces.numbers ∷ []) in
       record {
         all = t.all ++ said k mid.pieces.numbers ∷ [];
         holds = subst (Holds (bytes ++ takes.front) (t.all ++ said k mid.pieces.numbers ∷ [])) (sym same) h;
@@ -206,24 +283,39 @@ pub record Hearing (cave : Cave) (piece : List ℕ) (old now : Trial) (rest : Li
   pub parts : piece ≡ front ++ rest
   pub each : (bytes : List ℕ) → Tried cave bytes old → Tried cave (bytes ++ front) now
 
+-- before a piece nothing of it was heard
 pub hearing_start : (cave : Cave) (piece : List ℕ) (t : Trial) → Hearing cave piece t t piece
-hearing_start cave piece t = record { front = []; parts = refl; each = λ bytes h. subst (λ (b : List ℕ). Tried cave b t) (sym (append-nil bytes)) h }
+hearing_start cave piece t = record {
+  front = [];
+  parts = refl;
+  each = λ bytes h. subst (λ (b : List ℕ). Tried cave b t)
+      (sym (append-nil bytes)) h;
+}
 
-pub hearing_room : (cave : Cave) (piece : List ℕ) (old now : Trial) (rest : List ℕ) → HasRoom cave old (length piece) → Hearing cave piece old now rest → HasRoom cave now (length rest)
+-- the room for a piece leaves room for its rest
+pub hearing_room : (cave : Cave) (piece : List ℕ) (old now : Trial) (rest : List ℕ) → HasRoom cave old (length piece)
+    → Hearing cave piece old now rest → HasRoom cave now (length rest)
 hearing_room cave piece old now rest r h = record {
   bytes = r.bytes ++ h.front;
   tried = h.each r.bytes r.tried;
   room = omega (arith, r.room, ap length h.parts, length-append h.front rest, length-append r.bytes h.front);
 }
 
-pub hearing_more : (cave : Cave) (piece : List ℕ) (old now new : Trial) (rest after : List ℕ) → Hearing cave piece old now rest → HearsTo cave rest after now new → Hearing cave piece old new after
+-- the next line of a piece was heard too
+pub hearing_more : (cave : Cave) (piece : List ℕ) (old now new : Trial) (rest after : List ℕ)
+    → Hearing cave piece old now rest → HearsTo cave rest after now new → Hearing cave piece old new after
 hearing_more cave piece old now new rest after h to = record {
   front = h.front ++ to.front;
   parts = h.parts ∙ ap (λ (l : List ℕ). h.front ++ l) to.parts ∙ sym (append_assoc h.front to.front after);
-  each = λ bytes t. subst (λ (b : List ℕ). Tried cave b new) (append_assoc bytes h.front to.front) (to.each (bytes ++ h.front) (h.each bytes t));
+  each = λ bytes t. subst (λ (b : List ℕ). Tried cave b new) (append_assoc bytes h.front to.front)
+      (to.each (bytes ++ h.front) (h.each bytes t));
 }
 
-pub hearing_end : (cave : Cave) (piece : List ℕ) (old now new : Trial) (rest : List ℕ) → Hearing cave piece old now rest → HearsAll cave rest now new → HearsAll cave piece old new
+-- with its rest the whole piece was heard
+pub hearing_end : (cave : Cave) (piece : List ℕ) (old now new : Trial) (rest : List ℕ) → Hearing cave piece old now rest
+    → HearsAll cave rest now new → HearsAll cave piece old new
 hearing_end cave piece old now new rest h all = record {
-  each = λ bytes t. subst (λ (b : List ℕ). Tried cave b new) (append_assoc bytes h.front rest ∙ ap (λ (l : List ℕ). bytes ++ l) (sym h.parts)) (all.each (bytes ++ h.front) (h.each bytes t));
+  each = λ bytes t. subst (λ (b : List ℕ). Tried cave b new)
+      (append_assoc bytes h.front rest ∙ ap (λ (l : List ℕ). bytes ++ l) (sym h.parts))
+      (all.each (bytes ++ h.front) (h.each bytes t));
 }

@@ -16,14 +16,16 @@ use Rattle.proof_check.specs.declared.verdict.Verdict.{Verdict}
 
 module _ (structure : List ℕ) (table : Option (List ℕ)) where
   -- a fault of the cave is one of the bytes
-  pub cave_fault : (e : CaveFault) → (e ≢ cave.OutOfMemory → caves.IsFaultOfBytes structure table e) → of_cave e ≢ faults.OutOfMemory → IsFaultOfBytes structure table (of_cave e)
+  pub cave_fault : (e : CaveFault) → (e ≢ cave.OutOfMemory → caves.IsFaultOfBytes structure table e)
+      → of_cave e ≢ faults.OutOfMemory → IsFaultOfBytes structure table (of_cave e)
   cave_fault cave.OutOfMemory told other = absurd (other refl)
   cave_fault (cave.Scan f) told other = (cave.Scan f, told (λ same. cc), refl)
   cave_fault (cave.Table f) told other = (cave.Table f, told (λ same. cc), refl)
   cave_fault (cave.Build f) told other = (cave.Build f, told (λ same. cc), refl)
 
   -- where the cave is refused, a fault that is due is answered, or memory was refused
-  pub cave_refused : (e : CaveFault) → ((f : CaveFault) → caves.IsFaultOfBytes structure table f → (e ≡ f) ⊎ (e ≡ cave.OutOfMemory))
+  pub cave_refused : (e : CaveFault)
+      → ((f : CaveFault) → caves.IsFaultOfBytes structure table f → (e ≡ f) ⊎ (e ≡ cave.OutOfMemory))
       → (due : CheckFault) → IsFaultOfBytes structure table due → (of_cave e ≡ due) ⊎ (of_cave e ≡ faults.OutOfMemory)
   cave_refused e refused due (inner, is, same) = elim (refused inner is) [
     | inl e ↦ inl (ap of_cave e ∙ sym same)
@@ -31,32 +33,50 @@ module _ (structure : List ℕ) (table : Option (List ℕ)) where
   ]
 
   -- where there is a cave, no fault is due
-  pub cave_clean : ((f : CaveFault) → caves.IsFaultOfBytes structure table f → ⊥) → (due : CheckFault) → IsFaultOfBytes structure table due → ⊥
+  pub cave_clean : ((f : CaveFault) → caves.IsFaultOfBytes structure table f → ⊥) → (due : CheckFault)
+      → IsFaultOfBytes structure table due → ⊥
   cave_clean clean due (inner, is, same) = clean inner is
 
   module _ (rule : Rule) (certificate : List ℕ) where
     -- where there is no cave, there is no verdict
-    pub no_cave : (e : CaveFault) → ((other : Cave) → IsCaveOfBytes structure table rule other → e ≡ cave.OutOfMemory) → (verdict : Verdict) → IsJudged structure table rule certificate verdict → of_cave e ≡ faults.OutOfMemory
+    pub no_cave : (e : CaveFault) → ((other : Cave) → IsCaveOfBytes structure table rule other → e ≡ cave.OutOfMemory)
+        → (verdict : Verdict) → IsJudged structure table rule certificate verdict → of_cave e ≡ faults.OutOfMemory
     no_cave e only verdict j = ap of_cave (only j.cave j.told)
 
     -- of the cave at hand there is one verdict
-    pub one_verdict : (here : Cave) (given : Verdict) → ((other : Cave) → IsCaveOfBytes structure table rule other → here ≡ other) → IsTheVerdict here certificate given → (verdict : Verdict) → IsJudged structure table rule certificate verdict → given ≡ verdict
-    one_verdict here given only is verdict j = (subst (λ (c : Cave). IsTheVerdict c certificate given) (only j.cave j.told) is).only verdict j.verdict
+    pub one_verdict : (here : Cave) (given : Verdict)
+        → ((other : Cave) → IsCaveOfBytes structure table rule other → here ≡ other)
+        → IsTheVerdict here certificate given → (verdict : Verdict) → IsJudged structure table rule certificate verdict
+        → given ≡ verdict
+    one_verdict here given only is verdict j =
+        (subst (λ (c : Cave). IsTheVerdict c certificate given) (only j.cave j.told) is).only verdict j.verdict
 
   module _ (rule : Rule) where
     -- what is said of the bytes that were read, said of those that the reader had
-    pub known_verdict : (known : Option (List ℕ)) (here : Cave) (given : Verdict) → ((other : Cave) → IsCaveOfBytes structure table rule other → here ≡ other) → IfSome known (λ bytes. IsTheVerdict here bytes given) → IfSome known (λ bytes. (verdict : Verdict) → IsJudged structure table rule bytes verdict → given ≡ verdict)
+    pub known_verdict : (known : Option (List ℕ)) (here : Cave) (given : Verdict)
+        → ((other : Cave) → IsCaveOfBytes structure table rule other → here ≡ other)
+        → IfSome known (λ bytes. IsTheVerdict here bytes given)
+        → IfSome known (λ bytes. (verdict : Verdict) → IsJudged structure table rule bytes verdict → given ≡ verdict)
     known_verdict None here given only is = tt
     known_verdict (Some bytes) here given only is = one_verdict rule bytes here given only is
 
-    pub known_none : (known : Option (List ℕ)) (e : CaveFault) (fault : CheckFault) → fault ≡ of_cave e → ((other : Cave) → IsCaveOfBytes structure table rule other → e ≡ cave.OutOfMemory) → IfSome known (λ bytes. (verdict : Verdict) → IsJudged structure table rule bytes verdict → IsOfReading fault)
+    -- with a fault of the cave, known bytes are judged only where memory was refused
+    pub known_none : (known : Option (List ℕ)) (e : CaveFault) (fault : CheckFault) → fault ≡ of_cave e
+        → ((other : Cave) → IsCaveOfBytes structure table rule other → e ≡ cave.OutOfMemory)
+        → IfSome known (λ bytes. (verdict : Verdict) → IsJudged structure table rule bytes verdict → IsOfReading fault)
     known_none None e fault same only = tt
     known_none (Some bytes) e fault same only = λ verdict j. inr (inr (same ∙ no_cave rule bytes e only verdict j))
 
-  pub read_fault : (e : CaveFault) (fault : CheckFault) → fault ≡ of_cave e → (e ≢ cave.OutOfMemory → caves.IsFaultOfBytes structure table e) → (¬ IsOfReading fault) → IsFaultOfBytes structure table fault
-  read_fault e fault same told other = subst (IsFaultOfBytes structure table) (sym same) (cave_fault e told (λ none. other (inr (inr (same ∙ none)))))
+  -- a fault of the cave is the fault that is due
+  pub read_fault : (e : CaveFault) (fault : CheckFault) → fault ≡ of_cave e
+      → (e ≢ cave.OutOfMemory → caves.IsFaultOfBytes structure table e) → (¬ IsOfReading fault)
+      → IsFaultOfBytes structure table fault
+  read_fault e fault same told other = subst (IsFaultOfBytes structure table) (sym same)
+      (cave_fault e told (λ none. other (inr (inr (same ∙ none)))))
 
-  pub read_refused : (e : CaveFault) (fault : CheckFault) → fault ≡ of_cave e → ((f : CaveFault) → caves.IsFaultOfBytes structure table f → (e ≡ f) ⊎ (e ≡ cave.OutOfMemory))
+  -- a fault that is due is the one told, or reading or memory failed
+  pub read_refused : (e : CaveFault) (fault : CheckFault) → fault ≡ of_cave e
+      → ((f : CaveFault) → caves.IsFaultOfBytes structure table f → (e ≡ f) ⊎ (e ≡ cave.OutOfMemory))
       → (due : CheckFault) → IsFaultOfBytes structure table due → (fault ≡ due) ⊎ IsOfReading fault
   read_refused e fault same refused due is = elim (cave_refused e refused due is) [
     | inl f ↦ inl (same ∙ f)

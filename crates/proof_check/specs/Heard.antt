@@ -55,4 +55,5 @@ pub record IsAfter (cave : Cave) (judge : Judge) (all : List Said) : Type 0 wher
 
 -- a line more
 pub record Hears (k : Kind) (numbers : List ℕ) (line : ℕ) (old new : Judge) : Type 0 where
-  pub each : (cave : Cave) (all : List Said) → IsAfter cave old all → line ≡ length all + 1 → IsAfter cave new (all ++ said k numbers ∷ [])
+  pub each : (cave : Cave) (all : List Said) → IsAfter cave old all → line ≡ length all + 1
+      → IsAfter cave new (all ++ said k numbers ∷ [])

@@ -111,4 +111,10 @@ Runs cave (s ∷ all) old new = (next : Judged) × Steps cave s old next × Runs
 
 -- before the first line
 abbrev pub start : Judged
-start = at (record { line = 1; cells = []; floor = 0; spot = record { chosen = []; barred = []; frames = [] }; weak = None })
+start = at (record {
+  line = 1;
+  cells = [];
+  floor = 0;
+  spot = record { chosen = []; barred = []; frames = [] };
+  weak = None;
+})

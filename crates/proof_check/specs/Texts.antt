@@ -4,7 +4,8 @@ use Rattle.block_rows.specs.Texts as rows
 use Rattle.cave_model.specs.Texts as caves
 use Rattle.scan_core.specs.Texts as scans
 use Rattle.proof_check.specs.declared.fault.CheckFault.{CheckFault}
-use Rattle.proof_check.specs.declared.fault.CheckFault.TheVariants.{Scan, Table, Build, ReadFailed, TooLong, OutOfMemory}
+use Rattle.proof_check.specs.declared.fault.CheckFault.TheVariants.{Scan, Table, Build, ReadFailed, TooLong}
+use Rattle.proof_check.specs.declared.fault.CheckFault.TheVariants.{OutOfMemory}
 use Rattle.proof_check.specs.declared.reason.Reason.{Reason}
 use Rattle.proof_check.specs.declared.reason.Reason.TheVariants.{Syntax, WrongBox, IllegalPlace, LeftDark, BadRegions}
 use Rattle.proof_check.specs.declared.reason.Reason.TheVariants.{BadNode, TooWeak}

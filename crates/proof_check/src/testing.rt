@@ -101,7 +101,8 @@ pub fn is_dominated(
     place: Cell,
     by: Cell,
 ) -> bool
-    ensures { IsTrue result ↔ tests.IsDominatedIn lists.now region.now.items chosen.now.items barred.now.items place by }
+    ensures { IsTrue result
+        ↔ tests.IsDominatedIn lists.now region.now.items chosen.now.items barred.now.items place by }
 {
     if !lists.is_place(place) || !lists.is_place(by) || place == by {
         return false;

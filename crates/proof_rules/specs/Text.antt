@@ -47,9 +47,11 @@ pub record IsTextOf (bytes : List ℕ) (certificate : Certificate) : Type 0 wher
 
 -- some certificate begins with these lines
 abbrev pub AreFirstLines : List (List ℕ) → Type 0
-AreFirstLines lines = (certificate : Certificate) × IsInRange certificate × (more : List (List ℕ)) × (lines_of certificate ≡ lines ++ more)
+AreFirstLines lines = (certificate : Certificate) × IsInRange certificate × (more : List (List ℕ))
+    × (lines_of certificate ≡ lines ++ more)
 
--- the first line that doesn't fit: no certificate begins with the lines up to this one, but some does with those before it
+-- the first line that doesn't fit: no certificate begins with the lines up to this one, but some does with those
+-- before it
 pub record IsFirstMisfit (bytes : List ℕ) (number : ℕ) : Type 0 where
   pub before : List (List ℕ)
   pub rest : List ℕ

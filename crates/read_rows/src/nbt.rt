@@ -7,3 +7,4 @@ mod hostile;
 mod leaves;
 mod memory;
 mod names;
+mod views;

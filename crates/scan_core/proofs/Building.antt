@@ -9,7 +9,8 @@ use Rattle.scan_core.specs.Properties.{props_of}
 use Rattle.scan_core.specs.Scan.{Structure, Entry, triple, point_value, last_state, IsStateOf, IsEntryOf, AreEach, IsListOf, IsScanOf}
 use Rattle.scan_core.specs.Faults.{side_fault, list_fault, name_fault, place_fault, index_fault, entry_faults, told_size, told_states, fault_of, size_fault, blocks_fault}
 use Rattle.scan_core.specs.Told.{IsSizeOf, IsPaletteOf}
-use Rattle.scan_core.specs.Judging.{first_fault, point_of, on_triple, on_field, are_compounds, on_compounds, each_from, on_text, on_int}
+use Rattle.nbt_core.specs.Parts.{are_compounds}
+use Rattle.scan_core.specs.Judging.{first_fault, point_of, on_triple, on_field, on_compounds, each_from, on_text, on_int}
 use Rattle.scan_core.specs.declared.state.BlockState.{BlockState}
 use Rattle.scan_core.specs.declared.fault.Field.{Field}
 use Rattle.scan_core.specs.declared.fault.Field.TheVariants.{SizeField, PaletteField, NameField, BlocksField, PosField, StateField}

@@ -1,12 +1,11 @@
 -- Cells that are filled by one entry after another.
-use Rattle.std.proofs.Common.{◌≡◌, ◌≢◌, ℕ, ◌+◌, ◌<◌, ◌≤◌, ◌==◌, Bool, true, false, List, [], ◌∷◌, ◌++◌, length, get_or, set, Option, Some, None, IsTrue, All, refl, sym, ap, subst, ◌∙◌, arith}
+use Rattle.std.proofs.Common.{◌≡◌, ◌≢◌, ℕ, ◌+◌, ◌<◌, ◌==◌, Bool, true, false, List, [], ◌∷◌, ◌++◌, length, get_or}
+use Rattle.std.proofs.Common.{set, Option, Some, None, IsTrue, All, refl, sym, ap, subst, ◌∙◌, arith}
 use Rattle.std.specs.Prelude.{if◌then◌else◌}
 use Rattle.std.proofs.lemmas.Bool.{eqb-true}
 use Rattle.std.proofs.lemmas.List.{get_or-set_same, get_or-set_other, length-set}
 use Rattle.std.proofs.lemmas.List.Elements.{All-nil, All-push}
 use Rattle.nbt_core.specs.Value.{Nbt}
-use Rattle.nbt_core.specs.View.{nbt, nbts}
-use Rattle.nbt_core.specs.declared.tag.Tag.{Tag}
 use Rattle.scan_core.specs.Box.{Point, cell_count, number, is_within}
 use Rattle.scan_core.specs.Cells.{IsPlaced, ShowEntries}
 use Rattle.scan_core.specs.Scan.{Entry, IsEntryOf, or_else, last_state}
@@ -16,18 +15,20 @@ use Rattle.scan_core.proofs.CellLemmas.{within_parts, number_below}
 use Rattle.scan_core.proofs.EachLemmas.{AreTold, none_told, told_more, told_all}
 
 -- the cells show the last of the entries below the index
-pub record AreFilled (size : Point) (states : ℕ) (tags : List Tag) (index : ℕ) (cells : List (Option ℕ)) : Type 0 where
+pub record AreFilled (size : Point) (states : ℕ) (ts : List Nbt) (index : ℕ) (rest : List Nbt)
+    (cells : List (Option ℕ)) : Type 0 where
   pub entries : List Entry
-  pub told : AreTold IsEntryOf (entry_faults size states) tags index entries
+  pub told : AreTold IsEntryOf (entry_faults size states) ts index rest entries
   pub inside : All (λ entry. IsTrue (is_within size entry.at)) entries
   pub known : All (λ entry. entry.state < states) entries
   pub whole : length cells ≡ cell_count size
   pub last : (cell : ℕ) → cell < cell_count size → get_or cells cell None ≡ last_state size cell entries
 
-pub none_filled : (size : Point) (states : ℕ) (tags : List Tag) (cells : List (Option ℕ)) → length cells ≡ cell_count size → All (λ cell. cell ≡ None) cells → AreFilled size states tags 0 cells
-none_filled size states tags cells whole void = record {
+pub none_filled : (size : Point) (states : ℕ) (ts : List Nbt) (cells : List (Option ℕ))
+    → length cells ≡ cell_count size → All (λ cell. cell ≡ None) cells → AreFilled size states ts 0 ts cells
+none_filled size states ts cells whole void = record {
   entries = [];
-  told = none_told IsEntryOf (entry_faults size states) tags;
+  told = none_told IsEntryOf (entry_faults size states) ts;
   inside = All-nil (λ (entry : Entry). IsTrue (is_within size entry.at));
   known = All-nil (λ (entry : Entry). entry.state < states);
   whole = whole;
@@ -38,39 +39,53 @@ none_filled size states tags cells whole void = record {
 abbrev state_at : Point → ℕ → Entry → Option ℕ → Option ℕ
 state_at size cell entry other = if number size entry.at == cell then Some entry.state else other
 
-pub last_push : (size : Point) (cell : ℕ) (entries : List Entry) (entry : Entry) → last_state size cell (entries ++ entry ∷ []) ≡ state_at size cell entry (last_state size cell entries)
+pub last_push : (size : Point) (cell : ℕ) (entries : List Entry) (entry : Entry)
+    → last_state size cell (entries ++ entry ∷ []) ≡ state_at size cell entry (last_state size cell entries)
 last_push size cell [] entry = refl
 last_push size cell (x ∷ xs) entry =
     ap (λ (o : Option ℕ). or_else o (state_at size cell x None)) (last_push size cell xs entry)
     ∙ by_case (number size entry.at == cell) entry.state (last_state size cell xs) (state_at size cell x None)
   where
-    by_case : (b : Bool) (n : ℕ) (o p : Option ℕ) → or_else (if b then Some n else o) p ≡ (if b then Some n else or_else o p)
+    by_case : (b : Bool) (n : ℕ) (o p : Option ℕ) → or_else (if b then Some n else o) p ≡ (if b then Some n
+        else or_else o p)
     by_case true n o p = refl
     by_case false n o p = refl
 
-set_shows : (cells : List (Option ℕ)) (at cell n : ℕ) → at < length cells → get_or (set cells at (Some n)) cell None ≡ (if at == cell then Some n else get_or cells cell None)
+set_shows : (cells : List (Option ℕ)) (at cell n : ℕ) → at < length cells
+    → get_or (set cells at (Some n)) cell None ≡ (if at == cell then Some n else get_or cells cell None)
 set_shows cells at cell n h = by_case (at == cell) (λ e. eqb-true at cell e) (λ e. differs at cell e)
   where
-    by_case : (b : Bool) → (b ≡ true → at ≡ cell) → (b ≡ false → cell ≢ at) → get_or (set cells at (Some n)) cell None ≡ (if b then Some n else get_or cells cell None)
-    by_case true p q = subst (λ (k : ℕ). get_or (set cells at (Some n)) k None ≡ Some n) (p refl) (get_or-set_same cells at (Some n) None h)
+    by_case : (b : Bool) → (b ≡ true → at ≡ cell) → (b ≡ false → cell ≢ at)
+        → get_or (set cells at (Some n)) cell None ≡ (if b then Some n else get_or cells cell None)
+    by_case true p q = subst (λ (k : ℕ). get_or (set cells at (Some n)) k None ≡ Some n) (p refl)
+        (get_or-set_same cells at (Some n) None h)
     by_case false p q = get_or-set_other cells at cell (Some n) None (q refl)
 
     differs : (a b : ℕ) → (a == b) ≡ false → b ≢ a
     differs a b e p = grind arith
 
-pub placed_below : (size : Point) (states : ℕ) (cells : List (Option ℕ)) (t : Nbt) (cell n : ℕ) → length cells ≡ cell_count size → IsPlaced t size states cell n → cell < length cells
+pub placed_below : (size : Point) (states : ℕ) (cells : List (Option ℕ)) (t : Nbt) (cell n : ℕ)
+    → length cells ≡ cell_count size → IsPlaced t size states cell n → cell < length cells
 placed_below size states cells t cell n whole p =
-    let inside : number size p.entry.at < cell_count size = number_below size p.entry.at (within_parts size p.entry.at p.inside) in
-    subst (λ (k : ℕ). k < length cells) (sym p.numbered) (subst (λ (k : ℕ). number size p.entry.at < k) (sym whole) inside)
+    let inside : number size p.entry.at < cell_count size = number_below size p.entry.at
+    (within_parts size p.entry.at p.inside) in
+    subst (λ (k : ℕ). k < length cells) (sym p.numbered)
+    (subst (λ (k : ℕ). number size p.entry.at < k) (sym whole) inside)
 
-pub more_filled : (size : Point) (states : ℕ) (tags : List Tag) (index : ℕ) (cells : List (Option ℕ)) (tag : Tag) (cell n : ℕ) → AreFilled size states tags index cells → index < length tags → tag ≡ get_or tags index tag → IsPlaced (nbt tag) size states cell n → first_fault (entry_faults size states index (nbt tag)) ≡ None → AreFilled size states tags (index + 1) (set cells cell (Some n))
-more_filled size states tags index cells tag cell n f h e p clean =
-    let below : number size p.entry.at < length cells = subst (λ (k : ℕ). k < length cells) p.numbered (placed_below size states cells (nbt tag) cell n f.whole p) in
-    subst (λ (k : ℕ). AreFilled size states tags (index + 1) (set cells k (Some n))) (sym p.numbered)
-    (subst (λ (k : ℕ). AreFilled size states tags (index + 1) (set cells (number size p.entry.at) (Some k))) (sym p.indexed)
+pub more_filled : (size : Point) (states : ℕ) (ts : List Nbt) (index : ℕ) (rest : List Nbt)
+    (cells : List (Option ℕ)) (t : Nbt) (others : List Nbt) (cell n : ℕ) → AreFilled size states ts index rest cells
+    → rest ≡ t ∷ others → IsPlaced t size states cell n → first_fault (entry_faults size states index t) ≡ None
+    → AreFilled size states ts (index + 1) others (set cells cell (Some n))
+more_filled size states ts index rest cells t others cell n f e p clean =
+    let below : number size p.entry.at < length cells = subst (λ (k : ℕ). k < length cells) p.numbered
+    (placed_below size states cells t cell n f.whole p) in
+    subst (λ (k : ℕ). AreFilled size states ts (index + 1) others (set cells k (Some n))) (sym p.numbered)
+    (subst (λ (k : ℕ). AreFilled size states ts (index + 1) others (set cells (number size p.entry.at) (Some k)))
+    (sym p.indexed)
     (record {
       entries = f.entries ++ p.entry ∷ [];
-      told = told_more IsEntryOf (entry_faults size states) tags index f.entries tag p.entry f.told h e p.told clean;
+      told = told_more IsEntryOf (entry_faults size states) ts index rest f.entries f.told t others p.entry e p.told
+          clean;
       inside = All-push (λ (entry : Entry). IsTrue (is_within size entry.at)) f.entries p.entry f.inside p.inside;
       known = All-push (λ (entry : Entry). entry.state < states) f.entries p.entry f.known p.known;
       whole = length-set cells (number size p.entry.at) (Some p.entry.state) ∙ f.whole;
@@ -80,7 +95,18 @@ more_filled size states tags index cells tag cell n f h e p clean =
           ∙ sym (last_push size k f.entries p.entry);
     }))
 
-pub all_filled : (size : Point) (states : ℕ) (tags : List Tag) (index : ℕ) (cells : List (Option ℕ)) → AreFilled size states tags index cells → length tags ≤ index → ShowEntries (nbts tags) size states cells × (first_fault (each_from 0 (entry_faults size states) (nbts tags)) ≡ None)
-all_filled size states tags index cells f h =
-    let all = told_all IsEntryOf (entry_faults size states) tags index f.entries f.told h in
-    (record { entries = f.entries; each = all.0; inside = f.inside; known = f.known; whole = f.whole; last = f.last }, all.1)
+pub all_filled : (size : Point) (states : ℕ) (ts : List Nbt) (index : ℕ) (rest : List Nbt) (cells : List (Option ℕ))
+    → AreFilled size states ts index rest cells → rest ≡ [] → ShowEntries ts size states cells
+    × (first_fault (each_from 0 (entry_faults size states) ts) ≡ None)
+all_filled size states ts index rest cells f h =
+    let all = told_all IsEntryOf (entry_faults size states) ts index rest f.entries f.told h in (
+      record {
+        entries = f.entries;
+        each = all.0;
+        inside = f.inside;
+        known = f.known;
+        whole = f.whole;
+        last = f.last;
+      },
+      all.1,
+    )

@@ -3,7 +3,8 @@ use Rattle.std.proofs.Common.{◌≡◌, ℕ, Bool, true, false, List, Option, S
 use Rattle.std.specs.Prelude.{if◌then◌else◌}
 use Rattle.nbt_core.specs.Value.{Nbt, leaf, list, compound, listed}
 use Rattle.scan_core.specs.Faults.{list_fault}
-use Rattle.scan_core.specs.Judging.{first_fault, are_compounds, on_compounds, each_from}
+use Rattle.nbt_core.specs.Parts.{are_compounds}
+use Rattle.scan_core.specs.Judging.{first_fault, on_compounds, each_from}
 use Rattle.scan_core.specs.Answer.{TellsInRoom}
 use Rattle.scan_core.specs.Scan.{AreEach, IsListOf}
 use Rattle.scan_core.specs.Told.{AreCompoundsOf}

@@ -1,13 +1,11 @@
 -- What the parts of a root tell, put together.
-use Rattle.std.proofs.Common.{◌≡◌, ◌≢◌, ℕ, Bool, false, List, [], ◌∷◌, length, codes, Option, Some, None, is_some, option_map, Result, Ok, Err, IfErr, inl, inr, ⊎_elim, ◌⊎◌, refl, sym, ap, subst, ◌∙◌}
-use Rattle.std.specs.Borrow.{Bor}
+use Rattle.std.proofs.Common.{◌≡◌, ◌≢◌, ℕ, Bool, false, List, [], ◌∷◌, length, codes, Option, Some, None, is_some}
+use Rattle.std.proofs.Common.{Result, Ok, Err, IfErr, inl, inr, ⊎_elim, ◌⊎◌, refl, sym, ap, subst, ◌∙◌}
 use Rattle.nbt_core.specs.Breaking.{FaultOf}
 use Rattle.nbt_core.specs.Spelling.{Root}
 use Rattle.nbt_core.specs.Value.{Nbt, field}
-use Rattle.nbt_core.specs.View.{nbt}
 use Rattle.nbt_core.specs.declared.fault.NbtFault.{NbtFault}
 use Rattle.nbt_core.specs.declared.fault.NbtFault.TheVariants as inner
-use Rattle.nbt_core.specs.declared.tag.Tag.{Tag}
 use Rattle.scan_core.specs.Answer.{IsAnswer, IsRefusal, TellsInRoom}
 use Rattle.scan_core.specs.Box.{Point}
 use Rattle.scan_core.specs.Cells.{AreCellsOf}
@@ -22,12 +20,14 @@ use Rattle.scan_core.specs.declared.fault.ScanFault.TheVariants as faults
 use Rattle.scan_core.proofs.One.{one_structure}
 use Rattle.scan_core.proofs.ScanLemmas.{structure_clean, size_told, states_told}
 
-pub no_field : (r : Option (Bor Tag)) (found : Option Nbt) → option_map (λ t. nbt t.now) r ≡ found → is_some r ≡ false → found ≡ None
+pub no_field : (r found : Option Nbt) → r ≡ found → is_some r ≡ false → found ≡ None
 no_field None found e h = sym e
 no_field (Some t) found e h = absurd (cc)
 
 -- the parts of a structure
-is_scan : (root : Nbt) (size : Point) (palette : List BlockState) (cells : List (Option ℕ)) → IsSizeOf root size → field (codes "palettes") root ≡ None → IsPaletteOf root palette → AreCellsOf root size (length palette) cells → IsScanOf root (record { size = size; palette = palette; cells = cells })
+is_scan : (root : Nbt) (size : Point) (palette : List BlockState) (cells : List (Option ℕ)) → IsSizeOf root size
+    → field (codes "palettes") root ≡ None → IsPaletteOf root palette → AreCellsOf root size (length palette) cells
+    → IsScanOf root (record { size = size; palette = palette; cells = cells })
 is_scan root size palette cells s single p c = record {
   sized = s.sized;
   small = s.small;
@@ -42,12 +42,17 @@ is_scan root size palette cells s single p c = record {
 }
 
 -- the same, as the code comes by them
-pub told_scan : (root : Nbt) (size : Point) (palette : List BlockState) (cells : List (Option ℕ)) (palettes : Option (Bor Tag)) (there : Bool) (states : ℕ) → IsSizeOf root size → option_map (λ t. nbt t.now) palettes ≡ field (codes "palettes") root → there ≡ is_some palettes → there ≡ false → IsPaletteOf root palette → states ≡ length palette → AreCellsOf root size states cells → IsScanOf root (record { size = size; palette = palette; cells = cells })
+pub told_scan : (root : Nbt) (size : Point) (palette : List BlockState) (cells : List (Option ℕ))
+    (palettes : Option Nbt) (there : Bool) (states : ℕ) → IsSizeOf root size
+    → palettes ≡ field (codes "palettes") root → there ≡ is_some palettes → there ≡ false
+    → IsPaletteOf root palette → states ≡ length palette → AreCellsOf root size states cells
+    → IsScanOf root (record { size = size; palette = palette; cells = cells })
 told_scan root size palette cells palettes there states s e h none p count c =
     is_scan root size palette cells s (no_field palettes (field (codes "palettes") root) e (sym h ∙ none)) p
     (subst (λ (n : ℕ). AreCellsOf root size n cells) count c)
 
-fourth : (a b c d : Option ScanFault) (fault : ScanFault) → a ≡ None → b ≡ None → c ≡ None → d ≡ Some fault → first_fault (a ∷ b ∷ c ∷ d ∷ []) ≡ Some fault
+fourth : (a b c d : Option ScanFault) (fault : ScanFault) → a ≡ None → b ≡ None → c ≡ None → d ≡ Some fault
+    → first_fault (a ∷ b ∷ c ∷ d ∷ []) ≡ Some fault
 fourth a b c d fault p q r s =
     ap (λ (a : Option ScanFault). first_fault (a ∷ b ∷ c ∷ d ∷ [])) p
     ∙ ap (λ (b : Option ScanFault). first_fault (None ∷ b ∷ c ∷ d ∷ [])) q
@@ -55,7 +60,11 @@ fourth a b c d fault p q r s =
     ∙ ap (λ (d : Option ScanFault). first_fault (None ∷ None ∷ None ∷ d ∷ [])) s
 
 -- a fault of the blocks, where the other parts have none
-pub fault_of-blocks : (root : Nbt) (size : Point) (palette : List BlockState) (palettes : Option (Bor Tag)) (there : Bool) (states : ℕ) (fault : ScanFault) → IsSizeOf root size → size_fault root ≡ None → option_map (λ t. nbt t.now) palettes ≡ field (codes "palettes") root → there ≡ is_some palettes → there ≡ false → IsPaletteOf root palette → palette_fault root ≡ None → states ≡ length palette → blocks_fault size states root ≡ Some fault → fault_of root ≡ Some fault
+pub fault_of-blocks : (root : Nbt) (size : Point) (palette : List BlockState) (palettes : Option Nbt) (there : Bool)
+    (states : ℕ) (fault : ScanFault) → IsSizeOf root size → size_fault root ≡ None
+    → palettes ≡ field (codes "palettes") root → there ≡ is_some palettes → there ≡ false
+    → IsPaletteOf root palette → palette_fault root ≡ None → states ≡ length palette
+    → blocks_fault size states root ≡ Some fault → fault_of root ≡ Some fault
 fault_of-blocks root size palette palettes there states fault s clean e h none p q count b =
     let single = no_field palettes (field (codes "palettes") root) e (sym h ∙ none) in
     fourth _ _ _ _ fault clean
@@ -76,36 +85,46 @@ both_faults root a b p q = same a b (sym p ∙ q)
 clean_or : (o : Option ScanFault) (fault : ScanFault) → o ≡ None → o ≡ Some fault → ⊥
 clean_or o fault p q = absurd (cc)
 
-pub root_only : (bytes : List ℕ) (root : Nbt) (r : Result Structure ScanFault) → ((t : Nbt) → Root bytes t → root ≡ t) → TellsInRoom r (λ s. IsScanOf root s) (fault_of root) → (s : Structure) → Scans bytes s → IsAnswer r s
+pub root_only : (bytes : List ℕ) (root : Nbt) (r : Result Structure ScanFault)
+    → ((t : Nbt) → Root bytes t → root ≡ t) → TellsInRoom r (λ s. IsScanOf root s) (fault_of root) → (s : Structure)
+    → Scans bytes s → IsAnswer r s
 root_only bytes root (Ok found) only told s (t, is, scan) =
     one_structure root found s told.0 (subst (λ (t : Nbt). IsScanOf t s) (sym (only t is)) scan)
 root_only bytes root (Err fault) only told s (t, is, scan) =
-    ⊎_elim (λ e. absurd (clean_or (fault_of root) fault (structure_clean root s (subst (λ (t : Nbt). IsScanOf t s) (sym (only t is)) scan)) e)) (λ e. e) told
+    ⊎_elim (λ e. absurd (clean_or (fault_of root) fault
+    (structure_clean root s (subst (λ (t : Nbt). IsScanOf t s) (sym (only t is)) scan)) e)) (λ e. e) told
 
-pub root_fault : (bytes : List ℕ) (root : Nbt) (r : Result Structure ScanFault) → Root bytes root → TellsInRoom r (λ s. IsScanOf root s) (fault_of root) → IfErr r (λ e. e ≢ faults.OutOfMemory → IsFaultOf bytes e)
+pub root_fault : (bytes : List ℕ) (root : Nbt) (r : Result Structure ScanFault) → Root bytes root
+    → TellsInRoom r (λ s. IsScanOf root s) (fault_of root) → IfErr r (λ e. e ≢ faults.OutOfMemory → IsFaultOf bytes e)
 root_fault bytes root (Ok found) is told = tt
 root_fault bytes root (Err fault) is told = λ other. ⊎_elim (λ e. inr (root, is, e)) (λ e. absurd (other e)) told
 
-pub root_refused : (bytes : List ℕ) (root : Nbt) (r : Result Structure ScanFault) → ((t : Nbt) → Root bytes t → root ≡ t) → ((e : NbtFault) → FaultOf bytes e → ⊥) → TellsInRoom r (λ s. IsScanOf root s) (fault_of root) → (e : ScanFault) → IsFaultOf bytes e → IsRefusal r e
+pub root_refused : (bytes : List ℕ) (root : Nbt) (r : Result Structure ScanFault)
+    → ((t : Nbt) → Root bytes t → root ≡ t) → ((e : NbtFault) → FaultOf bytes e → ⊥)
+    → TellsInRoom r (λ s. IsScanOf root s) (fault_of root) → (e : ScanFault) → IsFaultOf bytes e → IsRefusal r e
 root_refused bytes root r only clean told e (inl (fault, breaks, is)) = absurd (clean fault breaks)
 root_refused bytes root (Ok found) only clean told e (inr (t, is, judged)) =
     clean_or (fault_of root) e told.1 (subst (λ (t : Nbt). fault_of t ≡ Some e) (sym (only t is)) judged)
 root_refused bytes root (Err fault) only clean told e (inr (t, is, judged)) =
-    ⊎_elim (λ f. inl (both_faults root fault e f (subst (λ (t : Nbt). fault_of t ≡ Some e) (sym (only t is)) judged))) (λ f. inr f) told
+    ⊎_elim (λ f. inl (both_faults root fault e f (subst (λ (t : Nbt). fault_of t ≡ Some e) (sym (only t is))
+    judged))) (λ f. inr f) told
 
 -- ---- bytes without a root
 
-pub no_root_only : (bytes : List ℕ) (fault : NbtFault) → ((t : Nbt) → Root bytes t → fault ≡ inner.OutOfMemory) → (s : Structure) → Scans bytes s → of_nbt fault ≡ faults.OutOfMemory
-no_root_only bytes fault only s (t, is, scan) = ap of_nbt (only t is)
+-- bytes without a root tell no structure
+pub no_root_only : (bytes : List ℕ) (fault : NbtFault) → ((t : Nbt) → Root bytes t → ⊥) → (s : Structure)
+    → Scans bytes s → of_nbt fault ≡ faults.OutOfMemory
+no_root_only bytes fault only s (t, is, scan) = absurd (only t is)
 
+-- a fault of the bytes stays one, or is out of memory
 of_nbt-cases : (fault : NbtFault) → (of_nbt fault ≡ faults.Nbt fault) ⊎ (of_nbt fault ≡ faults.OutOfMemory)
 of_nbt-cases inner.OutOfMemory = inr refl
 of_nbt-cases fault = inl refl
 
-pub no_root_refused : (bytes : List ℕ) (fault : NbtFault) → ((t : Nbt) → Root bytes t → fault ≡ inner.OutOfMemory) → ((e : NbtFault) → FaultOf bytes e → (fault ≡ e) ⊎ (fault ≡ inner.OutOfMemory)) → (e : ScanFault) → IsFaultOf bytes e → (of_nbt fault ≡ e) ⊎ (of_nbt fault ≡ faults.OutOfMemory)
+-- bytes without a root have the fault of the bytes
+pub no_root_refused : (bytes : List ℕ) (fault : NbtFault) → ((t : Nbt) → Root bytes t → ⊥)
+    → ((e : NbtFault) → FaultOf bytes e → fault ≡ e) → (e : ScanFault) → IsFaultOf bytes e
+    → (of_nbt fault ≡ e) ⊎ (of_nbt fault ≡ faults.OutOfMemory)
 no_root_refused bytes fault only refused e (inl (other, breaks, is)) =
-    ⊎_elim
-    (λ same. ⊎_elim (λ f. inl (f ∙ ap faults.Nbt same ∙ sym is)) (λ f. inr f) (of_nbt-cases fault))
-    (λ f. inr (ap of_nbt f))
-    (refused other breaks)
-no_root_refused bytes fault only refused e (inr (t, is, judged)) = inr (ap of_nbt (only t is))
+    ⊎_elim (λ f. inl (f ∙ ap faults.Nbt (refused other breaks) ∙ sym is)) (λ f. inr f) (of_nbt-cases fault)
+no_root_refused bytes fault only refused e (inr (t, is, judged)) = absurd (only t is)

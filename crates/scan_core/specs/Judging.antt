@@ -1,7 +1,8 @@
 -- The words of a judgement: each part of a root is judged for a fault, or for none, and the parts have an order.
-use Rattle.std.specs.Prelude.{ℕ, suc, ℤ, pos, Bool, true, false, ◌&&◌, List, [], ◌∷◌, ◌++◌, Option, Some, None, if◌then◌else◌}
+use Rattle.std.specs.Prelude.{ℕ, suc, ℤ, pos, List, [], ◌∷◌, ◌++◌, Option, Some, None, if◌then◌else◌}
 use Rattle.nbt_core.specs.Value.{Nbt, leaf, list, compound, no_items, item, listed}
 use Rattle.nbt_core.specs.Value as values
+use Rattle.nbt_core.specs.Parts.{are_compounds}
 use Rattle.scan_core.specs.Box.{Point}
 use Rattle.scan_core.specs.declared.fault.ScanFault.{ScanFault}
 
@@ -28,18 +29,9 @@ point_of x y z = None
 
 -- what three Ints give, or this where it is something else
 abbrev pub on_triple : {A : Type 0} → A → (Option Point → A) → Nbt → A
-on_triple wrong right (list (item (leaf (values.int x)) (item (leaf (values.int y)) (item (leaf (values.int z)) no_items)))) = right (point_of x y z)
+on_triple wrong right (list (item (leaf (values.int x))
+    (item (leaf (values.int y)) (item (leaf (values.int z)) no_items)))) = right (point_of x y z)
 on_triple wrong right t = wrong
-
--- whether a value is a compound
-abbrev pub is_compound : Nbt → Bool
-is_compound (compound ms) = true
-is_compound t = false
-
--- whether all values are compounds
-abbrev pub are_compounds : List Nbt → Bool
-are_compounds [] = true
-are_compounds (t ∷ ts) = is_compound t && are_compounds ts
 
 -- what the compounds of a list give, or this where it is something else
 abbrev pub on_compounds : {A : Type 0} → A → (List Nbt → A) → Nbt → A

@@ -7,4 +7,5 @@ pub mod Answer
 pub mod Mapping
 pub mod Told
 pub mod Cells
+pub mod Named
 pub mod Texts

@@ -1,9 +1,10 @@
 -- What single values tell, and the size and the palette of a root.
 use Rattle.std.specs.Prelude.{◌≡◌, ◌≢◌, ℤ, pos, true, false, IsTrue, List, Option, Some, None, codes, slice_index_or}
 use Rattle.nbt_core.specs.Value.{Nbt, list, items_of, field}
+use Rattle.nbt_core.specs.Parts.{are_compounds}
 use Rattle.scan_core.specs.Box.{Point, is_small}
 use Rattle.scan_core.specs.Scan.{triple, point_value, IsStateOf, IsListOf}
-use Rattle.scan_core.specs.Judging.{are_compounds, point_of}
+use Rattle.scan_core.specs.Judging.{point_of}
 use Rattle.scan_core.specs.declared.state.BlockState.{BlockState}
 
 -- three Ints, as the code has them

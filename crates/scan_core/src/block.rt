@@ -1,5 +1,4 @@
 ghost use Rattle.std.specs.Prelude.{◌≡◌, All, None, length, IsTrue};
-ghost use Rattle.nbt_core.specs.View.{nbt, nbts};
 ghost use Rattle.scan_core.specs.Answer.{Tells, TellsInRoom};
 ghost use Rattle.scan_core.specs.Box as grid;
 ghost use Rattle.scan_core.specs.Cells.{AreCellsOf, IsIndexOf, IsPlaced, IsPlaceOf, ShowEntries};
@@ -9,27 +8,27 @@ ghost use Rattle.scan_core.specs.Judging.{each_from, first_fault};
 use crate::fault::{Field, ScanFault};
 use crate::grid::{Cell, is_within, number};
 use crate::value::{compounds, int, natural, triple};
-use nbt_core::Tag;
+use nbt_core::{ItemsView, View};
 use std::alloc::Global;
 
 /// For each cell of a box of this size the state that the root's blocks tell: an index into so many
 /// states, or none.
 pub fn cells_of(
     alloc: Global,
-    root: &Tag,
+    root: &View<'_>,
     size: [u32; 3],
     states: usize,
 ) -> Result<Vec<Option<u32>>, ScanFault>
     requires { IsTrue (grid.is_small (grid.point size)) }
-    ensures { let told = nbt root.now in
+    ensures { let told = root.now in
         let sides = grid.point size in
         TellsInRoom result (λ cells. AreCellsOf told sides states cells.items)
         (blocks_fault sides states told) }
 {
-    let Some(tag) = root.field(b"blocks") else {
+    let Some(value) = root.field(b"blocks") else {
         return Err(ScanFault::Missing(Field::BlocksField));
     };
-    let Some(entries) = compounds(tag) else {
+    let Some(entries) = compounds(&value) else {
         return Err(ScanFault::WrongType(Field::BlocksField));
     };
     let count = size[0] * size[1] * size[2];
@@ -43,18 +42,21 @@ fn fill(
     cells: &mut [Option<u32>],
     size: [u32; 3],
     states: usize,
-    entries: &[Tag],
+    mut entries: ItemsView<'_>,
 ) -> Result<(), ScanFault>
     requires small { IsTrue (grid.is_small (grid.point size)) }
     requires whole { length cells.old ≡ grid.cell_count (grid.point size) }
     requires void { All (λ cell. cell ≡ None) cells.old }
-    ensures { let told = nbts entries.now in
+    ensures { let told = entries.entry in
         let sides = grid.point size in
         Tells result (λ _. ShowEntries told sides states cells.new)
         (first_fault (each_from 0 (entry_faults sides states) told)) }
 {
-    for (index, entry) in entries.iter().enumerate() {
-        let Placed { cell, state } = placement(size, states, index, entry)?;
+    for index in 0..entries.len() {
+        let Some(entry) = entries.next() else {
+            return Ok(());
+        };
+        let Placed { cell, state } = placement(size, states, index as usize, &entry)?;
         cells[cell as usize] = Some(state);
     }
     Ok(())
@@ -68,9 +70,14 @@ struct Placed {
 }
 
 /// What the entry with this index tells.
-fn placement(size: [u32; 3], states: usize, index: usize, entry: &Tag) -> Result<Placed, ScanFault>
+fn placement(
+    size: [u32; 3],
+    states: usize,
+    index: usize,
+    entry: &View<'_>,
+) -> Result<Placed, ScanFault>
     requires { IsTrue (grid.is_small (grid.point size)) }
-    ensures { let told = nbt entry.now in
+    ensures { let told = entry.now in
         let sides = grid.point size in
         Tells result (λ placed. IsPlaced told sides states placed.cell placed.state)
         (first_fault (entry_faults sides states index told)) }
@@ -84,15 +91,15 @@ fn placement(size: [u32; 3], states: usize, index: usize, entry: &Tag) -> Result
 }
 
 /// The coordinates of the entry with this index.
-fn place_of(size: [u32; 3], index: usize, entry: &Tag) -> Result<[u32; 3], ScanFault>
-    ensures { let told = nbt entry.now in
+fn place_of(size: [u32; 3], index: usize, entry: &View<'_>) -> Result<[u32; 3], ScanFault>
+    ensures { let told = entry.now in
         let sides = grid.point size in
         Tells result (λ at. IsPlaceOf told sides (grid.point at)) (pos_fault sides index told) }
 {
-    let Some(tag) = entry.field(b"pos") else {
+    let Some(value) = entry.field(b"pos") else {
         return Err(ScanFault::Missing(Field::PosField(index)));
     };
-    let Some(numbers) = triple(tag) else {
+    let Some(numbers) = triple(&value) else {
         return Err(ScanFault::WrongType(Field::PosField(index)));
     };
     let Some(at) = natural(numbers) else {
@@ -106,14 +113,14 @@ fn place_of(size: [u32; 3], index: usize, entry: &Tag) -> Result<[u32; 3], ScanF
 }
 
 /// The index into so many states of the entry with this index.
-fn index_of(states: usize, index: usize, entry: &Tag) -> Result<u32, ScanFault>
-    ensures { let told = nbt entry.now in
+fn index_of(states: usize, index: usize, entry: &View<'_>) -> Result<u32, ScanFault>
+    ensures { let told = entry.now in
         Tells result (λ state. IsIndexOf told states state) (state_fault states index told) }
 {
-    let Some(tag) = entry.field(b"state") else {
+    let Some(value) = entry.field(b"state") else {
         return Err(ScanFault::Missing(Field::StateField(index)));
     };
-    let Some(number) = int(tag) else {
+    let Some(number) = int(&value) else {
         return Err(ScanFault::WrongType(Field::StateField(index)));
     };
     if number >= 0 && (number as usize) < states {

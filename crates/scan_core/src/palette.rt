@@ -1,4 +1,3 @@
-ghost use Rattle.nbt_core.specs.View.{nbt, nbts};
 ghost use Rattle.scan_core.specs.Answer.{TellsInRoom};
 ghost use Rattle.scan_core.specs.Faults.{name_fault, palette_fault};
 ghost use Rattle.scan_core.specs.Judging.{each_from, first_fault};
@@ -8,46 +7,49 @@ ghost use Rattle.scan_core.specs.Told.{IsPaletteOf};
 use crate::fault::{Field, ScanFault};
 use crate::property::{copy, properties};
 use crate::state::BlockState;
-use crate::value::compounds;
-use nbt_core::Tag;
+use crate::value::{compounds, text};
+use nbt_core::{ItemsView, View};
 use std::alloc::Global;
 
 /// The states that the root's palette tells.
-pub fn palette_of(alloc: Global, root: &Tag) -> Result<Vec<BlockState>, ScanFault>
-    ensures { let told = nbt root.now in
+pub fn palette_of(alloc: Global, root: &View<'_>) -> Result<Vec<BlockState>, ScanFault>
+    ensures { let told = root.now in
         TellsInRoom result (λ states. IsPaletteOf told states.items) (palette_fault told) }
 {
-    let Some(tag) = root.field(b"palette") else {
+    let Some(value) = root.field(b"palette") else {
         return Err(ScanFault::Missing(Field::PaletteField));
     };
-    let Some(entries) = compounds(tag) else {
+    let Some(entries) = compounds(&value) else {
         return Err(ScanFault::WrongType(Field::PaletteField));
     };
     states_of(alloc, entries)
 }
 
 /// The states that these entries tell.
-fn states_of(alloc: Global, entries: &[Tag]) -> Result<Vec<BlockState>, ScanFault>
-    ensures { let told = nbts entries.now in
+fn states_of(alloc: Global, mut entries: ItemsView<'_>) -> Result<Vec<BlockState>, ScanFault>
+    ensures { let told = entries.entry in
         TellsInRoom result (λ states. AreEach IsStateOf told states.items)
         (first_fault (each_from 0 name_fault told)) }
 {
     let mut states = Vec::new(alloc);
-    for (index, entry) in entries.iter().enumerate() {
-        states.push(state_of(alloc, index, entry)?)?;
+    for index in 0..entries.len() {
+        let Some(entry) = entries.next() else {
+            return Ok(states);
+        };
+        states.push(state_of(alloc, index as usize, &entry)?)?;
     }
     Ok(states)
 }
 
 /// The state that the entry with this index tells.
-fn state_of(alloc: Global, index: usize, entry: &Tag) -> Result<BlockState, ScanFault>
-    ensures { let told = nbt entry.now in
+fn state_of(alloc: Global, index: usize, entry: &View<'_>) -> Result<BlockState, ScanFault>
+    ensures { let told = entry.now in
         TellsInRoom result (λ state. IsStateOf told state) (first_fault (name_fault index told)) }
 {
-    let Some(tag) = entry.field(b"Name") else {
+    let Some(value) = entry.field(b"Name") else {
         return Err(ScanFault::Missing(Field::NameField(index)));
     };
-    let Tag::Text(name) = tag else {
+    let Some(name) = text(&value) else {
         return Err(ScanFault::WrongType(Field::NameField(index)));
     };
     Ok(BlockState {

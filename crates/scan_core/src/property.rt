@@ -1,43 +1,60 @@
 ghost use Rattle.std.specs.Prelude.{◌≡◌, reverse};
-ghost use Rattle.std.specs.Option.{option_map};
 ghost use Rattle.nbt_core.specs.Value.{members_of};
-ghost use Rattle.nbt_core.specs.View.{nbt, entries_of};
 ghost use Rattle.scan_core.specs.Answer.{GivesInRoom};
+ghost use Rattle.scan_core.specs.Named.{named_values};
 ghost use Rattle.scan_core.specs.Properties as texts;
 ghost use Rattle.scan_core.specs.Properties.{props_of, with_text};
 
 use crate::fault::ScanFault;
-use nbt_core::{Sequence, Tag};
+use crate::value::text;
+use nbt_core::{EntriesView, Sequence, View};
 use std::alloc::Global;
 use std::collections::BTreeSet;
+
+/// A name and a value of an entry.
+type Member<'a> = (&'a [u8], View<'a>);
 
 /// A name and a value, as bytes.
 pub type Property = (Sequence<u8>, Sequence<u8>);
 
 /// The properties that a `Properties` tells, where there is one.
-pub fn properties(alloc: Global, found: Option<&Tag>) -> Result<Sequence<Property>, ScanFault>
-    ensures { let told = option_map (λ t. nbt t.now) found.entry in
-        GivesInRoom result (λ props. props ≡ props_of told) }
+pub fn properties(alloc: Global, found: Option<View<'_>>) -> Result<Sequence<Property>, ScanFault>
+    ensures { GivesInRoom result (λ props. props ≡ props_of found.entry) }
 {
-    let Some(Tag::Compound(members)) = found else {
+    let Some(value) = found else {
         return Ok(Sequence::from_vec(Vec::new(alloc)));
     };
-    let mut props = last_texts(alloc, members.as_slice())?;
+    let Some(entries) = value.entries() else {
+        return Ok(Sequence::from_vec(Vec::new(alloc)));
+    };
+    let members = members(alloc, entries)?;
+    let mut props = last_texts(alloc, &members)?;
     props.reverse();
     Ok(Sequence::from_vec(props))
 }
 
+/// The entries, all at once.
+fn members<'a>(alloc: Global, mut entries: EntriesView<'a>) -> Result<Vec<Member<'a>>, ScanFault>
+    ensures { GivesInRoom result (λ members. named_values members.items ≡ entries.entry) }
+{
+    let mut members = Vec::new(alloc);
+    while let Some(member) = entries.next() {
+        members.push(member)?;
+    }
+    Ok(members)
+}
+
 /// The members that are the last of their name, where they are Strings, the last one first.
-fn last_texts(alloc: Global, members: &[(Sequence<u8>, Tag)]) -> Result<Vec<Property>, ScanFault>
-    ensures { let told = members_of (entries_of members.now) in
+fn last_texts(alloc: Global, members: &[Member<'_>]) -> Result<Vec<Property>, ScanFault>
+    ensures { let told = members_of (named_values members.now) in
         GivesInRoom result (λ props. reverse props.items ≡ texts.last_texts told) }
 {
     let mut props = Vec::new(alloc);
     let mut seen = BTreeSet::new(alloc);
     for index in (0..members.len()).rev() {
-        let (name, tag) = &members[index];
-        if seen.insert(name.as_slice())? {
-            push_text(alloc, name, tag, &mut props)?;
+        let (name, value) = &members[index];
+        if seen.insert(*name)? {
+            push_text(alloc, name, value, &mut props)?;
         }
     }
     Ok(props)
@@ -46,23 +63,23 @@ fn last_texts(alloc: Global, members: &[(Sequence<u8>, Tag)]) -> Result<Vec<Prop
 /// Adds a String and its name.
 fn push_text(
     alloc: Global,
-    name: &Sequence<u8>,
-    tag: &Tag,
+    name: &[u8],
+    value: &View<'_>,
     props: &mut Vec<Property>,
 ) -> Result<(), ScanFault>
     ensures { let others = reverse props.old.items in
         GivesInRoom result (λ _.
-        reverse props.new.items ≡ with_text name.now (nbt tag.now) others) }
+        reverse props.new.items ≡ with_text name.now value.now others) }
 {
-    if let Tag::Text(value) = tag {
-        props.push((copy(alloc, name)?, copy(alloc, value)?))?;
+    if let Some(text) = text(value) {
+        props.push((copy(alloc, name)?, copy(alloc, text)?))?;
     }
     Ok(())
 }
 
 /// The same bytes.
-pub fn copy(alloc: Global, text: &Sequence<u8>) -> Result<Sequence<u8>, ScanFault>
+pub fn copy(alloc: Global, text: &[u8]) -> Result<Sequence<u8>, ScanFault>
     ensures { GivesInRoom result (λ bytes. bytes ≡ text.now) }
 {
-    Ok(Sequence::from_vec(Vec::from_slice(alloc, text.as_slice())?))
+    Ok(Sequence::from_vec(Vec::from_slice(alloc, text)?))
 }

@@ -1,5 +1,4 @@
 ghost use Rattle.std.specs.Prelude.{◌≢◌, IfOk, IfErr};
-ghost use Rattle.nbt_core.specs.View.{nbt};
 ghost use Rattle.scan_core.specs.declared.fault.ScanFault.{ScanFault};
 ghost use Rattle.scan_core.specs.Answer.{IsAnswer, IsRefusal, TellsInRoom};
 ghost use Rattle.scan_core.specs.Faults.{IsFaultOf, fault_of};
@@ -10,7 +9,7 @@ use crate::fault::ScanFault;
 use crate::palette::palette_of;
 use crate::scan::Scan;
 use crate::size::size_of;
-use nbt_core::{Tag, read_root};
+use nbt_core::{View, root_view};
 use std::alloc::Global;
 
 /// Reads the bytes of a structure file: an NBT root with a size, a palette and blocks. What else stands
@@ -26,13 +25,13 @@ pub fn read_scan(alloc: Global, bytes: &[u8]) -> Result<Scan, ScanFault>
     // Such a fault is answered.
     ensures refused { (e : ScanFault) → IsFaultOf bytes.now e → IsRefusal result e }
 {
-    let root = read_root(alloc, bytes)?;
+    let root = root_view(bytes)?;
     scan_of(alloc, &root)
 }
 
 /// What the root tells.
-fn scan_of(alloc: Global, root: &Tag) -> Result<Scan, ScanFault>
-    ensures { let told = nbt root.now in
+fn scan_of(alloc: Global, root: &View<'_>) -> Result<Scan, ScanFault>
+    ensures { let told = root.now in
         TellsInRoom result (λ s. IsScanOf told s) (fault_of told) }
 {
     let size = size_of(root)?;

@@ -1,4 +1,3 @@
-ghost use Rattle.nbt_core.specs.View.{nbt};
 ghost use Rattle.scan_core.specs.Answer.{Tells};
 ghost use Rattle.scan_core.specs.Box as grid;
 ghost use Rattle.scan_core.specs.Faults.{size_fault};
@@ -7,17 +6,17 @@ ghost use Rattle.scan_core.specs.Told.{IsSizeOf};
 use crate::fault::{Field, ScanFault};
 use crate::grid::is_small;
 use crate::value::{natural, triple};
-use nbt_core::Tag;
+use nbt_core::View;
 
 /// The sides of the box that the root tells.
-pub fn size_of(root: &Tag) -> Result<[u32; 3], ScanFault>
-    ensures { let told = nbt root.now in
+pub fn size_of(root: &View<'_>) -> Result<[u32; 3], ScanFault>
+    ensures { let told = root.now in
         Tells result (λ size. IsSizeOf told (grid.point size)) (size_fault told) }
 {
-    let Some(tag) = root.field(b"size") else {
+    let Some(value) = root.field(b"size") else {
         return Err(ScanFault::Missing(Field::SizeField));
     };
-    let Some(sides) = triple(tag) else {
+    let Some(sides) = triple(&value) else {
         return Err(ScanFault::WrongType(Field::SizeField));
     };
     let Some(size) = natural(sides) else {

@@ -2,33 +2,37 @@ ghost use Rattle.std.specs.Prelude.{◌≡◌};
 ghost use Rattle.std.specs.Option.{option_map};
 ghost use Rattle.nbt_core.specs.Value.{leaf};
 ghost use Rattle.nbt_core.specs.Value as values;
-ghost use Rattle.nbt_core.specs.View.{nbt, nbts};
 ghost use Rattle.scan_core.specs.Box.{point};
 ghost use Rattle.scan_core.specs.Told.{AreCompoundsOf, IsReadAs, point_of_list, triple_value};
 
-use nbt_core::Tag;
+use nbt_core::{ItemsView, View};
 
 /// The number of an Int.
-pub fn int(tag: &Tag) -> Option<i32>
-    ensures { IsReadAs (λ n. leaf (values.int n)) (nbt tag.now) result }
+pub fn int(value: &View<'_>) -> Option<i32>
+    ensures { IsReadAs (λ n. leaf (values.int n)) value.now result }
 {
-    match tag {
-        Tag::Int(n) => Some(*n),
-        _ => None,
-    }
+    value.int()
+}
+
+/// The bytes of a String.
+pub fn text<'a>(value: &View<'a>) -> Option<&'a [u8]>
+    ensures { IsReadAs (λ t. leaf (values.text t)) value.now (option_map (λ t. t.now) result) }
+{
+    value.text()
 }
 
 /// The numbers of a list of three Ints.
-pub fn triple(tag: &Tag) -> Option<[i32; 3]>
-    ensures { IsReadAs triple_value (nbt tag.now) result }
+pub fn triple(value: &View<'_>) -> Option<[i32; 3]>
+    ensures { IsReadAs triple_value value.now result }
 {
-    let Tag::List(items) = tag else {
+    let mut items = value.items()?;
+    if items.len() != 3 {
         return None;
-    };
-    let [x, y, z] = items.as_slice() else {
-        return None;
-    };
-    Some([int(x)?, int(y)?, int(z)?])
+    }
+    let x = items.next()?;
+    let y = items.next()?;
+    let z = items.next()?;
+    Some([int(&x)?, int(&y)?, int(&z)?])
 }
 
 /// The three numbers, where none is negative.
@@ -43,17 +47,13 @@ pub fn natural(numbers: [i32; 3]) -> Option<[u32; 3]>
 }
 
 /// The items of a list of compounds.
-pub fn compounds(tag: &Tag) -> Option<&[Tag]>
-    ensures { AreCompoundsOf (nbt tag.now) (option_map (λ ts. nbts ts.now) result) }
+pub fn compounds<'a>(value: &View<'a>) -> Option<ItemsView<'a>>
+    ensures { AreCompoundsOf value.now result }
 {
-    let Tag::List(items) = tag else {
-        return None;
-    };
-    let items = items.as_slice();
-    for item in items {
-        let Tag::Compound(_) = item else {
-            return None;
-        };
+    let items = value.items()?;
+    if items.are_compounds() {
+        Some(items)
+    } else {
+        None
     }
-    Some(items)
 }

@@ -16,18 +16,22 @@ use Rattle.schedule_law.specs.Listing.{offer_of, offers, looks, AllEnabled}
 
 -- ---- sizes
 
+-- a cover never raises a size
 less_by_low : (n : ℕ) (o : Option Covering) → less_by n o ≤ n
 less_by_low n None = omega arith
 less_by_low n (Some c) = omega arith
 
+-- a cover lowers the greater of two sizes to no less than the smaller
 less_by_keeps : (n m : ℕ) (o : Option Covering) → n ≤ m → less_by n o ≤ less_by m o
 less_by_keeps n m None le = le
 less_by_keeps n m (Some c) le = omega arith
 
+-- workers' covers never raise a size
 least_low : (n : ℕ) (xs : List Worked) → least_size n xs ≤ n
 least_low n [] = omega arith
 least_low n (x ∷ xs) = (let a = least_low n xs in let b = less_by_low (least_size n xs) x.cover in omega arith)
 
+-- nor do they turn the order of two sizes
 least_keeps : (n m : ℕ) (xs : List Worked) → n ≤ m → least_size n xs ≤ least_size m xs
 least_keeps n m [] le = le
 least_keeps n m (x ∷ xs) le = less_by_keeps (least_size n xs) (least_size m xs) x.cover (least_keeps n m xs le)
@@ -39,6 +43,7 @@ least_first None m n xs le = least_keeps m n xs le
 least_first (Some c) m n xs le =
     (let a = least_keeps m n xs (omega arith) in let b = least_low m xs in omega arith)
 
+-- the smaller of two lists is as short as the shorter
 length-smaller : (new old : List ℕ) → length (smaller new old) ≤ min (length old) (length new)
 length-smaller new old = grind (arith, nat_tests)
 
@@ -51,6 +56,7 @@ pub record IsBetter (old new : State) (bound : ℕ) : Type 0 where
   pub same_parts : new.part_at ≡ old.part_at
   pub bounded : length new.best ≤ bound
 
+-- where a worker knows a cover, its offer is enabled, and what follows may count on it
 offer_go : (region : Instance) (w : ℕ) (o : Option Covering) (rest : List Event) (state : State) → w < length state.seen
     → state.region ≡ region → IfSome o (IsCoverFor region)
     → ((next : State) → IsBetter state next (less_by (length state.best) o) → AllEnabled next rest)
@@ -69,6 +75,7 @@ offer_go region w (Some c) rest state lt of is go = (
       }),
 )
 
+-- the same for the offers of all workers
 pub offers_go : (region : Instance) (least : ℕ) (w : ℕ) (works : List Worked) (rest : List Event) (state : State)
     → w + length works ≤ length state.seen → state.region ≡ region → All (IsWork region least) works
     → ((next : State) → IsBetter state next (least_size (length state.best) works) → AllEnabled next rest)
@@ -121,6 +128,7 @@ see_more old mid new w count lt does later = record {
   ];
 }
 
+-- the looks of all workers are enabled, and after them each has seen the best
 pub looks_go : (w : ℕ) (works : List Worked) (rest : List Event) (state : State) → w + length works ≤ length state.seen
     → ((next : State) → AreSeeing state next w (length works) → AllEnabled next rest)
     → AllEnabled state (looks w works ++ rest)

@@ -11,12 +11,14 @@ use Rattle.schedule_law.proofs.PieceLemmas.{either_way, same_self, same_true, bi
 
 -- ---- the kid of each number
 
+-- the first kid has the first number, with no place before it barred
 kid_here : (p : Subproblem) (number : ℕ) (before : List ℕ) (place : ℕ)
     → kid_of p (number + 0) (before ++ []) place ≡ kid_of p number before place
 kid_here p number before place =
     let e : number + 0 ≡ number = omega arith in
     ap₂ (λ n b. kid_of p n b place) e (append-nil before)
 
+-- a later kid has the number and the barred places of its place in the list
 kid_later : (p : Subproblem) (number i : ℕ) (before : List ℕ) (x : ℕ) (xs : List ℕ)
     → kid_of p ((number + 1) + i) ((before ++ x ∷ []) ++ take i xs) (slice_index xs i)
     ≡ kid_of p (number + suc i) (before ++ x ∷ take i xs) (slice_index xs i)
@@ -24,6 +26,7 @@ kid_later p number i before x xs =
     let e : (number + 1) + i ≡ number + suc i = omega arith in
     ap₂ (λ n b. kid_of p n b (slice_index xs i)) e (append_assoc before (x ∷ []) (take i xs))
 
+-- the kid at an index is among the kids
 kid_at : (p : Subproblem) (number : ℕ) (before places : List ℕ) (i : ℕ) → i < length places
     → IsAmong (kid_of p (number + i) (before ++ take i places) (slice_index places i))
     (kids_from p number before places)
@@ -33,6 +36,7 @@ kid_at p number before (x ∷ xs) (suc i) lt =
     inr (subst (λ (k : Subproblem). IsAmong k (kids_from p (number + 1) (before ++ x ∷ []) xs))
     (kid_later p number i before x xs) (kid_at p (number + 1) (before ++ x ∷ []) xs i (omega arith)))
 
+-- and each of the kids is at some index
 kid_from : (p : Subproblem) (number : ℕ) (before places : List ℕ) (q : Subproblem)
     → IsAmong q (kids_from p number before places)
     → (i : ℕ) × (i < length places) × (q ≡ kid_of p (number + i) (before ++ take i places) (slice_index places i))
@@ -46,11 +50,13 @@ kid_from p number before (x ∷ xs) q (inr r) =
 abbrev pub numbered_kid : Split → ℕ → Subproblem
 numbered_kid s i = kid_of s.piece i (take i s.places) (slice_index s.places i)
 
+-- a kid told by its number is among those of its split
 pub numbered_among : (s : Split) (i : ℕ) → i < length s.places → IsAmong (numbered_kid s i) (kids_of s)
 numbered_among s i lt =
     subst (λ (n : ℕ). IsAmong (kid_of s.piece n (take i s.places) (slice_index s.places i)) (kids_of s)) (zero-add i)
     (kid_at s.piece 0 [] s.places i lt)
 
+-- and each kid of a split is told by its number
 pub among_numbered : (s : Split) (q : Subproblem) → IsAmong q (kids_of s)
     → (i : ℕ) × (i < length s.places) × (q ≡ numbered_kid s i)
 among_numbered s q at =
@@ -71,16 +77,19 @@ last_number [] = 0
 last_number (x ∷ []) = x
 last_number (x ∷ y ∷ ys) = last_number (y ∷ ys)
 
+-- the parent's name is the name without its last number
 parent_name-push : (xs : List ℕ) (k : ℕ) → parent_name (xs ++ k ∷ []) ≡ xs
 parent_name-push [] k = refl
 parent_name-push (x ∷ []) k = refl
 parent_name-push (x ∷ y ∷ ys) k = ap (λ l. x ∷ l) (parent_name-push (y ∷ ys) k)
 
+-- which is the number of the kid
 last_number-push : (xs : List ℕ) (k : ℕ) → last_number (xs ++ k ∷ []) ≡ k
 last_number-push [] k = refl
 last_number-push (x ∷ []) k = refl
 last_number-push (x ∷ y ∷ ys) k = last_number-push (y ∷ ys) k
 
+-- a parent's name is one shorter
 length-parent_name : (x : ℕ) (xs : List ℕ) → length (parent_name (x ∷ xs)) ≡ length xs
 length-parent_name x [] = refl
 length-parent_name x (y ∷ ys) = ap suc (length-parent_name y ys)
@@ -102,6 +111,7 @@ kid_named x p k before place = elim (either_way (is_same_name x (p.name ++ k ∷
 abbrev AreFew : List ℕ → Subproblem → ℕ → List Subproblem → Type 0
 AreFew x p k ps = (weigh (named x) ps ≤ named (parent_name x) p) × (last_number x < k → weigh (named x) ps ≡ 0)
 
+-- of the kids of a piece at most one has a name, and its parent's name is the piece's
 kids_named : (x : List ℕ) (p : Subproblem) (k : ℕ) (before places : List ℕ) → AreFew x p k (kids_from p k before places)
 kids_named x p k before [] = (omega arith, λ lt. refl)
 kids_named x p k before (q ∷ qs) =
@@ -112,6 +122,7 @@ kids_named x p k before (q ∷ qs) =
       | inr is ↦ (let d = r.1 (omega arith) in let c = h.0 in (omega arith, λ lt. absurd (omega arith)))
     ]
 
+-- at most as many kids have a name as opened pieces have its parent's
 pub all_named : (x : List ℕ) (ss : List Split)
     → weigh (named x) (all_kids ss) ≤ weigh (named (parent_name x)) (pieces_opened ss)
 all_named x [] = omega arith
@@ -130,11 +141,13 @@ nil_kids p k before (q ∷ qs) =
     not_nil [] k = refl
     not_nil (x ∷ xs) k = refl
 
+-- no kid has the root's name
 pub nil_all : (ss : List Split) → weigh (named []) (all_kids ss) ≡ 0
 nil_all [] = refl
 nil_all (s ∷ ss) =
     omega (arith, weigh-append (named []) (kids_of s) (all_kids ss), nil_all ss, nil_kids s.piece 0 [] s.places)
 
+-- a bit is at most one
 at_most_one : (b : Bool) → bit b ≤ 1
 at_most_one true = omega arith
 at_most_one false = omega arith

@@ -26,21 +26,25 @@ use Rattle.schedule_law.proofs.TurnLemmas.{Knows, Keeps, opened_keeps, after_ope
 use Rattle.schedule_law.proofs.StepLemmas.{AreReady, AreClosable, opens_all, closes_all}
 use Rattle.schedule_law.proofs.BestLemmas.{offers_go, looks_go}
 
+-- the parent of a name with one number is the root
 parent_of_one : (x : List ℕ) → length x ≡ 1 → parent_name x ≡ []
 parent_of_one [] e = refl
 parent_of_one (x ∷ []) e = refl
 parent_of_one (x ∷ y ∷ ys) e = absurd (omega arith)
 
+-- the parent of a name with two has one
 parent_of_two : (x : List ℕ) → length x ≡ 2 → length (parent_name x) ≡ 1
 parent_of_two [] e = absurd (omega arith)
 parent_of_two (x ∷ []) e = absurd (omega arith)
 parent_of_two (x ∷ y ∷ []) e = refl
 parent_of_two (x ∷ y ∷ z ∷ zs) e = absurd (omega arith)
 
+-- a name with no number is the root's
 nil_named : (x : List ℕ) → length x ≡ 0 → bit (is_same_name [] x) ≡ 1
 nil_named [] e = refl
 nil_named (x ∷ xs) e = absurd (omega arith)
 
+-- what workers opened was each opened in the region
 opened_in_all : (region : Instance) (least : ℕ) (works : List Worked) → All (IsWork region least) works
     → All (IsOpenedIn region) (all_opened works)
 opened_in_all region least [] all = All-nil (IsOpenedIn region)
@@ -48,12 +52,14 @@ opened_in_all region least (x ∷ xs) all = All-append (IsOpenedIn region) x.ope
     (All-head (IsWork region least) x xs all).opened
     (opened_in_all region least xs (All-tail (IsWork region least) x xs all))
 
+-- a length that isn't none and is below three is one or two
 one_or_two : (n : ℕ) → n ≢ 0 → n < 3 → (n ≡ 1) ⊎ (n ≡ 2)
 one_or_two n some few = elim (cases_eq n 1) [
   | inl e ↦ inl e
   | inr ne ↦ inr (omega arith)
 ]
 
+-- where the root isn't opened again, all opened names have one number or two
 all_one_or_two : (region : Instance) (ss : List Split) → All (IsOpenedIn region) ss
     → ((p : Subproblem) → IsAmong p (pieces_opened ss) → length p.name ≢ 0) → All IsOneOrTwo ss
 all_one_or_two region [] all some = All-nil IsOneOrTwo
@@ -79,6 +85,7 @@ module _ (region : Instance) (first : List ℕ) (cell : ℕ) (places : List ℕ)
   single : (x : List ℕ) → weigh (named x) came ≤ 1
   single x = once root refl (all_opened works) from x
 
+  -- each name came to be at most once
   pub single_name : (x : List ℕ) → count_named x came ≤ 1
   single_name x = (let a = count_named_is x came in let b = single x in omega arith)
 
@@ -253,6 +260,7 @@ module _ (region : Instance) (first : List ℕ) (cell : ℕ) (places : List ℕ)
         ∙ known2 p at none)
         closable))))
 
+    -- each event of the list is enabled in turn
     pub law : AllEnabled start (listing cell works)
     law = (
       may_open,
@@ -261,18 +269,22 @@ module _ (region : Instance) (first : List ℕ) (cell : ℕ) (places : List ℕ)
           (after_root next opened),
     )
 
+-- pieces that weigh one each weigh their number
 weigh_one : (ps : List Subproblem) → weigh (λ p. 1) ps ≡ length ps
 weigh_one [] = refl
 weigh_one (p ∷ ps) = omega (arith, weigh_one ps)
 
+-- each split opened one piece
 opened_length : (ss : List Split) → length (pieces_opened ss) ≡ length ss
 opened_length [] = refl
 opened_length (s ∷ ss) = ap suc (opened_length ss)
 
+-- each closed piece is one
 closed_length : (ks : List Fathomed) → length (pieces_closed ks) ≡ length ks
 closed_length [] = refl
 closed_length (k ∷ ks) = ap suc (closed_length ks)
 
+-- as many pieces came to be as were opened, closed, handed back or left
 pub counts : (region : Instance) (first : List ℕ) (cell : ℕ) (places : List ℕ) (works : List Worked)
     (left : List Subproblem) → AreJoined region first cell places works left
     → length (all_kids (root_split region cell places ∷ all_opened works))

@@ -23,6 +23,7 @@ as_long n ss = filter (λ s. eqb (length s.piece.name) n) ss
 abbrev pub all_as_long : ℕ → List Worked → List Split
 all_as_long n works = flat_map (λ work. as_long n work.opened) works
 
+-- the splits with long names of each worker are those of all
 pub all_as_long_are : (n : ℕ) (works : List Worked) → all_as_long n works ≡ as_long n (all_opened works)
 all_as_long_are n [] = refl
 all_as_long_are n (x ∷ xs) =
@@ -34,6 +35,7 @@ abbrev pub openings : ℕ → List Split → List Event
 openings worker [] = []
 openings worker (s ∷ ss) = Take worker s.piece.name ∷ Open s.piece.name s.cell ∷ openings worker ss
 
+-- the events that open names of a length are the openings of those splits
 pub openings_are : (n worker : ℕ) (ss : List Split) → opens_as_long n worker ss ≡ openings worker (as_long n ss)
 openings_are n worker [] = refl
 openings_are n worker (s ∷ ss) = opened_first (eqb (length s.piece.name) n) (as_long n ss) (openings_are n worker ss)
@@ -51,10 +53,12 @@ abbrev load : (Split → ℕ) → List Split → ℕ
 load f [] = 0
 load f (s ∷ ss) = f s + load f ss
 
+-- the load of the pieces is what they weigh
 load_pieces : (h : Subproblem → ℕ) (ss : List Split) → load (λ s. h s.piece) ss ≡ weigh h (pieces_opened ss)
 load_pieces h [] = refl
 load_pieces h (s ∷ ss) = omega (arith, load_pieces h ss)
 
+-- the load of the kids is what they weigh
 load_kids : (h : Subproblem → ℕ) (ss : List Split) → load (λ s. weigh h (kids_of s)) ss ≡ weigh h (all_kids ss)
 load_kids h [] = refl
 load_kids h (s ∷ ss) = omega (arith, load_kids h ss, weigh-append h (kids_of s) (all_kids ss))
@@ -63,22 +67,26 @@ load_kids h (s ∷ ss) = omega (arith, load_kids h ss, weigh-append h (kids_of s
 abbrev pub IsOneOrTwo : Split → Type 0
 IsOneOrTwo s = (length s.piece.name ≡ 1) ⊎ (length s.piece.name ≡ 2)
 
+-- a test finds different numbers different
 eqb_not : (n m : ℕ) → n ≢ m → eqb n m ≡ false
 eqb_not n m apart = elim (either_way (eqb n m)) [
   | inl e ↦ absurd (apart (eqb_true n m e))
   | inr e ↦ e
 ]
 
+-- a split with a name of that length adds its load
 one_more : (f : Split → ℕ) (n : ℕ) (s : Split) (ss : List Split) → length s.piece.name ≡ n
     → load f (as_long n (s ∷ ss)) ≡ f s + load f (as_long n ss)
 one_more f n s ss e =
     ap (λ b. load f (if b then s ∷ as_long n ss else as_long n ss)) (eqb_is (length s.piece.name) n e)
 
+-- a split with another name adds none
 none_more : (f : Split → ℕ) (n : ℕ) (s : Split) (ss : List Split) → length s.piece.name ≢ n
     → load f (as_long n (s ∷ ss)) ≡ load f (as_long n ss)
 none_more f n s ss e =
     ap (λ b. load f (if b then s ∷ as_long n ss else as_long n ss)) (eqb_not (length s.piece.name) n e)
 
+-- names of one number and of two make up the whole load
 load_both : (f : Split → ℕ) (ss : List Split) → All IsOneOrTwo ss
     → load f (as_long 1 ss) + load f (as_long 2 ss) ≡ load f ss
 load_both f [] all = refl
@@ -100,6 +108,7 @@ pieces_by_length h works all =
     let a = load_both (λ s. h s.piece) ss all in
     omega (arith, load_pieces h (as_long 1 ss), load_pieces h (as_long 2 ss), load_pieces h ss)
 
+-- the kids of names of one number and of two are all kids
 pub kids_by_length : (h : Subproblem → ℕ) (works : List Worked) → All IsOneOrTwo (all_opened works)
     → weigh h (all_kids (all_as_long 1 works)) + weigh h (all_kids (all_as_long 2 works))
     ≡ weigh h (all_kids (all_opened works))
@@ -126,12 +135,14 @@ other_length n y (s ∷ ss) apart =
       | inr f ↦ (let a : named y s.piece ≡ 0 = ap bit f in omega arith)
     ]
 
+-- among splits with names of one length, no other name is opened
 pub none_of_other_length : (n : ℕ) (y : List ℕ) (works : List Worked) → length y ≢ n
     → weigh (named y) (pieces_opened (all_as_long n works)) ≡ 0
 none_of_other_length n y works apart =
     ap (λ l. weigh (named y) (pieces_opened l)) (all_as_long_are n works) ∙ other_length n y (all_opened works) apart
 
 module _ (P : Split → Type 0) where
+  -- what holds of all splits holds of those with long names
   pub all_in_long : (n : ℕ) (ss : List Split) → All P ss → All P (as_long n ss)
   all_in_long n [] all = all
   all_in_long n (s ∷ ss) all =
@@ -143,8 +154,10 @@ module _ (P : Split → Type 0) where
 
 -- ---- of two lists
 
+-- the kids of two lists of splits, one list after the other
 pub kids-append : (xs ys : List Split) → all_kids (xs ++ ys) ≡ all_kids xs ++ all_kids ys
 kids-append xs ys = flat_map-append kids_of xs ys
 
+-- the pieces of two lists of splits, one list after the other
 pub pieces-append : (xs ys : List Split) → pieces_opened (xs ++ ys) ≡ pieces_opened xs ++ pieces_opened ys
 pieces-append xs ys = map-append (λ s. s.piece) xs ys

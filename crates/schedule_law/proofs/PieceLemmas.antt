@@ -7,36 +7,45 @@ use Rattle.proof_tree.specs.Piece.{Subproblem}
 use Rattle.proof_tree.specs.Weights.{weigh}
 use Rattle.schedule_law.specs.Names.{is_same_name, count_named}
 
+-- a flag is set or unset
 pub either_way : (b : Bool) → (b ≡ true) ⊎ (b ≡ false)
 either_way true = inl refl
 either_way false = inr refl
 
+-- where both are set the first is
 and_left : (a b : Bool) → (a && b) ≡ true → a ≡ true
 and_left true b e = refl
 and_left false b e = e
 
+-- and the second
 and_right : (a b : Bool) → (a && b) ≡ true → b ≡ true
 and_right true b e = e
 and_right false b e = absurd (true≢false (sym e))
 
+-- where each is set both are
 both_true : (a b : Bool) → a ≡ true → b ≡ true → (a && b) ≡ true
 both_true a b p q = cc
 
+-- a test finds a number the same as itself
 eqb_same : (n : ℕ) → eqb n n ≡ true
 eqb_same n = grind (arith, nat_tests)
 
+-- numbers that a test finds the same are equal
 pub eqb_true : (n m : ℕ) → eqb n m ≡ true → n ≡ m
 eqb_true n m e = grind (arith, nat_tests)
 
+-- equal numbers are found the same
 pub eqb_is : (n m : ℕ) → n ≡ m → eqb n m ≡ true
 eqb_is n m e = grind (arith, nat_tests)
 
 -- ---- names
 
+-- a name is the same as itself
 pub same_self : (x : List ℕ) → is_same_name x x ≡ true
 same_self [] = refl
 same_self (x ∷ xs) = both_true (eqb x x) (is_same_name xs xs) (eqb_same x) (same_self xs)
 
+-- names that are found the same are equal
 pub same_true : (x y : List ℕ) → is_same_name x y ≡ true → x ≡ y
 same_true [] [] e = refl
 same_true [] (y ∷ ys) e = absurd (true≢false (sym e))
@@ -53,6 +62,7 @@ bit b = if b then 1 else 0
 abbrev pub named : List ℕ → Subproblem → ℕ
 named x p = bit (is_same_name x p.name)
 
+-- a piece has its own name
 pub one_named : (p : Subproblem) → named p.name p ≡ 1
 one_named p = ap bit (same_self p.name)
 
@@ -66,10 +76,12 @@ abbrev is_same_piece : Subproblem → Subproblem → Bool
 is_same_piece p q = is_same_region p.region q.region
     && (is_same_name p.name q.name && (is_same_name p.chosen q.chosen && is_same_name p.barred q.barred))
 
+-- a region is the same as itself
 region_self : (a : Instance) → is_same_region a a ≡ true
 region_self a = both_true _ _ (same_self a.cells) (both_true _ _ (same_self a.places)
     (both_true _ _ (eqb_same a.width) (same_self a.words)))
 
+-- regions that are found the same are equal
 region_true : (a b : Instance) → is_same_region a b ≡ true → a ≡ b
 region_true a b e =
     let c = same_true a.cells b.cells (and_left _ _ e) in
@@ -80,10 +92,12 @@ region_true a b e =
     let v = same_true a.words b.words (and_right (eqb a.width b.width) _ e2) in
     λ i. record { cells = c i; places = p i; width = w i; words = v i }
 
+-- a piece is the same as itself
 piece_self : (p : Subproblem) → is_same_piece p p ≡ true
 piece_self p = both_true _ _ (region_self p.region) (both_true _ _ (same_self p.name)
     (both_true _ _ (same_self p.chosen) (same_self p.barred)))
 
+-- pieces that are found the same are equal
 piece_true : (p q : Subproblem) → is_same_piece p q ≡ true → p ≡ q
 piece_true p q e =
     let r = region_true p.region q.region (and_left _ _ e) in
@@ -103,10 +117,12 @@ abbrev pub IsAmong : Subproblem → List Subproblem → Type 0
 IsAmong p [] = ⊥
 IsAmong p (q ∷ qs) = (p ≡ q) ⊎ IsAmong p qs
 
+-- two lists of pieces weigh together what both weigh
 pub weigh-append : (h : Subproblem → ℕ) (xs ys : List Subproblem) → weigh h (xs ++ ys) ≡ weigh h xs + weigh h ys
 weigh-append h [] ys = omega arith
 weigh-append h (x ∷ xs) ys = omega (arith, weigh-append h xs ys)
 
+-- a piece among others weighs at most what all weigh
 pub weigh_among : (h : Subproblem → ℕ) (p : Subproblem) (xs : List Subproblem) → IsAmong p xs → h p ≤ weigh h xs
 weigh_among h p [] at = absurd at
 weigh_among h p (x ∷ xs) (inl e) = (let a = ap h e in omega arith)
@@ -116,6 +132,7 @@ weigh_among h p (x ∷ xs) (inr r) = (let a = weigh_among h p xs r in omega arit
 pub named_among : (p : Subproblem) (xs : List Subproblem) → IsAmong p xs → 1 ≤ weigh (named p.name) xs
 named_among p xs at = (let a = weigh_among (named p.name) p xs at in let b = one_named p in omega arith)
 
+-- a piece whose like weighs at least one is among them
 among_heavy : (p : Subproblem) (xs : List Subproblem) → 1 ≤ weigh (is_piece p) xs → IsAmong p xs
 among_heavy p [] le = absurd (omega arith)
 among_heavy p (x ∷ xs) le = elim (either_way (is_same_piece p x)) [
@@ -132,15 +149,18 @@ among_others p xs ys le at =
     let c = le (is_piece p) in
     among_heavy p ys (omega arith)
 
+-- a piece of the first list is among both
 pub among_left : (p : Subproblem) (xs ys : List Subproblem) → IsAmong p xs → IsAmong p (xs ++ ys)
 among_left p [] ys at = absurd at
 among_left p (x ∷ xs) ys (inl e) = inl e
 among_left p (x ∷ xs) ys (inr r) = inr (among_left p xs ys r)
 
+-- a piece of the second list is among both
 pub among_right : (p : Subproblem) (xs ys : List Subproblem) → IsAmong p ys → IsAmong p (xs ++ ys)
 among_right p [] ys at = at
 among_right p (x ∷ xs) ys at = inr (among_right p xs ys at)
 
+-- a piece among both is of the first or of the second
 pub among_either : (p : Subproblem) (xs ys : List Subproblem) → IsAmong p (xs ++ ys) → IsAmong p xs ⊎ IsAmong p ys
 among_either p [] ys at = inr at
 among_either p (x ∷ xs) ys (inl e) = inl (inl e)
@@ -149,6 +169,7 @@ among_either p (x ∷ xs) ys (inr r) = elim (among_either p xs ys r) [
   | inr b ↦ inr b
 ]
 
+-- counting the pieces of a name is weighing them by it
 pub count_named_is : (x : List ℕ) (ps : List Subproblem) → count_named x ps ≡ weigh (named x) ps
 count_named_is x [] = refl
 count_named_is x (p ∷ ps) = ap (λ n. named x p + n) (count_named_is x ps)

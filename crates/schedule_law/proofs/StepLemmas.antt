@@ -23,11 +23,13 @@ use Rattle.schedule_law.proofs.TurnLemmas.{other_name, unused_before, after_open
 
 -- ---- one piece is taken
 
+-- a piece that came to be, and isn't used yet, waits
 pub waits_unused : (state : State) (made used : List Subproblem) (p : Subproblem) (n : ℕ) → Knows state made used
     → IsAmong p made → weigh (named p.name) used + (named p.name p + n) ≤ 1
     → HasPart state p.name p.chosen p.barred waiting
 waits_unused state made used p n knows at le = knows p at (let one = one_named p in omega arith)
 
+-- a worker may take a piece that waits
 may_take : (state : State) (w : ℕ) (p : Subproblem) → w < length state.seen
     → HasPart state p.name p.chosen p.barred waiting → MayTake state w p.name
 may_take state w p lt waits = record { known = lt; chosen = p.chosen; barred = p.barred; waits = waits }
@@ -40,6 +42,7 @@ pub record AreReady (made used : List Subproblem) (splits : List Split) : Type 0
   pub once : (x : List ℕ) → weigh (named x) made + weigh (named x) (all_kids splits) ≤ 1
   pub fresh : (x : List ℕ) → weigh (named x) used + weigh (named x) (pieces_opened splits) ≤ 1
 
+-- after a split is opened its kids came to be, and the rest are ready
 ready_next : (made used : List Subproblem) (s : Split) (ss : List Split) → AreReady made used (s ∷ ss)
     → AreReady (made ++ kids_of s) (used ++ s.piece ∷ []) ss
 ready_next made used s ss r = record {
@@ -49,6 +52,7 @@ ready_next made used s ss r = record {
   fresh = λ x. (let a = r.fresh x in let b = weigh-append (named x) used (s.piece ∷ []) in omega arith);
 }
 
+-- and each name came to be at most once
 once_now : (made used : List Subproblem) (s : Split) (ss : List Split) → AreReady made used (s ∷ ss) → (x : List ℕ)
     → weigh (named x) (made ++ kids_of s) ≤ 1
 once_now made used s ss r x =
@@ -57,6 +61,7 @@ once_now made used s ss r x =
     let c = weigh-append (named x) (kids_of s) (all_kids ss) in
     omega arith
 
+-- the front of splits that are ready is ready
 ready_front : (made used : List Subproblem) (xs ys : List Split) → AreReady made used (xs ++ ys) → AreReady made used xs
 ready_front made used xs ys r =
     let kids : (x : List ℕ) → weigh (named x) (all_kids (xs ++ ys))
@@ -72,6 +77,7 @@ ready_front made used xs ys r =
       fresh = λ x. (let a = r.fresh x in let b = pieces x in omega arith);
     }
 
+-- and the rest is, once the front is opened
 ready_rest : (made used : List Subproblem) (xs ys : List Split) → AreReady made used (xs ++ ys)
     → AreReady (made ++ all_kids xs) (used ++ pieces_opened xs) ys
 ready_rest made used xs ys r =
@@ -90,10 +96,12 @@ ready_rest made used xs ys r =
           let c = weigh-append (named x) used (pieces_opened xs) in omega arith);
     }
 
+-- with nothing more made or used, the same is known
 knows_nil : (state : State) (made used : List Subproblem) → Knows state made used
     → Knows state (made ++ []) (used ++ [])
 knows_nil state made used knows = subst₂ (Knows state) (sym (append-nil made)) (sym (append-nil used)) knows
 
+-- ready splits can be opened in turn, and what follows may count on their kids
 pub opens_go : (region : Instance) (w : ℕ) (ss : List Split) (rest : List Event) (state : State)
     (made used : List Subproblem) → w < length state.seen → state.region ≡ region → All (IsOpenedIn region) ss
     → Knows state made used → AreReady made used ss
@@ -173,6 +181,7 @@ pub record AreClosable (made used : List Subproblem) (ended : List Fathomed) : T
   pub there : (p : Subproblem) → IsAmong p (pieces_closed ended) → IsAmong p made
   pub fresh : (x : List ℕ) → weigh (named x) used + weigh (named x) (pieces_closed ended) ≤ 1
 
+-- after a piece is closed the rest can be closed
 closable_next : (made used : List Subproblem) (e : Fathomed) (es : List Fathomed) → AreClosable made used (e ∷ es)
     → AreClosable made (used ++ e.piece ∷ []) es
 closable_next made used e es r = record {
@@ -180,9 +189,11 @@ closable_next made used e es r = record {
   fresh = λ x. (let a = r.fresh x in let b = weigh-append (named x) used (e.piece ∷ []) in omega arith);
 }
 
+-- the closed pieces of two lists, one list after the other
 closed-append : (xs ys : List Fathomed) → pieces_closed (xs ++ ys) ≡ pieces_closed xs ++ pieces_closed ys
 closed-append xs ys = map-append (λ f. f.piece) xs ys
 
+-- the front of pieces that can be closed can be closed
 closable_front : (made used : List Subproblem) (xs ys : List Fathomed) → AreClosable made used (xs ++ ys)
     → AreClosable made used xs
 closable_front made used xs ys r = record {
@@ -194,6 +205,7 @@ closable_front made used xs ys r = record {
       omega arith);
 }
 
+-- and the rest can, once the front is closed
 closable_rest : (made used : List Subproblem) (xs ys : List Fathomed) → AreClosable made used (xs ++ ys)
     → AreClosable made (used ++ pieces_closed xs) ys
 closable_rest made used xs ys r = record {
@@ -213,6 +225,7 @@ after_closing old mid new e w made used taken done knows q at none =
     let apart = other_name used e.piece q.name none in
     done.others q.name apart ∙ taken.others q.name apart ∙ knows q at (unused_before used e.piece q.name none)
 
+-- pieces that can be closed are closed in turn, and what follows may count on it
 pub closes_go : (region : Instance) (least : ℕ) (w : ℕ) (es : List Fathomed) (rest : List Event) (state : State)
     (made used : List Subproblem) → w < length state.seen → state.region ≡ region
     → slice_index state.seen w ≤ least → All (IsClosedFrom region least) es → Knows state made used

@@ -24,9 +24,11 @@ pub record Keeps (old new : State) : Type 0 where
   pub same_best : new.best ≡ old.best
   pub same_seen : new.seen ≡ old.seen
 
+-- a state keeps its own region, best cover and what each worker saw
 pub keeps_self : (state : State) → Keeps state state
 keeps_self state = record { same_region = refl; same_best = refl; same_seen = refl }
 
+-- what two steps keep, both together keep
 pub keeps_on : (a b c : State) → Keeps a b → Keeps b c → Keeps a c
 keeps_on a b c f g = record {
   same_region = g.same_region ∙ f.same_region;
@@ -34,6 +36,7 @@ keeps_on a b c f g = record {
   same_seen = g.same_seen ∙ f.same_seen;
 }
 
+-- a turn of a piece keeps all but the pieces
 pub turned_keeps : (old : State) (name : List ℕ) (status : Status) (new : State) → Turns old name status new
     → Keeps old new
 turned_keeps old name status new t = record {
@@ -42,6 +45,7 @@ turned_keeps old name status new t = record {
   same_seen = ap (λ (s : State). s.seen) t.kept;
 }
 
+-- opening a piece keeps all but the pieces
 pub opened_keeps : (old : State) (name : List ℕ) (cell : ℕ) (new : State) → Opens old name cell new → Keeps old new
 opened_keeps old name cell new o = record {
   same_region = ap (λ (s : State). s.region) o.kept;
@@ -57,6 +61,7 @@ other_name used p x none e =
     let sum = weigh-append (named x) used (p ∷ []) in
     absurd (omega arith)
 
+-- a name that isn't used after a piece more wasn't used before
 pub unused_before : (used : List Subproblem) (p : Subproblem) (x : List ℕ) → weigh (named x) (used ++ p ∷ []) ≡ 0
     → weigh (named x) used ≡ 0
 unused_before used p x none = (let sum = weigh-append (named x) used (p ∷ []) in omega arith)
@@ -93,6 +98,7 @@ module _ (old mid new : State) (s : Split) (was : Status) (made used : List Subp
       let top = once q.name in
       absurd (omega arith)
 
+  -- after a piece is opened its kids came to be, and it is used
   pub after_opening : Knows new (made ++ kids_of s) (used ++ s.piece ∷ [])
   after_opening q at none = elim (among_either q made (kids_of s) at) [
     | inl before ↦ (let apart = other_name used s.piece q.name none in

@@ -3,3 +3,4 @@ pub mod KidLemmas
 pub mod AloneLemmas
 pub mod NumberingLemmas
 pub mod PieceLemmas
+pub mod ThinLemmas

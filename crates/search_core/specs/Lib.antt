@@ -8,3 +8,4 @@ pub mod Alone
 pub mod Bars
 pub mod Desks
 pub mod Kids
+pub mod Thinning

@@ -4,6 +4,7 @@ use Rattle.std.specs.Prelude.{◌&&◌, IsTrue, nat_lt}
 use Rattle.std.proofs.lemmas.Bool.{ltb-true}
 use Rattle.search_pool.specs.Crew.{is_crew}
 
+-- where both flags are set each is
 both : (a b : Bool) → (a && b) ≡ true → (a ≡ true) × (b ≡ true)
 both true true e = (refl, refl)
 both true false e = absurd (cc)

@@ -15,10 +15,12 @@ use Rattle.search_pool.specs.Reports.{sum_of}
 use Rattle.search_pool.specs.Tallies.{AreCounted as AreTallied}
 use Rattle.search_pool.specs.declared.tally.Tally.{Tally}
 
+-- zeros add up to zero
 pub no_sum : (count : ℕ) → sum_of (replicate count 0) ≡ 0
 no_sum zero = refl
 no_sum (suc count) = omega (arith, no_sum count)
 
+-- two lists are together as long as both
 length-append : {A : Type 0} (xs ys : List A) → length (xs ++ ys) ≡ length xs + length ys
 length-append [] ys = omega arith
 length-append (x ∷ xs) ys = omega (arith, length-append xs ys)

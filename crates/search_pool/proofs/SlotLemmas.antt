@@ -37,6 +37,7 @@ one_more start out (own ∷ owned) all =
     (ap one_more_out (All-head (IsReady start out) own owned all))
     (one_more start out owned (All-tail (IsReady start out) own owned all))
 
+-- an item more is one more
 pub length-push : {A : Type 0} (xs : List A) (x : A) → length (xs ++ x ∷ []) ≡ length xs + 1
 length-push [] x = omega arith
 length-push (y ∷ ys) x = omega (arith, length-push ys x)
@@ -54,10 +55,12 @@ pub numbers_push : (owned : List Owned) (own : Owned)
 numbers_push [] own = refl
 numbers_push (one ∷ owned) own = ap (one.worker ∷◌) (numbers_push owned own)
 
+-- so many numbers in order
 length-numbers : (first count : ℕ) → length (numbers_from first count) ≡ count
 length-numbers first zero = refl
 length-numbers first (suc count) = omega (arith, length-numbers (first + 1) count)
 
+-- a list is as long after each item was changed
 pub length-map : {A B : Type 0} (f : A → B) (xs : List A) → length (map f xs) ≡ length xs
 length-map f [] = refl
 length-map f (x ∷ xs) = omega (arith, length-map f xs)

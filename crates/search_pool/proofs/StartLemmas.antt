@@ -21,6 +21,7 @@ untaken pieces owner h = record {
   pass = h.pass ∙ ap (λ (l : List Subproblem). ready l 0) (sym (ap (λ (d : Dealt). d.pushed) h.pass));
 }
 
+-- owners that pushed nothing are untaken
 all_empty : (owners : List Owner) → All (HasPushed []) owners → All IsUntaken owners
 all_empty [] all = λ k d lt. absurd (omega (arith, lt))
 all_empty (owner ∷ owners) all = All-cons IsUntaken owner owners
@@ -33,6 +34,7 @@ all_untaken pieces [] stocked = absurd stocked
 all_untaken pieces (owner ∷ owners) stocked =
     All-cons IsUntaken owner owners (untaken pieces owner stocked.0) (all_empty owners stocked.1)
 
+-- untaken owners in order are the owners of their deques, with what each pushed
 owners_from : (deque : ℕ → DequeId) (start : ℕ → List Subproblem) (first : ℕ) (owners : List Owner)
     → ((k : ℕ) → deque (first + k) ≡ deque_at owners k) → ((k : ℕ) → start (first + k) ≡ pushed_at owners k)
     → All IsUntaken owners → AreOwners deque start first owners
@@ -58,6 +60,7 @@ owners_named pieces owners stocked =
     (λ k. ap (pushed_at owners) (let e : 0 + k ≡ k = omega arith in e))
     (all_untaken pieces owners stocked)
 
+-- their thieves are at the same deques
 thieves_from : (deque : ℕ → DequeId) (first : ℕ) (owners : List Owner) (thieves : List Thief)
     → ((k : ℕ) → deque (first + k) ≡ deque_at owners k) → All IsUntaken owners → AreThievesOf owners thieves
     → AreThieves deque first thieves

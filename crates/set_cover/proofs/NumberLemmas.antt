@@ -1,5 +1,6 @@
 -- Cells get their indices, one after another.
-use Rattle.std.proofs.Common.{◌≡◌, ◌≢◌, ℕ, ◌+◌, ◌<◌, ◌≤◌, List, length, set, slice_index, Contains, refl, sym, subst, ◌∙◌, ◌⊎◌, arith, inl, inr, length-set, get_or-set_same, get_or-set_other}
+use Rattle.std.proofs.Common.{◌≡◌, ◌≢◌, ℕ, ◌+◌, ◌<◌, ◌≤◌, List, length, set, slice_index, Contains, refl, sym, subst}
+use Rattle.std.proofs.Common.{◌∙◌, ◌⊎◌, arith, inl, inr, length-set, get_or-set_same, get_or-set_other}
 use Rattle.std.specs.List.Sorted.{IsStrictlyIncreasing}
 use Rattle.std.proofs.lemmas.Bool.{cases_lt, cases_eq}
 use Rattle.set_cover.proofs.OrderLemmas.{rises, element_of}
@@ -11,15 +12,19 @@ pub record Numbering (old cells : List ℕ) (count : ℕ) (new : List ℕ) : Typ
   pub listed : (index : ℕ) → index < count → slice_index new (slice_index cells index) ≡ index
   pub others : (cell : ℕ) → (slice_index new cell ≡ slice_index old cell) ⊎ Contains cells cell
 
+-- before the first cell none has its index
 pub numbering_none : (old cells : List ℕ) → Numbering old cells 0 old
 numbering_none old cells = record { whole = refl; listed = λ index h. absurd (omega arith); others = λ cell. inl refl }
 
-pub numbering_next : (old cells new : List ℕ) (count : ℕ) → IsStrictlyIncreasing cells → count < length cells → slice_index cells count < length old
+-- the next cell gets its index
+pub numbering_next : (old cells new : List ℕ) (count : ℕ) → IsStrictlyIncreasing cells → count < length cells
+    → slice_index cells count < length old
     → Numbering old cells count new → Numbering old cells (count + 1) (set new (slice_index cells count) count)
 numbering_next old cells new count up h inside s = record {
   whole = length-set new (slice_index cells count) count ∙ s.whole;
   listed = λ index lt. (elim (cases_lt index count) [
-    | inl before ↦ (let apart : slice_index cells index ≢ slice_index cells count = λ e. (let r = rises cells up index count before h in absurd (omega arith)) in
+    | inl before ↦ (let apart : slice_index cells index ≢ slice_index cells count = λ e.
+        (let r = rises cells up index count before h in absurd (omega arith)) in
         get_or-set_other new (slice_index cells count) (slice_index cells index) count 0 apart ∙ s.listed index before)
     | inr le ↦ (let same : count ≡ index = omega arith in
         subst (λ (i : ℕ). slice_index (set new (slice_index cells count) count) (slice_index cells i) ≡ i) same
@@ -34,5 +39,8 @@ numbering_next old cells new count up h inside s = record {
   ]);
 }
 
-pub numbering_all : (old cells new : List ℕ) (count : ℕ) → length cells ≤ count → Numbering old cells count new → Numbers old cells new
-numbering_all old cells new count all s = record { whole = s.whole; listed = λ index h. s.listed index (omega arith); others = s.others }
+-- after the last all have theirs
+pub numbering_all : (old cells new : List ℕ) (count : ℕ) → length cells ≤ count → Numbering old cells count new
+    → Numbers old cells new
+numbering_all old cells new count all s =
+    record { whole = s.whole; listed = λ index h. s.listed index (omega arith); others = s.others }

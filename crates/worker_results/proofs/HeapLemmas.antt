@@ -11,16 +11,19 @@ use Rattle.schedule_law.specs.Joined.{all_kids, pieces_closed, pieces_opened}
 use Rattle.search_core.specs.Pieces.{IsClosing}
 use Rattle.worker_results.specs.Shares.{AreClosedFrom}
 
+-- a closed piece more adds its weight
 pub closed_snoc : (h : Subproblem → ℕ) (es : List Fathomed) (e : Fathomed)
     → weigh h (pieces_closed (es ++ e ∷ [])) ≡ weigh h (pieces_closed es) + h e.piece
 closed_snoc h [] e = omega arith
 closed_snoc h (x ∷ xs) e = omega (arith, closed_snoc h xs e)
 
+-- an opened piece more adds its weight
 pub opened_snoc : (h : Subproblem → ℕ) (ss : List Split) (s : Split)
     → weigh h (pieces_opened (ss ++ s ∷ [])) ≡ weigh h (pieces_opened ss) + h s.piece
 opened_snoc h [] s = omega arith
 opened_snoc h (x ∷ xs) s = omega (arith, opened_snoc h xs s)
 
+-- an opened piece more adds the weight of its kids
 pub kids_snoc : (h : Subproblem → ℕ) (ss : List Split) (s : Split)
     → weigh h (all_kids (ss ++ s ∷ [])) ≡ weigh h (all_kids ss) + weigh h (kids_of s)
 kids_snoc h [] s = let e = weigh_append h (kids_of s) [] in omega arith

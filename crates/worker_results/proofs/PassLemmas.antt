@@ -14,12 +14,14 @@ use Rattle.worker_results.specs.Naming.{DequeId, Thief, AreThieves, numbers_from
 use Rattle.worker_results.specs.Passes.{Reached, deques, all_taken}
 use Rattle.worker_results.specs.Tries.{TriedOne}
 
+-- a pass changed at its place is at the same deque
 pub deques_set : (rs : List Reached) (k : ℕ) (r d : Reached) → r.deque ≡ (get_or rs k d).deque
     → deques (set rs k r) ≡ deques rs
 deques_set [] k r d e = refl
 deques_set (x ∷ xs) zero r d e = ap (λ n. n ∷ deques xs) e
 deques_set (x ∷ xs) (suc k) r d e = ap (λ l. x.deque ∷ l) (deques_set xs k r d e)
 
+-- a pass that took one more piece adds its weight to all taken
 taken_set : (h : Subproblem → ℕ) (rs : List Reached) (k : ℕ) (r d : Reached) (p : Subproblem) → k < length rs
     → r.knows ≡ took_too (get_or rs k d).knows (p ∷ [])
     → weigh h (all_taken (set rs k r)) ≡ weigh h (all_taken rs) + h p
@@ -52,6 +54,7 @@ deque_at (r ∷ rs) from (suc n) zero d lt e = let a : r.deque ≡ from = cc in 
 deque_at (r ∷ rs) from (suc n) (suc k) d lt e =
     let a : deques rs ≡ numbers_from (from + 1) n = cc in omega (arith, deque_at rs (from + 1) n k d (omega arith) a)
 
+-- a pass put back as it was changes nothing
 set_same : (rs : List Reached) (k : ℕ) (r d : Reached) → r ≡ get_or rs k d → set rs k r ≡ rs
 set_same [] k r d e = refl
 set_same (x ∷ xs) zero r d e = ap (λ y. y ∷ xs) e

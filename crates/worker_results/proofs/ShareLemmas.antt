@@ -20,6 +20,7 @@ pub record TookMore (own own_now : Owned) (rs rs_now : List Reached) (p : Subpro
   pub taken : (h : Subproblem → ℕ) → weigh h own_now.knows.taken + weigh h (all_taken rs_now)
       ≡ (weigh h own.knows.taken + weigh h (all_taken rs)) + h p
 
+-- the owner took one piece more from its own deque
 pub own_took : (own own_now : Owned) (rs : List Reached) (p : Subproblem)
     → own_now.knows ≡ took_too own.knows (p ∷ []) → TookMore own own_now rs rs p
 own_took own own_now rs p now = record {
@@ -80,6 +81,7 @@ closed_one region start own rs closed opened mid refused p e is fit s = record {
   all_opened = s.all_opened;
 }
 
+-- a share in which a held piece was closed is a share
 pub closed_now : (region : Instance) (start : List Subproblem) (own : Owned) (rs : List Reached)
     (closed room closed_after : List Fathomed) (opened : List Split) (held mid refused : List Subproblem)
     (p : Subproblem) (e : Fathomed)

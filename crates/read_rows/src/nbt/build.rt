@@ -1,5 +1,5 @@
 //! Bytes of NBT texts, and the parts of what was read.
-use nbt_core::{NbtFault, Tag, read_root};
+use nbt_core::{NbtFault, Tag, read_root, root_view};
 use std::alloc::{AllocError, Global};
 use std::test::Fail;
 
@@ -33,9 +33,16 @@ pub fn joined(alloc: Global, parts: &[&[u8]]) -> Result<Vec<u8>, AllocError> {
     Ok(bytes)
 }
 
-/// The fault of bytes that are no root.
+/// The fault of bytes that are no root, as the reader and the view answer it. Where the two differ, it is out of
+/// memory, which no row wants.
 pub fn fault_of(alloc: Global, bytes: &[u8]) -> Option<NbtFault> {
-    read_root(alloc, bytes).err()
+    let read = read_root(alloc, bytes).err();
+    let seen = root_view(bytes).err();
+    if read == seen {
+        read
+    } else {
+        Some(NbtFault::OutOfMemory)
+    }
 }
 
 /// The items of the list of this name.

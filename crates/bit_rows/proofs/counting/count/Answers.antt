@@ -19,4 +19,5 @@ loop-word-preserved c =
     counting_more (slice_index c.args.words.now) c.loop-word.word-index c.loop-word.total fits c.loop-word.invariant
 
 pub returns : goal.returns
-returns c = counting_all (Has c.args.words.now) (slice_index c.args.words.now) c.loop-word.word-index c.loop-word.total (of_row c.args.words.now c.loop-word.word-index c.loop-word-test.false) c.loop-word.invariant
+returns c = counting_all (Has c.args.words.now) (slice_index c.args.words.now) c.loop-word.word-index c.loop-word.total
+    (of_row c.args.words.now c.loop-word.word-index c.loop-word-test.false) c.loop-word.invariant

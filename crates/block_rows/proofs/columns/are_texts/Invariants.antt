@@ -5,4 +5,5 @@ use Rattle.block_rows.specs.Columns as columns
 use Rattle.block_rows.proofs.columns.are_texts.Given as goal
 
 abbrev pub invariant-loop-property : goal.invariant-loop-property
-invariant-loop-property l = is_some (columns.texts_of (members_view l.property-iterator)) ≡ is_some (columns.texts_of (members_view l.asked.entries))
+invariant-loop-property l = is_some (columns.texts_of (members_view l.property-iterator))
+    ≡ is_some (columns.texts_of (members_view l.asked.entries))

@@ -13,9 +13,11 @@ returns-then-not-is_one_of c =
     let keys = c.args.keys.now in
     let rest = c.next.new.self in
     let is : c.loop-key.key-iterator ≡ e ∷ rest = grind (arith, common_steps) in
-    let told = c.is_one_of.ensures ∙ ap (λ (k : List ℕ). list_any (λ known. bytes_eq k known.now) keys) c.as_str.ensures.value in
+    let told = c.is_one_of.ensures ∙ ap (λ (k : List ℕ). list_any (λ known. bytes_eq k known.now) keys)
+    c.as_str.ensures.value in
     let step = has_only-cons keys e rest c.loop-key.key-iterator c.is_one_of.result is told in
-    sym (step ∙ ap (λ (b : Bool). b && columns.has_only (map (λ key. key.now) keys) (members_view rest)) c.if-not-is_one_of.true) ∙ c.loop-key.invariant
+    sym (step ∙ ap (λ (b : Bool). b && columns.has_only (map (λ key. key.now) keys) (members_view rest))
+    c.if-not-is_one_of.true) ∙ c.loop-key.invariant
 
 pub loop-key-preserved : goal.loop-key-preserved
 loop-key-preserved c =
@@ -23,6 +25,8 @@ loop-key-preserved c =
     let keys = c.args.keys.now in
     let rest = c.next.new.self in
     let is : c.loop-key.key-iterator ≡ e ∷ rest = grind (arith, common_steps) in
-    let told = c.is_one_of.ensures ∙ ap (λ (k : List ℕ). list_any (λ known. bytes_eq k known.now) keys) c.as_str.ensures.value in
+    let told = c.is_one_of.ensures ∙ ap (λ (k : List ℕ). list_any (λ known. bytes_eq k known.now) keys)
+    c.as_str.ensures.value in
     let step = has_only-cons keys e rest c.loop-key.key-iterator c.is_one_of.result is told in
-    sym (step ∙ ap (λ (b : Bool). b && columns.has_only (map (λ key. key.now) keys) (members_view rest)) c.if-not-is_one_of.false) ∙ c.loop-key.invariant
+    sym (step ∙ ap (λ (b : Bool). b && columns.has_only (map (λ key. key.now) keys) (members_view rest))
+    c.if-not-is_one_of.false) ∙ c.loop-key.invariant

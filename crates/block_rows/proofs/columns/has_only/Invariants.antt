@@ -4,4 +4,5 @@ use Rattle.block_rows.specs.Columns as columns
 use Rattle.block_rows.proofs.columns.has_only.Given as goal
 
 abbrev pub invariant-loop-key : goal.invariant-loop-key
-invariant-loop-key l = columns.has_only (map (λ known. known.now) l.keys) (members_view l.key-iterator) ≡ columns.has_only (map (λ known. known.now) l.keys) (members_view l.table.entries)
+invariant-loop-key l = columns.has_only (map (λ known. known.now) l.keys)
+    (members_view l.key-iterator) ≡ columns.has_only (map (λ known. known.now) l.keys) (members_view l.table.entries)

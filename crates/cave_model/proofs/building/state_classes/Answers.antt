@@ -14,7 +14,8 @@ returns-in-None-clause-fault c = λ ne.
     let at = rw c.palette-palette.ensures.palette at c.index-palette-index.is in
     let lt : index < length scan.palette = omega (arith, ap length c.palette-palette.ensures.palette) in
     fault_here scan c.args.rows.now index c.loop-index.classes.items state c.unknown_block.result
-    inv ((c.requires.exact index).0 c.if-used-index.true) lt at (ap option_copied (sym c.in-None.is) ∙ c.row_of.ensures.row) (c.unknown_block.ensures ne)
+    inv ((c.requires.exact index).0 c.if-used-index.true) lt at
+    (ap option_copied (sym c.in-None.is) ∙ c.row_of.ensures.row) (c.unknown_block.ensures ne)
 
 pub loop-index-preserved : goal.loop-index-preserved
 loop-index-preserved c =
@@ -27,7 +28,9 @@ loop-index-preserved c =
     elim c.if-used-index.branch [
       | then-used-index+in-Some w ↦ rw c.in_ok-push.ensures.items (pushed
           (rw w.class-is (rw w.in-Some.is at w.row_of.ensures.sound))
-          (λ used. found_class rows palette index c.index-palette-index.result w.in-Some.row.now class c.loop-index-test.true c.index-palette-index.is (ap option_copied (sym w.in-Some.is) ∙ w.row_of.ensures.row) w.class-is)
+          (λ used. found_class rows palette index c.index-palette-index.result w.in-Some.row.now class
+          c.loop-index-test.true c.index-palette-index.is (ap option_copied (sym w.in-Some.is)
+          ∙ w.row_of.ensures.row) w.class-is)
           c.loop-index.invariant)
       | else-used-index w ↦ rw c.in_ok-push.ensures.items (pushed
           (rw w.class-is void_sound)

@@ -8,10 +8,12 @@ loop-bit-init c = copied_none c.args.words.now c.args.row.now c.args.ranks.now c
 
 pub loop-bit-preserved : goal.loop-bit-preserved
 loop-bit-preserved c =
-    copied_next c.args.words.now c.args.row.now c.args.ranks.now c.loop-bit.words c.add.new.words c.args.base c.loop-bit.from c.in-Some.bit c.in-Some.ensures c.add.ensures c.loop-bit.invariant
+    copied_next c.args.words.now c.args.row.now c.args.ranks.now c.loop-bit.words c.add.new.words c.args.base
+    c.loop-bit.from c.in-Some.bit c.in-Some.ensures c.add.ensures c.loop-bit.invariant
 
 pub returns : goal.returns
-returns c = copied_all c.args.words.now c.args.row.now c.args.ranks.now c.loop-bit.words c.args.base c.loop-bit.from c.in_default.ensures c.loop-bit.invariant
+returns c = copied_all c.args.words.now c.args.row.now c.args.ranks.now c.loop-bit.words c.args.base c.loop-bit.from
+    c.in_default.ensures c.loop-bit.invariant
 
 pub loop-bit-smaller : goal.loop-bit-smaller
 loop-bit-smaller c =

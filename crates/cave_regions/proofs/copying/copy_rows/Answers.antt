@@ -9,18 +9,27 @@ loop-row-init c = copied_start c.args.instance.now c.args.own.now c.args.placed.
 
 pub copy_row-requires-clause-room : goal.copy_row-requires-clause-room
 copy_row-requires-clause-room c =
-    let width : c.div_ceil-row_bits.result ≡ words_for (length c.args.own.now) = omega (arith, c.div_ceil-row_bits.ensures) in
-    let base : c.loop-row.row * (64 * c.div_ceil-row_bits.result) ≡ 64 * (c.loop-row.row * words_for (length c.args.own.now)) = rw width (omega arith) in
-    subst (λ (row : List ℕ). HasRoom row c.args.ranks.now (c.loop-row.row * (64 * c.div_ceil-row_bits.result)) c.loop-row.words) (sym c.row_at-copied.ensures.row)
-    (has_room c.args.instance.now c.args.own.now c.args.placed.now c.args.ranks.now c.requires.closed c.requires.ranks c.loop-row.words c.loop-row.row _ c.loop-row-test.true base c.loop-row.invariant.whole)
+    let width : c.div_ceil-row_bits.result ≡ words_for (length c.args.own.now) =
+    omega (arith, c.div_ceil-row_bits.ensures) in
+    let base : c.loop-row.row * (64 * c.div_ceil-row_bits.result) ≡ 64
+    * (c.loop-row.row * words_for (length c.args.own.now)) = rw width (omega arith) in
+    subst (λ (row : List ℕ). HasRoom row c.args.ranks.now (c.loop-row.row * (64 * c.div_ceil-row_bits.result))
+    c.loop-row.words) (sym c.row_at-copied.ensures.row)
+    (has_room c.args.instance.now c.args.own.now c.args.placed.now c.args.ranks.now c.requires.closed c.requires.ranks
+    c.loop-row.words c.loop-row.row _ c.loop-row-test.true base c.loop-row.invariant.whole)
 
 pub loop-row-preserved : goal.loop-row-preserved
 loop-row-preserved c =
-    let width : c.div_ceil-row_bits.result ≡ words_for (length c.args.own.now) = omega (arith, c.div_ceil-row_bits.ensures) in
-    let base : c.loop-row.row * (64 * c.div_ceil-row_bits.result) ≡ 64 * (c.loop-row.row * words_for (length c.args.own.now)) = rw width (omega arith) in
-    copied_more c.args.instance.now c.args.own.now c.args.placed.now c.args.ranks.now c.requires.closed c.requires.ranks c.loop-row.words c.copy_row.new.words c.loop-row.row
+    let width : c.div_ceil-row_bits.result ≡ words_for (length c.args.own.now) =
+    omega (arith, c.div_ceil-row_bits.ensures) in
+    let base : c.loop-row.row * (64 * c.div_ceil-row_bits.result) ≡ 64
+    * (c.loop-row.row * words_for (length c.args.own.now)) = rw width (omega arith) in
+    copied_more c.args.instance.now c.args.own.now c.args.placed.now c.args.ranks.now c.requires.closed c.requires.ranks
+    c.loop-row.words c.copy_row.new.words c.loop-row.row
     (c.loop-row.row * (64 * c.div_ceil-row_bits.result)) c.loop-row-test.true base
-    (subst (λ (row : List ℕ). Copies c.loop-row.words row c.args.ranks.now (c.loop-row.row * (64 * c.div_ceil-row_bits.result)) c.copy_row.new.words) c.row_at-copied.ensures.row c.copy_row.ensures)
+    (subst (λ (row : List ℕ). Copies c.loop-row.words row c.args.ranks.now
+    (c.loop-row.row * (64 * c.div_ceil-row_bits.result)) c.copy_row.new.words)
+    c.row_at-copied.ensures.row c.copy_row.ensures)
     c.loop-row.invariant
 
 pub copy_row-requires-clause-narrow : goal.copy_row-requires-clause-narrow

@@ -8,13 +8,17 @@ use Rattle.cave_regions.proofs.entire.all_of.Goals.{After-deref-2}
 use Rattle.cave_regions.proofs.entire.all_of.Goals as goal
 
 pub lighting-requires-clause-few : goal.lighting-requires-clause-few
-lighting-requires-clause-few c = omega (arith, c.count_of-count.ensures.few, c.count_of-count.ensures.count, ap length c.cells.ensures.cells)
+lighting-requires-clause-few c =
+    omega (arith, c.count_of-count.ensures.few, c.count_of-count.ensures.count, ap length c.cells.ensures.cells)
 
 alone : (c : After-deref-2) → AreAlone (length c.args.instance.now.cells) c.deref.result.now
-alone c = subst (λ (n : ℕ). AreAlone n c.deref.result.now) (c.count_of-count.ensures.count ∙ ap length c.cells.ensures.cells) (subst (AreAlone c.count_of-count.result) (sym c.deref.ensures.value) c.in_ok-own.ensures)
+alone c = subst (λ (n : ℕ). AreAlone n c.deref.result.now)
+    (c.count_of-count.ensures.count ∙ ap length c.cells.ensures.cells)
+    (subst (AreAlone c.count_of-count.result) (sym c.deref.ensures.value) c.in_ok-own.ensures)
 
 closed : (c : After-deref-2) → IsClosed c.args.instance.now c.deref.result.now c.deref-2.result.now
-closed c = closed_whole c.args.instance.now c.deref.result.now c.deref-2.result.now c.requires.kept c.requires.filled (alone c)
+closed c = closed_whole c.args.instance.now c.deref.result.now c.deref-2.result.now c.requires.kept
+    c.requires.filled (alone c)
     (subst (Lists (IsLighting c.args.instance.now)) (sym c.deref-2.ensures.value) c.in_ok-placed.ensures)
 
 pub restrict-requires-clause-closed : goal.restrict-requires-clause-closed
@@ -28,4 +32,5 @@ returns-clause-cells c =
 pub returns-clause-part : goal.returns-clause-part
 returns-clause-part c =
     let before = (goal.at.returns-clause-part c).After-deref-2 in
-    part_of c.args.instance.now c.in_ok-region.region c.deref.result.now c.deref-2.result.now c.requires.kept (closed before) c.in_ok-region.ensures
+    part_of c.args.instance.now c.in_ok-region.region c.deref.result.now c.deref-2.result.now c.requires.kept
+    (closed before) c.in_ok-region.ensures

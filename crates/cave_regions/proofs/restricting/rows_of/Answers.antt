@@ -8,7 +8,8 @@ use Rattle.cave_regions.proofs.restricting.rows_of.Goals as goal
 
 small : (c : After-div_ceil) → length c.args.placed.now * words_for (length c.args.own.now) ≤ 2 ^ 58
 small c = few_words (length c.args.placed.now) (length c.args.own.now)
-    (few_fit c.args.placed.now c.requires.closed.places.ascending (λ k. (c.type_inv.placed k).fits)) (few_fit c.args.own.now c.requires.closed.cells.ascending (λ k. (c.type_inv.own k).fits))
+    (few_fit c.args.placed.now c.requires.closed.places.ascending (λ k. (c.type_inv.placed k).fits))
+    (few_fit c.args.own.now c.requires.closed.cells.ascending (λ k. (c.type_inv.own k).fits))
 
 width : (c : After-div_ceil) → c.div_ceil.result ≡ words_for (length c.args.own.now)
 width c = omega (arith, c.div_ceil.ensures)
@@ -20,7 +21,8 @@ pub copy_rows-requires-clause-words : goal.copy_rows-requires-clause-words
 copy_rows-requires-clause-words c =
     let before = (goal.at.copy_rows-requires-clause-words c).After-div_ceil in
     let long : length c.as_mut_slice.result.now ≡ length c.args.placed.now * words_for (length c.args.own.now)
-    = ap length c.as_mut_slice.ensures.value ∙ c.in_ok-words.ensures.whole ∙ ap (λ (n : ℕ). length c.args.placed.now * n) (width before) in
+    = ap length c.as_mut_slice.ensures.value ∙ c.in_ok-words.ensures.whole
+    ∙ ap (λ (n : ℕ). length c.args.placed.now * n) (width before) in
     let few = small before in
     let none = subst (IsRowOf []) (sym c.as_mut_slice.ensures.value) c.in_ok-words.ensures.none in
     record {
@@ -31,5 +33,8 @@ copy_rows-requires-clause-words c =
 
 pub returns : goal.returns
 returns c =
-    let long : length c.copy_rows.new.words ≡ c.in_ok-words.words.len = omega (arith, c.copy_rows.auto.words, c.as_mut_slice.ensures.len) in
-    subst (AreCopied c.args.instance.now c.args.own.now c.args.placed.now (words_for (length c.args.own.now)) (length c.args.placed.now)) (sym (take_at c.copy_rows.new.words _ c.in_ok-words.words.len long)) c.copy_rows.ensures
+    let long : length c.copy_rows.new.words ≡ c.in_ok-words.words.len =
+    omega (arith, c.copy_rows.auto.words, c.as_mut_slice.ensures.len) in
+    subst (AreCopied c.args.instance.now c.args.own.now c.args.placed.now (words_for (length c.args.own.now))
+    (length c.args.placed.now)) (sym (take_at c.copy_rows.new.words _ c.in_ok-words.words.len long))
+    c.copy_rows.ensures

@@ -6,14 +6,19 @@ use Rattle.certificate_lines.proofs.KindLemmas.{region_means}
 use Rattle.certificate_lines.proofs.step.after.Goals as goal
 
 pub returns-in-Start : goal.returns-in-Start
-returns-in-Start c = subst (λ (s : Stage). Decides c.after_start.result (MeansAt s c.args.kind c.args.numbers.now)) (sym c.in-Start.is) c.after_start.ensures
+returns-in-Start c = subst (λ (s : Stage). Decides c.after_start.result (MeansAt s c.args.kind c.args.numbers.now))
+    (sym c.in-Start.is) c.after_start.ensures
 
 pub returns-in-Box : goal.returns-in-Box
-returns-in-Box c = subst (λ (s : Stage). Decides c.after_box.result (MeansAt s c.args.kind c.args.numbers.now)) (sym c.in-Box.is) c.after_box.ensures
+returns-in-Box c = subst (λ (s : Stage). Decides c.after_box.result (MeansAt s c.args.kind c.args.numbers.now))
+    (sym c.in-Box.is) c.after_box.ensures
 
 pub returns-in-Regions : goal.returns-in-Regions
-returns-in-Regions c = subst (λ (s : Stage). Decides c.after_regions.result (MeansAt s c.args.kind c.args.numbers.now)) (sym c.in-Regions.is) c.after_regions.ensures
+returns-in-Regions c = subst (λ (s : Stage). Decides c.after_regions.result (MeansAt s c.args.kind c.args.numbers.now))
+    (sym c.in-Regions.is) c.after_regions.ensures
 
 pub returns-in_default : goal.returns-in_default
-returns-in_default c = subst (λ (s : Stage). Decides c.after_region.result (MeansAt s c.args.kind c.args.numbers.now)) (sym c.in-Region.is)
-    (region_means c.in-Region.second c.in-Region.count c.in-Region.to_come c.args.numbers.now c.after_region.result c.args.kind c.in_default.not-End c.after_region.ensures)
+returns-in_default c = subst (λ (s : Stage). Decides c.after_region.result (MeansAt s c.args.kind c.args.numbers.now))
+    (sym c.in-Region.is)
+    (region_means c.in-Region.second c.in-Region.count c.in-Region.to_come c.args.numbers.now c.after_region.result
+    c.args.kind c.in_default.not-End c.after_region.ensures)

@@ -7,21 +7,29 @@ use Rattle.cover_rows.proofs.filling.rows_of.Goals.{After-div_ceil-width}
 use Rattle.cover_rows.proofs.filling.rows_of.Goals as goal
 
 few_places : (c : After-div_ceil-width) → length c.args.places.now < 2 ^ 32
-few_places c = (let few : length c.args.places.now ≤ cell_count c.args.world.now.size = few_below c.args.places.now (cell_count c.args.world.now.size) c.requires.places.ascending c.requires.places.inside in omega (arith, c.requires.small))
+few_places c = (let few : length c.args.places.now ≤ cell_count c.args.world.now.size =
+    few_below c.args.places.now (cell_count c.args.world.now.size)
+    c.requires.places.ascending c.requires.places.inside in omega (arith, c.requires.small))
 
 narrow : (c : After-div_ceil-width) → c.div_ceil-width.result ≤ 2 ^ 26
-narrow c = (let few : length c.args.cells.now ≤ cell_count c.args.world.now.size = few_below c.args.cells.now (cell_count c.args.world.now.size) c.requires.cells.ascending c.requires.cells.inside in omega (arith, c.requires.small, c.div_ceil-width.ensures))
+narrow c = (let few : length c.args.cells.now ≤ cell_count c.args.world.now.size =
+    few_below c.args.cells.now (cell_count c.args.world.now.size) c.requires.cells.ascending c.requires.cells.inside
+    in omega (arith, c.requires.small, c.div_ceil-width.ensures))
 
 pub overflow_mul-places : goal.overflow_mul-places
-overflow_mul-places c = (let small = few_words (length c.args.places.now) c.div_ceil-width.result (few_places c) (narrow c) in omega arith)
+overflow_mul-places c = (let small = few_words (length c.args.places.now) c.div_ceil-width.result (few_places c)
+    (narrow c) in omega arith)
 
 pub fill-requires-clause-words : goal.fill-requires-clause-words
 fill-requires-clause-words c =
     let before = (goal.at.fill-requires-clause-words c).After-div_ceil-width in
-    let wide : length c.as_mut_slice-2.result.now ≡ c.div_ceil-width.result = ap length c.as_mut_slice-2.ensures.value ∙ c.in_ok-covered.ensures.whole in
-    let long : length c.as_mut_slice.result.now ≡ length c.args.places.now * c.div_ceil-width.result = ap length c.as_mut_slice.ensures.value ∙ c.in_ok-words.ensures.whole in
+    let wide : length c.as_mut_slice-2.result.now ≡ c.div_ceil-width.result = ap length c.as_mut_slice-2.ensures.value
+    ∙ c.in_ok-covered.ensures.whole in
+    let long : length c.as_mut_slice.result.now ≡ length c.args.places.now * c.div_ceil-width.result =
+    ap length c.as_mut_slice.ensures.value ∙ c.in_ok-words.ensures.whole in
     let small = few_words (length c.args.places.now) c.div_ceil-width.result (few_places before) (narrow before) in
-    empty_rows (length c.args.places.now) (length c.as_mut_slice-2.result.now) (length c.args.cells.now) c.as_mut_slice.result.now
+    empty_rows (length c.args.places.now) (length c.as_mut_slice-2.result.now)
+    (length c.args.cells.now) c.as_mut_slice.result.now
     (long ∙ ap (λ (n : ℕ). length c.args.places.now * n) (sym wide))
     (subst (IsRowOf []) (sym c.as_mut_slice.ensures.value) c.in_ok-words.ensures.none)
     (omega (arith, wide, c.div_ceil-width.ensures))

@@ -10,5 +10,7 @@ use Rattle.event_core.proofs.opening.waiting.Goals as goal
 pub loop-index-preserved : goal.loop-index-preserved
 loop-index-preserved c =
     let places = c.args.places.now in let i = c.loop-index.index in
-    ap shapes_of c.in_ok-push.ensures.items ∙ nodes_push c.loop-index.nodes.items Waiting refl ∙ ap added c.loop-index.invariant
-    ∙ sym (rest_push (take i places) (slice_index places i)) ∙ ap all_at_rest (sym (take_more places i 0 c.loop-index-test.true))
+    ap shapes_of c.in_ok-push.ensures.items ∙ nodes_push c.loop-index.nodes.items Waiting refl
+    ∙ ap added c.loop-index.invariant
+    ∙ sym (rest_push (take i places) (slice_index places i))
+    ∙ ap all_at_rest (sym (take_more places i 0 c.loop-index-test.true))

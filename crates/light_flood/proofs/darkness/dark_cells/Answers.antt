@@ -12,18 +12,26 @@ loop-cell-init c = lists_none (IsDark c.args.world.now) c.new-cells.result.items
 
 pub loop-cell-preserved : goal.loop-cell-preserved
 loop-cell-preserved c = elim c.if-is_dark.branch [
-  | then-is_dark+in_ok-push w ↦ rw (w.cells-is, w.in_ok-push.ensures.items) (lists_push (IsDark c.args.world.now) c.loop-cell.cell c.loop-cell.cells.items c.loop-cell.invariant (c.is_dark.ensures.0 w.if-is_dark.true))
-  | else-is_dark w ↦ rw w.cells-is (lists_skip (IsDark c.args.world.now) c.loop-cell.cell c.loop-cell.cells.items c.loop-cell.invariant (λ dark. true≢false (sym (c.is_dark.ensures.1 dark) ∙ w.if-is_dark.false)))
+  | then-is_dark+in_ok-push w ↦ rw (w.cells-is, w.in_ok-push.ensures.items)
+      (lists_push (IsDark c.args.world.now) c.loop-cell.cell c.loop-cell.cells.items c.loop-cell.invariant
+      (c.is_dark.ensures.0 w.if-is_dark.true))
+  | else-is_dark w ↦ rw w.cells-is
+      (lists_skip (IsDark c.args.world.now) c.loop-cell.cell c.loop-cell.cells.items c.loop-cell.invariant
+      (λ dark. true≢false (sym (c.is_dark.ensures.1 dark) ∙ w.if-is_dark.false)))
 ]
 
 pub returns-clause-dark : goal.returns-clause-dark
 returns-clause-dark c =
-    let all : c.loop-cell.cell ≡ grid.cell_count c.args.world.now.size = omega (arith, c.cell_count-cell-end.ensures.count) in
+    let all : c.loop-cell.cell ≡ grid.cell_count c.args.world.now.size =
+    omega (arith, c.cell_count-cell-end.ensures.count) in
     lists_all (IsDark c.args.world.now) c.loop-cell.cell c.loop-cell.cells.items
-    (λ cell dark. (let b = spawnable_inside c.args.world.now cell c.cell_count-cell-end.ensures.sound dark.spawnable in omega (arith, all)))
+    (λ cell dark. (let b = spawnable_inside c.args.world.now cell c.cell_count-cell-end.ensures.sound dark.spawnable in
+    omega (arith, all)))
     c.loop-cell.invariant
 
 pub returns-clause-in_box : goal.returns-clause-in_box
 returns-clause-in_box c =
-    let within : c.loop-cell.cell ≤ grid.cell_count c.args.world.now.size = omega (arith, c.cell_count-cell-end.ensures.count) in
-    lists_inside (IsDark c.args.world.now) c.loop-cell.cell (grid.cell_count c.args.world.now.size) c.loop-cell.cells.items within c.loop-cell.invariant
+    let within : c.loop-cell.cell ≤ grid.cell_count c.args.world.now.size =
+    omega (arith, c.cell_count-cell-end.ensures.count) in
+    lists_inside (IsDark c.args.world.now) c.loop-cell.cell (grid.cell_count c.args.world.now.size)
+    c.loop-cell.cells.items within c.loop-cell.invariant

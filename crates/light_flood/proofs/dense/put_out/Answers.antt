@@ -5,7 +5,9 @@ pub loop-cell-init : goal.loop-cell-init
 loop-cell-init c = putting_start c.args.levels.now c.args.lit.now c.requires.kept
 
 pub loop-cell-preserved : goal.loop-cell-preserved
-loop-cell-preserved c = putting_next c.args.levels.now c.loop-cell.levels c.args.lit.now c.loop-cell.cell-index c.loop-cell-test.true c.loop-cell.invariant
+loop-cell-preserved c = putting_next c.args.levels.now c.loop-cell.levels c.args.lit.now c.loop-cell.cell-index
+    c.loop-cell-test.true c.loop-cell.invariant
 
 pub returns : goal.returns
-returns c = putting_end c.args.levels.now c.loop-cell.levels c.args.lit.now c.loop-cell.cell-index c.loop-cell-test.false c.loop-cell.invariant
+returns c = putting_end c.args.levels.now c.loop-cell.levels c.args.lit.now c.loop-cell.cell-index
+    c.loop-cell-test.false c.loop-cell.invariant

@@ -7,37 +7,53 @@ use Rattle.light_flood.proofs.spreading.pass_level.Goals as goal
 pub loop-from-init : goal.loop-from-init
 loop-from-init g c = record {
   cells = c.requires.cells;
-  passing = level_start c.args.world.now c.args.level (g.S.Store.levels c.args.store.now) c.args.waiting.now c.take-cells.new.self c.deref-from-items.result.now
-      c.requires.level.0 c.requires.flood (c.deref-from-items.ensures.value ∙ c.take-cells.ensures.taken) c.take-cells.ensures.rest;
+  passing = level_start c.args.world.now c.args.level (g.S.Store.levels c.args.store.now)
+      c.args.waiting.now c.take-cells.new.self c.deref-from-items.result.now
+      c.requires.level.0 c.requires.flood (c.deref-from-items.ensures.value ∙ c.take-cells.ensures.taken)
+      c.take-cells.ensures.rest;
 }
 
 pub level-requires : goal.level-requires
 level-requires g c = record {
-  in_box = subst (λ (n : ℕ). get_or c.deref-from-items.result.now c.loop-from.from-index 0 < n) (sym c.loop-from.invariant.cells)
-      (element_inside c.args.world.now c.args.level (g.S.Store.levels c.args.store.now) (g.S.Store.levels c.loop-from.store) c.loop-from.waiting c.deref-from-items.result.now c.loop-from.from-index c.loop-from.invariant.passing c.loop-from-test.true);
+  in_box = subst (λ (n : ℕ). get_or c.deref-from-items.result.now c.loop-from.from-index 0 < n)
+      (sym c.loop-from.invariant.cells)
+      (element_inside c.args.world.now c.args.level (g.S.Store.levels c.args.store.now)
+      (g.S.Store.levels c.loop-from.store) c.loop-from.waiting c.deref-from-items.result.now c.loop-from.from-index
+      c.loop-from.invariant.passing c.loop-from-test.true);
 }
 
 pub pass_on-requires-clause-in_box : goal.pass_on-requires-clause-in_box
 pass_on-requires-clause-in_box g c =
-    element_inside c.args.world.now c.args.level (g.S.Store.levels c.args.store.now) (g.S.Store.levels c.loop-from.store) c.loop-from.waiting c.deref-from-items.result.now c.loop-from.from-index c.loop-from.invariant.passing c.loop-from-test.true
+    element_inside c.args.world.now c.args.level (g.S.Store.levels c.args.store.now)
+    (g.S.Store.levels c.loop-from.store) c.loop-from.waiting c.deref-from-items.result.now c.loop-from.from-index
+    c.loop-from.invariant.passing c.loop-from-test.true
 
 pub loop-from-preserved : goal.loop-from-preserved
 loop-from-preserved g c = elim c.if-level.branch [
   | then-level+in_ok-pass_on w ↦ rw (w.store-is, w.waiting-is) (record {
     cells = w.in_ok-pass_on.ensures.cells;
-    passing = level_passed c.args.world.now c.args.level (g.S.Store.levels c.args.store.now) (g.S.Store.levels c.loop-from.store) (g.S.Store.levels w.pass_on.new.store)
-        c.loop-from.waiting w.pass_on.new.waiting c.deref-from-items.result.now c.loop-from.from-index (get_or c.deref-from-items.result.now c.loop-from.from-index 0) c.loop-from.invariant.passing
-        (λ d. get_or_default_zero c.deref-from-items.result.now c.loop-from.from-index d c.loop-from-test.true) (sym c.level.ensures ∙ w.if-level.true)
-        w.in_ok-pass_on.ensures.flood w.in_ok-pass_on.ensures.rises w.in_ok-pass_on.ensures.spreads w.in_ok-pass_on.ensures.passed;
+    passing = level_passed c.args.world.now c.args.level (g.S.Store.levels c.args.store.now)
+        (g.S.Store.levels c.loop-from.store) (g.S.Store.levels w.pass_on.new.store)
+        c.loop-from.waiting w.pass_on.new.waiting c.deref-from-items.result.now c.loop-from.from-index
+        (get_or c.deref-from-items.result.now c.loop-from.from-index 0) c.loop-from.invariant.passing
+        (λ d. get_or_default_zero c.deref-from-items.result.now c.loop-from.from-index d c.loop-from-test.true)
+        (sym c.level.ensures ∙ w.if-level.true)
+        w.in_ok-pass_on.ensures.flood w.in_ok-pass_on.ensures.rises w.in_ok-pass_on.ensures.spreads
+        w.in_ok-pass_on.ensures.passed;
   })
   | else-level w ↦ rw (w.store-is, w.waiting-is) (record {
     cells = c.loop-from.invariant.cells;
-    passing = level_skipped c.args.world.now c.args.level (g.S.Store.levels c.args.store.now) (g.S.Store.levels c.loop-from.store)
-        c.loop-from.waiting c.deref-from-items.result.now c.loop-from.from-index (get_or c.deref-from-items.result.now c.loop-from.from-index 0) c.loop-from.invariant.passing
-        (λ d. get_or_default_zero c.deref-from-items.result.now c.loop-from.from-index d c.loop-from-test.true) (λ e. w.if-level.false (c.level.ensures ∙ e));
+    passing = level_skipped c.args.world.now c.args.level (g.S.Store.levels c.args.store.now)
+        (g.S.Store.levels c.loop-from.store)
+        c.loop-from.waiting c.deref-from-items.result.now c.loop-from.from-index
+        (get_or c.deref-from-items.result.now c.loop-from.from-index 0) c.loop-from.invariant.passing
+        (λ d. get_or_default_zero c.deref-from-items.result.now c.loop-from.from-index d c.loop-from-test.true)
+        (λ e. w.if-level.false (c.level.ensures ∙ e));
   })
 ]
 
 pub returns-clause-flood : goal.returns-clause-flood
 returns-clause-flood g c =
-    level_end c.args.world.now c.args.level (g.S.Store.levels c.args.store.now) (g.S.Store.levels c.loop-from.store) c.loop-from.waiting c.deref-from-items.result.now c.loop-from.from-index c.loop-from-test.false c.loop-from.invariant.passing
+    level_end c.args.world.now c.args.level (g.S.Store.levels c.args.store.now)
+    (g.S.Store.levels c.loop-from.store) c.loop-from.waiting c.deref-from-items.result.now c.loop-from.from-index
+    c.loop-from-test.false c.loop-from.invariant.passing

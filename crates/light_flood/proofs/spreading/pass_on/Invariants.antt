@@ -6,5 +6,6 @@ use Rattle.light_flood.proofs.spreading.pass_on.Given as goal
 abbrev pub invariant-loop-to : goal.invariant-loop-to
 invariant-loop-to g l = record {
   cells : g.S.Store.cells l.store ≡ cell_count l.world.size;
-  passing : PassingOn l.world l.from (g.S.Store.levels l.fn.store) (g.S.Store.levels l.store) l.waiting l.to-items l.to-index;
+  passing : PassingOn l.world l.from (g.S.Store.levels l.fn.store)
+      (g.S.Store.levels l.store) l.waiting l.to-items l.to-index;
 }

@@ -13,12 +13,15 @@ loop-level-preserved g c =
     let up : c.loop-level.level ≡ (c.loop-level.level - 1) + 1 = omega arith in
     record {
       cells = c.in_ok-pass_level.ensures.cells;
-      passing = passing_level c.args.world.now (c.loop-level.level - 1) (g.S.Store.levels c.args.store.now) (g.S.Store.levels c.loop-level.store) (g.S.Store.levels c.pass_level.new.store)
+      passing = passing_level c.args.world.now (c.loop-level.level - 1) (g.S.Store.levels c.args.store.now)
+          (g.S.Store.levels c.loop-level.store) (g.S.Store.levels c.pass_level.new.store)
           c.loop-level.waiting c.pass_level.new.waiting
-          (subst (λ (level : ℕ). Passing c.args.world.now level (g.S.Store.levels c.args.store.now) (g.S.Store.levels c.loop-level.store) c.loop-level.waiting) up c.loop-level.invariant.passing)
+          (subst (λ (level : ℕ). Passing c.args.world.now level (g.S.Store.levels c.args.store.now)
+          (g.S.Store.levels c.loop-level.store) c.loop-level.waiting) up c.loop-level.invariant.passing)
           c.in_ok-pass_level.ensures.flood c.in_ok-pass_level.ensures.rises c.in_ok-pass_level.ensures.spreads;
     }
 
 pub returns-clause-settled : goal.returns-clause-settled
 returns-clause-settled g c =
-    passing_all c.args.world.now c.args.least c.loop-level.level (g.S.Store.levels c.args.store.now) (g.S.Store.levels c.loop-level.store) c.loop-level.waiting (omega arith) c.loop-level.invariant.passing
+    passing_all c.args.world.now c.args.least c.loop-level.level (g.S.Store.levels c.args.store.now)
+    (g.S.Store.levels c.loop-level.store) c.loop-level.waiting (omega arith) c.loop-level.invariant.passing

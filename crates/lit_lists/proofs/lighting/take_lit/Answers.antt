@@ -9,16 +9,27 @@ pub loop-cell-preserved : goal.loop-cell-preserved
 loop-cell-preserved c =
     let cell = slice_index c.args.queue.now c.loop-cell.cell-index in
     let inside : cell < length c.args.levels.now = c.requires.inside c.loop-cell.cell-index 0 c.loop-cell-test.true in
-    let more : take (c.loop-cell.cell-index + 1) c.args.queue.now ≡ take c.loop-cell.cell-index c.args.queue.now ++ cell ∷ [] = take_more c.args.queue.now c.loop-cell.cell-index 0 c.loop-cell-test.true in
+    let more : take (c.loop-cell.cell-index + 1) c.args.queue.now ≡ take c.loop-cell.cell-index c.args.queue.now ++ cell
+    ∷ [] = take_more c.args.queue.now c.loop-cell.cell-index 0 c.loop-cell-test.true in
     elim c.if-levels-cell.branch [
       | then-levels-cell+in_ok-push w ↦ rw (w.cells-is, w.in_ok-push.ensures.items, more)
-          (taking_lit c.args.least c.args.levels.now (take c.loop-cell.cell-index c.args.queue.now) c.loop-cell.levels c.loop-cell.cells.items cell c.requires.least c.loop-cell.invariant inside w.if-levels-cell.true)
+          (taking_lit c.args.least c.args.levels.now (take c.loop-cell.cell-index c.args.queue.now)
+          c.loop-cell.levels c.loop-cell.cells.items cell c.requires.least c.loop-cell.invariant inside
+          w.if-levels-cell.true)
       | else-levels-cell w ↦ rw (w.cells-is, more)
-          (taking_dim c.args.least c.args.levels.now (take c.loop-cell.cell-index c.args.queue.now) c.loop-cell.levels c.loop-cell.cells.items cell c.requires.least c.loop-cell.invariant inside w.if-levels-cell.false)
+          (taking_dim c.args.least c.args.levels.now (take c.loop-cell.cell-index c.args.queue.now)
+          c.loop-cell.levels c.loop-cell.cells.items cell c.requires.least c.loop-cell.invariant inside
+          w.if-levels-cell.false)
     ]
 
 pub returns-clause-taken : goal.returns-clause-taken
-returns-clause-taken c = taken c.args.least c.args.levels.now c.args.queue.now c.loop-cell.levels c.loop-cell.cells.items (taking_all c.args.least c.args.levels.now c.args.queue.now c.loop-cell.levels c.loop-cell.cells.items c.loop-cell.cell-index c.loop-cell-test.false c.loop-cell.invariant)
+returns-clause-taken c = taken c.args.least c.args.levels.now c.args.queue.now c.loop-cell.levels
+    c.loop-cell.cells.items
+    (taking_all c.args.least c.args.levels.now c.args.queue.now c.loop-cell.levels c.loop-cell.cells.items
+    c.loop-cell.cell-index c.loop-cell-test.false c.loop-cell.invariant)
 
 pub returns-clause-out : goal.returns-clause-out
-returns-clause-out c = put_out c.args.least c.args.levels.now c.args.queue.now c.loop-cell.levels c.loop-cell.cells.items (taking_all c.args.least c.args.levels.now c.args.queue.now c.loop-cell.levels c.loop-cell.cells.items c.loop-cell.cell-index c.loop-cell-test.false c.loop-cell.invariant)
+returns-clause-out c = put_out c.args.least c.args.levels.now c.args.queue.now c.loop-cell.levels
+    c.loop-cell.cells.items
+    (taking_all c.args.least c.args.levels.now c.args.queue.now c.loop-cell.levels c.loop-cell.cells.items
+    c.loop-cell.cell-index c.loop-cell-test.false c.loop-cell.invariant)

@@ -6,5 +6,6 @@ use Rattle.lit_lists.proofs.relaxing.pass_on.Given as goal
 abbrev pub invariant-loop-to : goal.invariant-loop-to
 invariant-loop-to l = record {
   cells : length l.levels ≡ cell_count l.world.size;
-  passing : PassingOn l.world l.from (slice_index l.fn.levels) l.fn.queue.items (slice_index l.levels) l.queue.items l.to-items l.to-index;
+  passing : PassingOn l.world l.from (slice_index l.fn.levels) l.fn.queue.items (slice_index l.levels)
+      l.queue.items l.to-items l.to-index;
 }

@@ -6,8 +6,14 @@ use Rattle.pack_bound.proofs.judge.is_bar.Goals as goal
 pub returns : goal.returns
 returns c = λ t.
     (let region = c.args.region.now in let state = c.args.node.now in
-    bar_dominated region state c.args.place c.args.by c.requires (omega (arith, ap length c.places-places.ensures.places)) (omega (arith, ap length c.places-places.ensures.places)) (λ e. omega (arith, c.if-place-by.false))
+    bar_dominated region state c.args.place c.args.by c.requires
+    (omega (arith, ap length c.places-places.ensures.places))
+    (omega (arith, ap length c.places-places.ensures.places)) (λ e. omega (arith, c.if-place-by.false))
     (not_has state.barred c.barred.result.now c.args.place c.has.result c.barred.ensures c.has.ensures c.if-has.false)
-    (not_has state.barred c.barred-else-has.result.now c.args.by c.has-else-has.result c.barred-else-has.ensures c.has-else-has.ensures c.if-has-2.false)
-    (subst (λ (l : List ℕ). ¬ Contains l c.args.place) c.chosen.ensures (not_contained c.chosen.result.now c.args.place c.if-contains.ensures.cases))
-    (within_as (row_of region c.args.place) state.unlit (row_of region c.args.by) c.row_at.result.now c.unlit.result.now c.row_at-2.result.now c.row_at.ensures.row c.unlit.ensures c.row_at-2.ensures.row (c.is_within.ensures t)))
+    (not_has state.barred c.barred-else-has.result.now c.args.by c.has-else-has.result c.barred-else-has.ensures
+    c.has-else-has.ensures c.if-has-2.false)
+    (subst (λ (l : List ℕ). ¬ Contains l c.args.place) c.chosen.ensures
+    (not_contained c.chosen.result.now c.args.place c.if-contains.ensures.cases))
+    (within_as (row_of region c.args.place) state.unlit (row_of region c.args.by)
+    c.row_at.result.now c.unlit.result.now c.row_at-2.result.now c.row_at.ensures.row c.unlit.ensures
+    c.row_at-2.ensures.row (c.is_within.ensures t)))

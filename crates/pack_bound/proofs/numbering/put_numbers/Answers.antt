@@ -9,5 +9,6 @@ loop-cell-preserved c =
     let i = c.loop-cell.cell-index in
     let inside : i < length c.loop-cell.indices = omega arith in
     ap (λ (n : ℕ). set c.loop-cell.indices i n) c.number_at.ensures
-    ∙ map_over_more f c.args.indices.now c.loop-cell.indices i (get_or c.loop-cell.indices i 0) c.loop-cell-test.true c.loop-cell.invariant
+    ∙ map_over_more f c.args.indices.now c.loop-cell.indices i
+    (get_or c.loop-cell.indices i 0) c.loop-cell-test.true c.loop-cell.invariant
     (get_or_default c.loop-cell.indices i 0 (get_or c.loop-cell.indices i 0) inside)

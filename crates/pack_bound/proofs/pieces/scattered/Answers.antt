@@ -20,5 +20,6 @@ returns c =
     let leaf = subst (λ (r : Instance). MayBeLeaf r node cells) same c.in_ok-cells.ensures.leaf in
     record {
       scattered = subst (IsScattered piece) (sym numbers) (node_scattered piece node cells c.in_ok-node.ensures leaf);
-      some = subst (SomeWhereUnlit piece) (sym numbers) (node_filled piece node cells c.in_ok-node.ensures c.in_ok-cells.ensures.filled);
+      some = subst (SomeWhereUnlit piece) (sym numbers)
+          (node_filled piece node cells c.in_ok-node.ensures c.in_ok-cells.ensures.filled);
     }

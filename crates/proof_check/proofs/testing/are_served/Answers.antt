@@ -7,15 +7,19 @@ use Rattle.proof_check.proofs.testing.are_served.Goals as goal
 pub returns-then-not-is_served : goal.returns-then-not-is_served
 returns-then-not-is_served c = (
   λ t. absurd (true≢false (sym t)),
-  λ all. absurd (off_true c.is_served.result c.if-not-is_served.true (c.is_served.ensures.1 (all (slice_index c.args.cells.now c.loop-cell.cell-index) (element_of c.args.cells.now c.loop-cell.cell-index c.loop-cell-test.true)))),
+  λ all. absurd (off_true c.is_served.result c.if-not-is_served.true
+      (c.is_served.ensures.1 (all (slice_index c.args.cells.now c.loop-cell.cell-index)
+      (element_of c.args.cells.now c.loop-cell.cell-index c.loop-cell-test.true)))),
 )
 
 pub loop-cell-preserved : goal.loop-cell-preserved
-loop-cell-preserved c = each_more (IsServed c.args.lists.now c.args.region.now.items c.args.chosen.now.items c.args.by) c.args.cells.now c.loop-cell.cell-index c.loop-cell.invariant
+loop-cell-preserved c = each_more (IsServed c.args.lists.now c.args.region.now.items c.args.chosen.now.items c.args.by)
+    c.args.cells.now c.loop-cell.cell-index c.loop-cell.invariant
     (c.is_served.ensures.0 c.if-not-is_served.false)
 
 pub returns : goal.returns
 returns c = (
-  λ t. each_element (IsServed c.args.lists.now c.args.region.now.items c.args.chosen.now.items c.args.by) c.args.cells.now c.loop-cell.cell-index c.loop-cell-test.false c.loop-cell.invariant,
+  λ t. each_element (IsServed c.args.lists.now c.args.region.now.items c.args.chosen.now.items c.args.by)
+      c.args.cells.now c.loop-cell.cell-index c.loop-cell-test.false c.loop-cell.invariant,
   λ all. refl,
 )

@@ -6,7 +6,9 @@ use Rattle.proof_check.proofs.testing.is_dominated.Goals as goal
 
 pub returns : goal.returns
 returns c =
-    let served = λ (t : IsTrue c.are_served.result). subst (λ (l : List ℕ). AreServed c.args.lists.now c.args.region.now.items c.args.chosen.now.items c.args.by l) c.lights.ensures (c.are_served.ensures.0 t) in (
+    let served = λ (t : IsTrue c.are_served.result). subst
+    (λ (l : List ℕ). AreServed c.args.lists.now c.args.region.now.items c.args.chosen.now.items c.args.by l)
+    c.lights.ensures (c.are_served.ensures.0 t) in (
       λ t. record {
         legal = sym c.is_place.ensures ∙ c.if-not-is_place.false;
         by_legal = sym c.is_place-else-not-is_place.ensures ∙ c.if-not-is_place-2.false;
@@ -16,5 +18,7 @@ returns c =
         unchosen = λ has. off_true c.has-else-has-2.result c.if-has-3.false (c.has-else-has-2.ensures.1 has);
         served = served t;
       },
-      λ d. c.are_served.ensures.1 (subst (λ (l : List ℕ). AreServed c.args.lists.now c.args.region.now.items c.args.chosen.now.items c.args.by l) (sym c.lights.ensures) d.served),
+      λ d. c.are_served.ensures.1 (subst
+          (λ (l : List ℕ). AreServed c.args.lists.now c.args.region.now.items c.args.chosen.now.items c.args.by l)
+          (sym c.lights.ensures) d.served),
     )

@@ -4,11 +4,13 @@ use Rattle.proof_check.proofs.TestLemmas.{each_more, each_element, off_true}
 use Rattle.proof_check.proofs.testing.meet.Goals as goal
 
 pub loop-place-preserved : goal.loop-place-preserved
-loop-place-preserved c = each_more (λ p. ¬ Contains c.args.tally.now.items p) c.args.places.now c.loop-place.place-index c.loop-place.invariant
+loop-place-preserved c = each_more (λ p. ¬ Contains c.args.tally.now.items p)
+    c.args.places.now c.loop-place.place-index c.loop-place.invariant
     (λ has. off_true c.has.result c.if-has.false (c.has.ensures.1 has))
 
 pub returns : goal.returns
 returns c = (
   λ t. absurd (true≢false (sym t)),
-  λ m. absurd (each_element (λ p. ¬ Contains c.args.tally.now.items p) c.args.places.now c.loop-place.place-index c.loop-place-test.false c.loop-place.invariant m.0 m.1 m.2),
+  λ m. absurd (each_element (λ p. ¬ Contains c.args.tally.now.items p)
+      c.args.places.now c.loop-place.place-index c.loop-place-test.false c.loop-place.invariant m.0 m.1 m.2),
 )

@@ -1,6 +1,5 @@
 use Rattle.std.proofs.Common.{sym, ◌∙◌, codes}
 use Rattle.nbt_core.specs.Value.{field}
-use Rattle.nbt_core.specs.View.{nbt}
 use Rattle.scan_core.specs.Box as grid
 use Rattle.scan_core.specs.Faults.{place_fault}
 use Rattle.scan_core.proofs.ScanLemmas.{on_is}
@@ -9,5 +8,5 @@ use Rattle.scan_core.proofs.block.place_of.Goals as goal
 
 pub returns-in_default-triple : goal.returns-in_default-triple
 returns-in_default-triple c =
-    on_is (field (codes "pos") (nbt c.args.entry.now)) (nbt c.in-Some.tag.now) _ _ (sym c.in-Some.ensures)
-    ∙ on_triple-wrong _ (place_fault (grid.point c.args.size) c.args.index) (nbt c.in-Some.tag.now) c.in_default-triple.ensures
+    on_is (field (codes "pos") c.args.entry.now) c.in-Some.value _ _ (sym c.in-Some.ensures)
+    ∙ on_triple-wrong _ (place_fault (grid.point c.args.size) c.args.index) c.in-Some.value c.in_default-triple.ensures

@@ -1,6 +1,5 @@
 use Rattle.std.proofs.Common.{inl, codes}
 use Rattle.nbt_core.specs.Value.{field}
-use Rattle.nbt_core.specs.View.{nbt, nbts}
 use Rattle.scan_core.specs.Faults.{name_fault}
 use Rattle.scan_core.specs.Scan.{IsStateOf}
 use Rattle.scan_core.specs.declared.fault.Field.TheVariants as fields
@@ -9,8 +8,11 @@ use Rattle.scan_core.proofs.palette.palette_of.Goals as goal
 
 pub returns-in_default-compounds : goal.returns-in_default-compounds
 returns-in_default-compounds c =
-    inl (list_wrong fields.PaletteField name_fault (field (codes "palette") (nbt c.args.root.now)) (nbt c.in-Some.tag.now) c.in-Some.ensures c.in_default-compounds.ensures)
+    inl (list_wrong fields.PaletteField name_fault (field (codes "palette") c.args.root.now) c.in-Some.value
+    c.in-Some.ensures c.in_default-compounds.ensures)
 
 pub returns : goal.returns
 returns c =
-    tells_list IsStateOf (λ states. states.items) fields.PaletteField name_fault (field (codes "palette") (nbt c.args.root.now)) (nbt c.in-Some.tag.now) (nbts c.in-Some-compounds.entries.now) c.states_of.result c.in-Some.ensures c.in-Some-compounds.ensures c.states_of.ensures
+    tells_list IsStateOf (λ states. states.items) fields.PaletteField name_fault
+    (field (codes "palette") c.args.root.now) c.in-Some.value c.in-Some-compounds.entries c.states_of.result
+    c.in-Some.ensures c.in-Some-compounds.ensures c.states_of.ensures

@@ -4,4 +4,4 @@ use Rattle.scan_core.proofs.EachLemmas.{AreTold}
 use Rattle.scan_core.proofs.palette.states_of.Given as goal
 
 abbrev pub invariant-loop-index : goal.invariant-loop-index
-invariant-loop-index l = AreTold IsStateOf name_fault l.entries l.index l.states.items
+invariant-loop-index l = AreTold IsStateOf name_fault l.fn.entries l.index l.entries l.states.items

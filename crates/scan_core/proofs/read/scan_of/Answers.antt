@@ -1,6 +1,5 @@
 use Rattle.std.proofs.Common.{inl, inr, ⊎_elim, ◌∙◌}
 use Rattle.std.proofs.lemmas.Result.{err_from_is_err_and}
-use Rattle.nbt_core.specs.View.{nbt}
 use Rattle.scan_core.specs.Box.{point}
 use Rattle.scan_core.specs.Scan.{structure}
 use Rattle.scan_core.proofs.ReadLemmas.{told_scan, fault_of-blocks}
@@ -14,7 +13,9 @@ returns-in_err-cells c =
     let palette = c.in_ok-palette.ensures in
     let p = err_from_is_err_and c.from_residual-in_err-cells.result c.from_residual-in_err-cells.ensures.1 in
     rw (p.1, p.2) (⊎_elim
-    (λ e. inl (fault_of-blocks (nbt c.args.root.now) (point c.in_ok-size.size) c.in_ok-palette.palette.items c.field.result c.is_some.result c.len.result c.in_err-cells.field-0.0 size.0 size.1 c.field.ensures c.is_some.ensures c.if-is_some.false palette.0 palette.1 (c.len.ensures ∙ c.in_ok-palette.palette.ok.0) e))
+    (λ e. inl (fault_of-blocks c.args.root.now (point c.in_ok-size.size) c.in_ok-palette.palette.items
+    c.field.result c.is_some.result c.len.result c.in_err-cells.field-0.0 size.0 size.1 c.field.ensures
+    c.is_some.ensures c.if-is_some.false palette.0 palette.1 (c.len.ensures ∙ c.in_ok-palette.palette.ok.0) e))
     (λ e. inr e)
     c.in_err-cells.ensures)
 
@@ -22,12 +23,16 @@ pub new-requires : goal.new-requires
 new-requires c =
     let palette = c.in_ok-palette.palette.items in
     let cells = c.in_ok-cells.cells.items in
-    scan_whole (nbt c.args.root.now) (structure c.in_ok-size.size palette cells)
-    (told_scan (nbt c.args.root.now) (point c.in_ok-size.size) palette cells c.field.result c.is_some.result c.len.result c.in_ok-size.ensures.0 c.field.ensures c.is_some.ensures c.if-is_some.false c.in_ok-palette.ensures.0 (c.len.ensures ∙ c.in_ok-palette.palette.ok.0) c.in_ok-cells.ensures.0)
+    scan_whole c.args.root.now (structure c.in_ok-size.size palette cells)
+    (told_scan c.args.root.now (point c.in_ok-size.size) palette cells c.field.result c.is_some.result c.len.result
+    c.in_ok-size.ensures.0 c.field.ensures c.is_some.ensures c.if-is_some.false c.in_ok-palette.ensures.0
+    (c.len.ensures ∙ c.in_ok-palette.palette.ok.0) c.in_ok-cells.ensures.0)
 
 pub returns : goal.returns
 returns c =
     let palette = c.in_ok-palette.palette.items in
     let cells = c.in_ok-cells.cells.items in
-    let is = told_scan (nbt c.args.root.now) (point c.in_ok-size.size) palette cells c.field.result c.is_some.result c.len.result c.in_ok-size.ensures.0 c.field.ensures c.is_some.ensures c.if-is_some.false c.in_ok-palette.ensures.0 (c.len.ensures ∙ c.in_ok-palette.palette.ok.0) c.in_ok-cells.ensures.0 in
-    rw c.new.ensures (is, structure_clean (nbt c.args.root.now) (structure c.in_ok-size.size palette cells) is)
+    let is = told_scan c.args.root.now (point c.in_ok-size.size) palette cells c.field.result c.is_some.result
+    c.len.result c.in_ok-size.ensures.0 c.field.ensures c.is_some.ensures c.if-is_some.false
+    c.in_ok-palette.ensures.0 (c.len.ensures ∙ c.in_ok-palette.palette.ok.0) c.in_ok-cells.ensures.0 in
+    rw c.new.ensures (is, structure_clean c.args.root.now (structure c.in_ok-size.size palette cells) is)

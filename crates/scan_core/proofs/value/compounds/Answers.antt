@@ -1,6 +1,11 @@
-use Rattle.scan_core.proofs.ValueLemmas.{not_all}
+use Rattle.std.proofs.Common.{sym, ◌∙◌}
+use Rattle.scan_core.proofs.ValueLemmas.{compounds_read, compounds_not_read}
 use Rattle.scan_core.proofs.value.compounds.Goals as goal
 
-pub returns-in_default-item : goal.returns-in_default-item
-returns-in_default-item c = λ ts e.
-    not_all c.args.tag.now c.in-List.items c.as_slice-items.result.now c.loop-item.item-index c.item-item.result ts c.in-List.is c.as_slice-items.ensures c.loop-item.invariant c.loop-item-test.true c.item-item.is c.in_default-item.not-Compound e
+pub returns-then-are_compounds : goal.returns-then-are_compounds
+returns-then-are_compounds c = compounds_read c.args.value.now c.in_ok-items.items c.in_ok-items.ensures
+    (sym c.are_compounds.ensures ∙ c.if-are_compounds.true)
+
+pub returns-else-are_compounds : goal.returns-else-are_compounds
+returns-else-are_compounds c = compounds_not_read c.args.value.now c.in_ok-items.items c.in_ok-items.ensures
+    (sym c.are_compounds.ensures ∙ c.if-are_compounds.false)

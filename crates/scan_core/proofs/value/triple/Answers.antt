@@ -1,16 +1,16 @@
-use Rattle.std.proofs.Common.{arith}
-use Rattle.scan_core.proofs.ValueLemmas.{three_long, third_int}
+use Rattle.std.proofs.Common.{rules, sym, ◌∙◌, arith}
+use Rattle.std.specs.Int.{w32}
+use Rattle.std.proofs.lemmas.Int.{to_z-of_z}
+use Rattle.scan_core.proofs.ValueLemmas.{three_read}
 use Rattle.scan_core.proofs.value.triple.Goals as goal
 
-pub returns-in_default-as_slice : goal.returns-in_default-as_slice
-returns-in_default-as_slice c = λ ns e.
-    absurd (omega (arith, three_long c.args.tag.now c.in-List.items c.as_slice.result.now ns c.in-List.is c.as_slice.ensures e))
-
-pub returns-in_default-as_slice-2 : goal.returns-in_default-as_slice-2
-returns-in_default-as_slice-2 c = λ ns e.
-    absurd (omega (arith, three_long c.args.tag.now c.in-List.items c.as_slice.result.now ns c.in-List.is c.as_slice.ensures e))
-
-pub returns-in_err-int-3 : goal.returns-in_err-int-3
-returns-in_err-int-3 c =
-    rw c.from_residual-in_err-int-3.ensures λ ns.
-    third_int c.args.tag.now c.in-List.items c.as_slice.result.now c.z-item.result ns c.in-List.is c.as_slice.ensures (omega arith) c.z-item.is c.in_err-int-3.ensures
+pub returns : goal.returns
+returns c =
+    rw (
+      to_z-of_z w32 c.in_ok-int.field-0 (search rules),
+      to_z-of_z w32 c.in_ok-int-2.field-0 (search rules),
+      to_z-of_z w32 c.in_ok-int-3.field-0 (search rules),
+    ) (three_read c.args.value.now c.in_ok-items.items c.next.new.self c.next-2.new.self c.next-3.new.self
+    c.in_ok-x.x c.in_ok-y.y c.in_ok-z.z c.in_ok-int.field-0 c.in_ok-int-2.field-0 c.in_ok-int-3.field-0
+    c.in_ok-items.ensures (sym c.len.ensures ∙ omega arith) c.in_ok-x.ensures c.in_ok-y.ensures c.in_ok-z.ensures
+    c.in_ok-int.ensures c.in_ok-int-2.ensures c.in_ok-int-3.ensures)

@@ -36,7 +36,8 @@ returns g c =
     record {
       joined = joined.joined c.args.root.now c.requires.root c.requires.start;
       each = (let w = ap length joined.works in
-          let m = length-map (λ (done : Handed). work_of done.share done.cover) c.in_ok-separated.separated.results.items in
+          let m = length-map (λ (done : Handed). work_of done.share done.cover)
+          c.in_ok-separated.separated.results.items in
           let s = ap length c.in_ok-separated.ensures in let l = c.in_ok-ended.ensures.1 in
           let each = c.in_ok-slots.ensures.each in let same = c.requires.few.0 in
           let slice = c.as_slice.ensures.len in omega (arith, w, m, s, l, long, each, same, slice));

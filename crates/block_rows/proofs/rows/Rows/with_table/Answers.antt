@@ -12,6 +12,8 @@ invariant_of-result c =
     let document = table_view c.in_ok-document.document in
     let user = c.in_ok-user.ensures.found in
     record {
-      user_sound = All-same (λ row. IsSoundClass row.class) c.in_ok-user.user.items (rows_of (elements_of document)) user.told (user_sound document c.in_ok-user.user.items user);
-      shipped_sound = All-same (λ row. IsSoundClass row.class) c.in_ok-shipped.shipped.items shipped_rows c.in_ok-shipped.ensures shipped_sound;
+      user_sound = All-same (λ row. IsSoundClass row.class) c.in_ok-user.user.items (rows_of (elements_of document))
+          user.told (user_sound document c.in_ok-user.user.items user);
+      shipped_sound = All-same (λ row. IsSoundClass row.class) c.in_ok-shipped.shipped.items shipped_rows
+          c.in_ok-shipped.ensures shipped_sound;
     }

@@ -6,4 +6,5 @@ use Rattle.cave_model.proofs.fault.BuildFaultDisplay.fmt.Given as goal
 
 abbrev pub invariant-loop-byte : goal.invariant-loop-byte
 invariant-loop-byte g l =
-    IsPlainFormatter l.fn.f → HasWritten g.W.Write.write_str_gives l.fn.f (codes "unknown block " ++ flat_map shown_byte (take l.byte-index l.byte-items)) l.f
+    IsPlainFormatter l.fn.f → HasWritten g.W.Write.write_str_gives l.fn.f
+    (codes "unknown block " ++ flat_map shown_byte (take l.byte-index l.byte-items)) l.f

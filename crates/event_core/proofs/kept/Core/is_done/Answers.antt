@@ -7,7 +7,8 @@ use Rattle.event_core.proofs.KeptLemmas.{done_is}
 use Rattle.event_core.proofs.kept.Core.is_done.Goals as goal
 
 pub returns-clause-done : goal.returns-clause-done
-returns-clause-done c = subst (λ (k : Kept). IsTrue c.is_done.result ↔ IsDone (state_of k)) c.self.view_is (done_is _ c.is_done.result c.self.invariant.1 c.is_done.ensures)
+returns-clause-done c = subst (λ (k : Kept). IsTrue c.is_done.result ↔ IsDone (state_of k))
+    c.self.view_is (done_is _ c.is_done.result c.self.invariant.1 c.is_done.ensures)
 
 pub returns-clause-sound : goal.returns-clause-sound
 returns-clause-sound c = subst (λ (k : Kept). IsSound (state_of k)) c.self.view_is c.self.invariant.1.sound

@@ -6,5 +6,6 @@ use Rattle.event_core.proofs.kept.Core.may_leave.Goals as goal
 
 pub returns-in-Past-clause-may : goal.returns-in-Past-clause-may
 returns-in-Past-clause-may c =
-    let past = subst (IsStanding (state_of c.args.self.now) c.args.name.now) c.in-Past.is c.in_ok-standing.ensures.standing in
+    let past = subst (IsStanding (state_of c.args.self.now) c.args.name.now)
+    c.in-Past.is c.in_ok-standing.ensures.standing in
     (λ e. absurd (true≢false (sym e)), λ may. absurd (past may.chosen may.barred (held c.args.worker) may.holds tt))

@@ -8,6 +8,14 @@ use Rattle.event_core.proofs.kept.Core.see.Goals as goal
 pub invariant_of-self : goal.invariant_of-self
 invariant_of-self c =
     let inside = c.self.inside in
-    let v : Kept = record { region = arc_value inside.region; best = inside.best.places; seen = inside.seen.items; root = shape_of inside.root } in
-    let lt = subst (λ (k : Kept). c.args.worker < length k.seen) (sym c.self.view_is) c.requires in
-    (c.self.invariant.0, subst (λ (n : ℕ). IsKept (record v { seen = set v.seen c.args.worker n })) (sym c.size-size.ensures.size) (seen_kept v c.args.worker lt c.self.invariant.1))
+    let v : Kept = record {
+      region = arc_value inside.region;
+      best = inside.best.places;
+      seen = inside.seen.items;
+      root = shape_of inside.root;
+    } in
+    let lt = subst (λ (k : Kept). c.args.worker < length k.seen) (sym c.self.view_is) c.requires in (
+      c.self.invariant.0,
+      subst (λ (n : ℕ). IsKept (record v { seen = set v.seen c.args.worker n }))
+          (sym c.size-size.ensures.size) (seen_kept v c.args.worker lt c.self.invariant.1),
+    )

@@ -11,7 +11,17 @@ use Rattle.event_core.proofs.kept.Core.turn.Goals as goal
 pub invariant_of-self : goal.invariant_of-self
 invariant_of-self c =
     let inside = c.self.inside in let name = c.args.name.now in let shape = shape_of c.args.node in
-    let v : Kept = record { region = arc_value inside.region; best = inside.best.places; seen = inside.seen.items; root = shape_of inside.root } in
-    let is : shape_of c.put.result ≡ put_in (shape_of inside.root) name shape = c.put.ensures ∙ ap (λ (n : Node). put_in (shape_of n) name shape) c.replace-root.ensures.value in
-    let sound = subst (λ (k : Kept). IsSound (state_of (put_kept k name shape))) (sym c.self.view_is) c.requires.sound in
-    (c.self.invariant.0, subst (λ (s : Shape). IsKept (record v { root = s })) (sym is) (put_is_kept v name shape c.requires.whole sound c.self.invariant.1))
+    let v : Kept = record {
+      region = arc_value inside.region;
+      best = inside.best.places;
+      seen = inside.seen.items;
+      root = shape_of inside.root;
+    } in
+    let is : shape_of c.put.result ≡ put_in (shape_of inside.root) name shape = c.put.ensures
+    ∙ ap (λ (n : Node). put_in (shape_of n) name shape) c.replace-root.ensures.value in
+    let sound = subst (λ (k : Kept). IsSound (state_of (put_kept k name shape)))
+    (sym c.self.view_is) c.requires.sound in (
+      c.self.invariant.0,
+      subst (λ (s : Shape). IsKept (record v { root = s })) (sym is)
+          (put_is_kept v name shape c.requires.whole sound c.self.invariant.1),
+    )

@@ -4,7 +4,8 @@ use Rattle.light_flood.proofs.WaitingLemmas.{empty_push, all_empty}
 use Rattle.light_flood.proofs.waiting.Waiting.new.Goals as goal
 
 pub loop-preserved : goal.loop-preserved
-loop-preserved c = rw c.in_ok-push.ensures.items (empty_push c.loop.counter c.loop.cells.items c.new.result c.loop.invariant c.new.ensures.items)
+loop-preserved c = rw c.in_ok-push.ensures.items
+    (empty_push c.loop.counter c.loop.cells.items c.new.result c.loop.invariant c.new.ensures.items)
 
 pub invariant_of-result : goal.invariant_of-result
 invariant_of-result c = omega (arith, c.loop.invariant.counted)

@@ -4,7 +4,8 @@ use Rattle.proof_check.proofs.nodes.Nodes.begin.Goals as goal
 pub returns : goal.returns
 returns c = record {
   begins = record {
-    region = λ inside. c.in_ok-mark.ensures.marked (λ p h. (let lt = inside p h in omega (arith, c.cut.ensures.whole))) ∙ ap (λ (l : List ℕ). l ++ c.args.cells.now) c.cut.ensures.items;
+    region = λ inside. c.in_ok-mark.ensures.marked (λ p h. (let lt = inside p h in omega (arith, c.cut.ensures.whole)))
+        ∙ ap (λ (l : List ℕ). l ++ c.args.cells.now) c.cut.ensures.items;
     whole = c.in_ok-mark.ensures.whole ∙ c.cut.ensures.whole;
     seen = refl;
     track = refl;

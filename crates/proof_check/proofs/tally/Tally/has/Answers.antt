@@ -7,8 +7,10 @@ use Rattle.proof_check.proofs.tally.Tally.has.Goals as goal
 pub returns-in-Some : goal.returns-in-Some
 returns-in-Some c =
     let l = c.in-Some.ensures.lookup in
-    let inside : c.args.cell < length c.self.inside.counts.items = subst (λ (xs : List ℕ). c.args.cell < length xs) c.deref.ensures.value l.3.0 in
-    let now : c.in-Some.count.now ≡ slice_index c.self.inside.counts.items c.args.cell = l.3.1 0 ∙ ap (λ (xs : List ℕ). slice_index xs c.args.cell) c.deref.ensures.value in
+    let inside : c.args.cell < length c.self.inside.counts.items = subst (λ (xs : List ℕ). c.args.cell < length xs)
+    c.deref.ensures.value l.3.0 in
+    let now : c.in-Some.count.now ≡ slice_index c.self.inside.counts.items c.args.cell = l.3.1 0
+    ∙ ap (λ (xs : List ℕ). slice_index xs c.args.cell) c.deref.ensures.value in
     let items = ap (λ (t : Tally). t.items) c.self.view_is in
     let both = tally_has c.self.inside.items.items c.self.inside.counts.items c.args.cell c.self.invariant inside in
     subst (λ (xs : List ℕ). IsTrue (nat_lt 0 c.in-Some.count.now) ↔ Contains xs c.args.cell) items

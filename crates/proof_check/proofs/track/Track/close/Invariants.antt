@@ -6,7 +6,9 @@ abbrev pub invariant-loop-frame : goal.invariant-loop-frame
 invariant-loop-frame l = record {
   whole : length l.self.chosen.counts ≡ length l.fn.self.chosen.counts;
   wide : length l.self.barred.counts ≡ length l.fn.self.barred.counts;
-  closing : Closing (length l.fn.self.chosen.counts) l.fn.self.chosen.items l.fn.self.barred.items l.fn.self.frames.items l.self.chosen.items l.self.barred.items l.self.frames.items;
+  closing : Closing (length l.fn.self.chosen.counts)
+      l.fn.self.chosen.items l.fn.self.barred.items l.fn.self.frames.items l.self.chosen.items l.self.barred.items
+      l.self.frames.items;
 }
 
 abbrev pub decreases-loop-frame : goal.decreases-loop-frame

@@ -12,7 +12,8 @@ pub returns-then-self : goal.returns-then-self
 returns-then-self c = concludes_box c.args.world.now c.args.self.now c.in_default.ensures c.if-self.true
 
 pub returns-in-Some-2 : goal.returns-in-Some-2
-returns-in-Some-2 c = concludes_reason c.args.world.now c.args.self.now c.in-Some-2.reason c.in_default.ensures c.if-self.false
+returns-in-Some-2 c = concludes_reason c.args.world.now c.args.self.now c.in-Some-2.reason c.in_default.ensures
+    c.if-self.false
     (subst (λ (o : Option Reason). Ends c.args.world.now c.args.self.now.judge o) c.in-Some-2.is c.in_ok-reason.ensures)
 
 pub returns-in-None : goal.returns-in-None

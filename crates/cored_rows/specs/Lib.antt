@@ -1,0 +1,3 @@
+-- public clauses cite
+pub mod Single
+pub mod Turns

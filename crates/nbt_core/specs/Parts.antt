@@ -1,0 +1,44 @@
+-- What a value holds, by its kind.
+use Rattle.std.specs.Prelude.{◌≡◌, ℕ, ℤ, Bool, true, false, ◌&&◌, List, [], ◌∷◌, Option, Some, None}
+use Rattle.nbt_core.specs.Value.{int, text}
+use Rattle.nbt_core.specs.Value.{Nbt, leaf, list, compound, Members, no_members, member, listed}
+
+-- the number of an Int
+abbrev pub int_of : Nbt → Option ℤ
+int_of (leaf (int n)) = Some n
+int_of t = None
+
+-- the bytes of a String
+abbrev pub text_of : Nbt → Option (List ℕ)
+text_of (leaf (text t)) = Some t
+text_of t = None
+
+-- the items of a list
+abbrev pub items_in : Nbt → Option (List Nbt)
+items_in (list ts) = Some (listed ts)
+items_in t = None
+
+-- the members as a list of names with values
+abbrev pub named : Members → List (List ℕ × Nbt)
+named no_members = []
+named (member name t ms) = (name, t) ∷ named ms
+
+-- the names of a compound with their values
+abbrev pub entries_in : Nbt → Option (List (List ℕ × Nbt))
+entries_in (compound ms) = Some (named ms)
+entries_in t = None
+
+-- whether a value is a compound
+abbrev pub is_compound : Nbt → Bool
+is_compound (compound ms) = true
+is_compound t = false
+
+-- whether all values are compounds
+abbrev pub are_compounds : List Nbt → Bool
+are_compounds [] = true
+are_compounds (t ∷ ts) = is_compound t && are_compounds ts
+
+-- what is taken from the front of a list, and the list that is left; none is taken from a list of nothing
+abbrev pub IsNext : {X : Type 0} → List X → Option X → List X → Type 0
+IsNext old (Some x) new = old ≡ x ∷ new
+IsNext old None new = (old ≡ []) × (new ≡ [])

@@ -1,0 +1,91 @@
+use crate::kind::Kind;
+use crate::reader::Reader;
+use crate::view::View;
+use std::marker::Model;
+
+/// Items of a list that are still to come, in the bytes that spell them. Contracts see the list of their values.
+#[derive(Debug, Drop)]
+pub struct ItemsView<'a> {
+    rest: &'a [u8],
+    end: usize,
+    room: u16,
+    kind: Kind,
+    count: u32,
+}
+
+impl<'a> Model for ItemsView<'a> {
+    ghost use Rattle.std.specs.Prelude.{List};
+    ghost use Rattle.nbt_core.specs.Value.{Nbt};
+    ghost use Rattle.nbt_core.specs.Code.{coded_nbts};
+
+    ghost Value = { List Nbt };
+
+    ghost coded = { coded_nbts };
+
+    ghost use Rattle.nbt_core.specs.Borrowed.{item_values, ArePayloads};
+
+    ghost view = { λ v. item_values v.end v.room v.kind v.count v.rest.now };
+
+    ghost invariant = { λ v. ArePayloads v.end v.room v.kind v.count v.rest.now };
+}
+
+impl<'a> ItemsView<'a> {
+    ghost use Rattle.std.specs.Prelude.{◌≡◌, length};
+    ghost use Rattle.nbt_core.specs.Parts.{are_compounds, IsNext};
+    ghost use Rattle.nbt_core.specs.Borrowed.{item_values, ArePayloads};
+
+    /// So many payloads of this kind at the front of `rest`, bytes that end at the offset `end`, in each of which
+    /// `room` containers may nest.
+    pub(crate) fn new(
+        rest: &'a [u8],
+        end: usize,
+        room: u16,
+        kind: Kind,
+        count: u32,
+    ) -> ItemsView<'a>
+        requires { ArePayloads end room kind count rest.now }
+        ensures { result ≡ item_values end room kind count rest.now }
+    {
+        ItemsView {
+            rest,
+            end,
+            room,
+            kind,
+            count,
+        }
+    }
+
+    /// How many items there are.
+    pub fn len(&self) -> u32
+        ensures { result ≡ length self.now }
+    {
+        self.count
+    }
+
+    /// Whether all items are compounds.
+    pub fn are_compounds(&self) -> bool
+        ensures { result ≡ are_compounds self.now }
+    {
+        if self.count == 0 {
+            return true;
+        }
+        self.kind.is_same(Kind::Compound)
+    }
+
+    /// The next item.
+    pub fn next(&mut self) -> Option<View<'a>>
+        ensures { IsNext self.old result self.new }
+    {
+        if self.count == 0 {
+            return None;
+        }
+        let payload = self.rest;
+        let mut reader = Reader::new(payload, self.end);
+        let Ok(()) = reader.skip(self.kind, self.room) else {
+            return None;
+        };
+        self.rest = reader.rest;
+        self.count -= 1;
+        Some(View::new(payload, self.end, self.room, self.kind))
+    }
+}
