@@ -35,11 +35,11 @@ fn ring() -> [Fill; 3] {
 /// The file of a ring in stone, two cells wide, with over 128 places, of which others dominate some.
 pub(crate) fn wide_ring_bytes(alloc: Global) -> Result<Vec<u8>, AllocError> {
     let fills = [
-        fill([0, 0, 0], [43, 3, 31], 0),
-        fill([1, 1, 1], [42, 2, 30], 1),
-        fill([3, 1, 3], [40, 2, 28], 0),
+        fill([0, 0, 0], [21, 3, 15], 0),
+        fill([1, 1, 1], [20, 2, 14], 1),
+        fill([3, 1, 3], [18, 2, 12], 0),
     ];
-    bytes_of(alloc, [44, 4, 32], &fills)
+    bytes_of(alloc, [22, 4, 16], &fills)
 }
 
 /// The file of a ring in stone.

@@ -6,9 +6,9 @@ ghost use Rattle.worker_results.specs.declared.step.Step.TheVariants.{Made, Turn
 use crate::step::Step;
 use cave_model::OutOfMemory;
 use cave_regions::Region;
-use pack_bound::scattered;
 use proof_tree::{Opened, Piece};
 use scan_core::Cell;
+use search_core::cell_to_open;
 use std::alloc::Global;
 
 /// Pieces whose names are as long as this, or longer, are closed and not opened.
@@ -43,8 +43,8 @@ pub(crate) fn split(
     }
 }
 
-/// The cell to open the piece on, where it is of the region, its name is short, and one leaf doesn't close it at this
-/// size (this project's own).
+/// The cell to open the piece on, where it is of the region, its name is short, and the largest packing found is too
+/// small for a leaf that closes it at this size (this project's own).
 fn cell_for(
     alloc: Global,
     region: &Region,
@@ -57,25 +57,5 @@ fn cell_for(
     if piece.name().as_slice().len() >= LONGEST || !region.is_same(piece.region()) {
         return Ok(None);
     }
-    let cells = scattered(alloc, piece)?;
-    let chosen = piece.chosen().len() as u64;
-    if chosen.saturating_add(cells.len() as u64) >= size {
-        return Ok(None);
-    }
-    narrowest(alloc, piece, &cells)
-}
-
-/// Of the cells on which the piece may be opened, the first that gives the fewest kids.
-fn narrowest(alloc: Global, piece: &Piece, cells: &[Cell]) -> Result<Option<Cell>, OutOfMemory> {
-    let mut best = None;
-    let mut least = usize::MAX;
-    for cell in cells {
-        if let Some(places) = piece.places_on(alloc, *cell)? {
-            if best.is_none() || places.len() < least {
-                least = places.len();
-                best = Some(*cell);
-            }
-        }
-    }
-    Ok(best)
+    cell_to_open(alloc, piece, size)
 }
