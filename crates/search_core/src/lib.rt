@@ -19,6 +19,7 @@ mod fault;
 mod halt;
 mod kernel;
 mod lists;
+mod needless;
 mod numbering;
 mod opening;
 mod plain;
