@@ -4,3 +4,4 @@ pub mod ShippedLemmas
 pub mod ColumnLemmas
 pub mod UserLemmas
 pub mod FaultLemmas
+pub mod TableLemmas

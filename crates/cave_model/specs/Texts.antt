@@ -1,13 +1,16 @@
 -- What is printed of a fault of building: the words of docs/FORMATS.md.
-use Rattle.std.specs.Prelude.{ℕ, List, [], ◌∷◌, ◌++◌, ◌&&◌, ◌-◌, ◌^◌, false, nat_eq, nat_le, codes, flat_map}
+use Rattle.std.specs.Prelude.{ℕ, List, [], ◌∷◌, ◌++◌, ◌&&◌, ◌+◌, ◌/◌, ◌%◌, nat_eq, nat_le, codes, flat_map}
 use Rattle.std.specs.Prelude.{if◌then◌else◌}
-use Rattle.std.specs.Fmt.{digits, padded_integral, format_spec}
 use Rattle.cave_model.specs.declared.fault.BuildFault.{BuildFault}
 use Rattle.cave_model.specs.declared.fault.BuildFault.TheVariants.{UnknownBlock, OutOfMemory}
 
--- two hexadecimal digits, lower case, as `{:02x}` writes them: filled up with 0 (the 4 says so) to a width of 2
+-- the digit of a number below 16: 0 to 9, then a to f
+abbrev pub hex_digit : ℕ → ℕ
+hex_digit n = if nat_le 10 n then 87 + n else 48 + n
+
+-- the two digits of a byte by sixteen
 abbrev pub two_digits : ℕ → List ℕ
-two_digits byte = padded_integral (format_spec 32 0 4 2 (2 ^ 64 - 1)) false [] (digits 16 false byte)
+two_digits byte = hex_digit (byte / 16) ∷ hex_digit (byte % 16) ∷ []
 
 -- a byte of a name: printable ASCII other than the backslash as it is, any other byte as `\x` and two digits
 abbrev pub shown_byte : ℕ → List ℕ

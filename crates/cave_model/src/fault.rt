@@ -1,6 +1,6 @@
-ghost use Rattle.std.specs.Prelude.{◌≡◌};
+ghost use Rattle.std.specs.Prelude.{◌≡◌, ◌<◌};
 ghost use Rattle.std.specs.Fmt.{WritesOnOk};
-ghost use Rattle.cave_model.specs.Texts.{shown_byte};
+ghost use Rattle.cave_model.specs.Texts.{hex_digit, shown_byte};
 ghost use Rattle.cave_model.specs.declared.fault.BuildFault.TheVariants.{OutOfMemory};
 
 use nbt_core::Sequence;
@@ -16,6 +16,17 @@ pub enum BuildFault {
     OutOfMemory,
 }
 
+/// The digit of a number below 16, in lower case.
+fn hex_digit(number: u8) -> u8
+    requires { number < 16 }
+    ensures { result ≡ hex_digit number }
+{
+    if 10 <= number {
+        return 87 + number;
+    }
+    48 + number
+}
+
 /// A byte of a name: printable ASCII other than the backslash is written as it is, any other byte as `\x` and two
 /// digits.
 fn write_byte<W: fmt::Write>(byte: u8, f: &mut fmt::Formatter<W>) -> fmt::Result
@@ -24,7 +35,11 @@ fn write_byte<W: fmt::Write>(byte: u8, f: &mut fmt::Formatter<W>) -> fmt::Result
     match byte {
         b'\\' => write!(f, "\\x5c"),
         b' '..=b'~' => write!(f, "{}", byte as char),
-        _ => write!(f, "\\x{byte:02x}"),
+        _ => {
+            let high = hex_digit(byte / 16) as char;
+            let low = hex_digit(byte % 16) as char;
+            write!(f, "\\x{high}{low}")
+        }
     }
 }
 

@@ -22,6 +22,7 @@ pub fn root_view(bytes: &[u8]) -> Result<View<'_>, NbtFault>
     ensures fault { IfErr result (λ e. FaultOf bytes.now e) }
     // Such a fault is answered.
     ensures refused { (e : NbtFault) → FaultOf bytes.now e → MatchResult result (λ _. ⊥) (λ f. f ≡ e) }
+    ensures no_memory { IfErr result (λ e. e ≢ NbtFault.OutOfMemory) }
 {
     judged(bytes)
 }

@@ -1,4 +1,6 @@
-ghost use Rattle.std.specs.Prelude.{◌≢◌, IfOk, IfErr};
+ghost use Rattle.std.specs.Prelude.{◌≡◌, ◌≢◌, IfOk, IfErr};
+ghost use Rattle.nbt_core.specs.Spelling.{Root};
+ghost use Rattle.nbt_core.specs.Value.{Nbt};
 ghost use Rattle.scan_core.specs.declared.fault.ScanFault.{ScanFault};
 ghost use Rattle.scan_core.specs.Answer.{IsAnswer, IsRefusal, TellsInRoom};
 ghost use Rattle.scan_core.specs.Faults.{IsFaultOf, fault_of};
@@ -24,6 +26,8 @@ pub fn read_scan(alloc: Global, bytes: &[u8]) -> Result<Scan, ScanFault>
     ensures fault { IfErr result (λ e. e ≢ ScanFault.OutOfMemory → IsFaultOf bytes.now e) }
     // Such a fault is answered.
     ensures refused { (e : ScanFault) → IsFaultOf bytes.now e → IsRefusal result e }
+    // Memory is wanted for bytes alone that begin with a root.
+    ensures memory { IfErr result (λ e. e ≡ ScanFault.OutOfMemory → (root : Nbt) × Root bytes.now root) }
 {
     let root = root_view(bytes)?;
     scan_of(alloc, &root)
