@@ -1,5 +1,6 @@
 -- The rows of some places make a region.
-use Rattle.std.proofs.Common.{◌≡◌, ℕ, zero, suc, ◌+◌, ◌-◌, ◌*◌, ◌<◌, ◌≤◌, List, [], ◌∷◌, ◌++◌, length, take, drop, map, slice_index, All, Contains, refl, sym, ap, subst, ◌∙◌, arith, take_at}
+use Rattle.std.proofs.Common.{◌≡◌, ℕ, zero, suc, ◌+◌, ◌-◌, ◌*◌, ◌<◌, ◌≤◌, List, [], ◌∷◌, ◌++◌, length, take, drop}
+use Rattle.std.proofs.Common.{map, slice_index, All, Contains, refl, sym, ap, subst, ◌∙◌, arith, take_at}
 use Rattle.std.specs.Prelude.{slice_range, flat_map}
 use Rattle.std.specs.List.Sorted.{IsStrictlyIncreasing}
 use Rattle.std.proofs.Math.Nat.{mul-le-mul_left}
@@ -49,10 +50,13 @@ pub row_long : (region : Instance) (place : ℕ) → IsInstance region → place
     → length (row_of region place) ≡ region.width
 row_long region place is lt =
     let start = place * region.width in
-    let room : region.width * (place + 1) ≤ region.width * length region.places = mul-le-mul_left region.width (omega arith) in
-    let left : region.width ≤ length (drop start region.words) = omega (arith, length-drop start region.words, is.whole, room) in
+    let room : region.width * (place + 1) ≤ region.width * length region.places =
+    mul-le-mul_left region.width (omega arith) in
+    let left : region.width ≤ length (drop start region.words) =
+    omega (arith, length-drop start region.words, is.whole, room) in
     let size : start + region.width - start ≡ region.width = omega arith in
-    ap (λ (n : ℕ). length (take n (drop start region.words))) size ∙ length-take-le region.width (drop start region.words) left
+    ap (λ (n : ℕ). length (take n (drop start region.words))) size
+    ∙ length-take-le region.width (drop start region.words) left
 
 -- an instance of these parts
 abbrev pub instance_of : List ℕ → List ℕ → ℕ → List ℕ → Instance
@@ -64,7 +68,8 @@ pub made_of : (cells cells' places places' : List ℕ) (width width' : ℕ) (wor
     → instance_of cells places width words ≡ instance_of cells' places' width' words'
 made_of cells cells' places places' width width' words words' a b c d = cc (a, b, c, d)
 
-module _ (region : Instance) (kept : List ℕ) (is : IsRegion region) (up : IsStrictlyIncreasing kept) (cover : IsCoverAt region kept) where
+module _ (region : Instance) (kept : List ℕ) (is : IsRegion region) (up : IsStrictlyIncreasing kept)
+    (cover : IsCoverAt region kept) where
   inside : (k : ℕ) → k < length kept → slice_index kept k < length region.places
   inside k lt = cover.of_it (slice_index kept k) (element_of kept (slice_index kept k) k lt refl)
 
@@ -83,11 +88,19 @@ module _ (region : Instance) (kept : List ℕ) (is : IsRegion region) (up : IsSt
   places_up : IsStrictlyIncreasing (map (slice_index region.places) kept)
   places_up k h =
       let lt : k + 1 < length kept = omega (arith, count) in
-      let more = rises region.places is.kept.places_ascend (slice_index kept k) (slice_index kept (k + 1)) (up k lt) (inside (k + 1) lt) in
-      omega (arith, get_or-map (slice_index region.places) kept k 0 0 (omega arith), get_or-map (slice_index region.places) kept (k + 1) 0 0 lt, more)
+      let more = rises region.places is.kept.places_ascend (slice_index kept k) (slice_index kept (k + 1)) (up k lt)
+      (inside (k + 1) lt) in
+      omega (
+        arith,
+        get_or-map (slice_index region.places) kept k 0 0 (omega arith),
+        get_or-map
+            (slice_index region.places) kept (k + 1) 0 0 lt,
+        more,
+      )
 
   lightable : (cell : ℕ) → cell < length region.cells
-      → (place : ℕ) × (place < length (map (slice_index region.places) kept)) × LightsAt (thinned region kept) place cell
+      → (place : ℕ) × (place < length (map (slice_index region.places) kept))
+      × LightsAt (thinned region kept) place cell
   lightable cell h =
       let lit = cover.covers cell h in
       let has = lit.1 in (
@@ -104,7 +117,8 @@ module _ (region : Instance) (kept : List ℕ) (is : IsRegion region) (up : IsSt
     wide = is.kept.wide;
     whole = pieces_long (row_of region) region.width kept each ∙ ap (λ (n : ℕ). n * region.width) (sym count);
     of_cells = λ place cell h lit. (let lt : place < length kept = omega (arith, h, count) in
-        is.kept.of_cells (slice_index kept place) cell (inside place lt) (subst (λ (row : List ℕ). Has row cell) (row_at place lt) lit));
+        is.kept.of_cells (slice_index kept place) cell (inside place lt)
+        (subst (λ (row : List ℕ). Has row cell) (row_at place lt) lit));
     lightable = lightable;
   }
 

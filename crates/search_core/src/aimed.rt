@@ -42,6 +42,11 @@ impl AimedDesk {
         self.shown
     }
 
+    /// The size of its smallest cover.
+    pub(crate) fn size(&self) -> u64 {
+        self.desk.size()
+    }
+
     /// Whether its cover has no more places than it showed last.
     pub(crate) fn is_met(&self) -> bool
         ensures { IsTrue result → length self.now.desk.cover.places ≤ self.now.shown }

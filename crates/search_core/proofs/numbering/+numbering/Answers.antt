@@ -7,24 +7,30 @@ use Rattle.search_core.proofs.numbering.+numbering.Goals as goal
 
 pub all_with_numbers-loop-tree-init : goal.all_with_numbers-loop-tree-init
 all_with_numbers-loop-tree-init t c =
-    so_far_none c.args.region.now c.args.trees.items c.into_iter-tree-iterator.result.rest.items c.in_ok-proofs.proofs.items
+    so_far_none c.args.region.now c.args.trees.items c.into_iter-tree-iterator.result.rest.items
+    c.in_ok-proofs.proofs.items
     c.in_ok-proofs.ensures.items c.into_iter-tree-iterator.ensures.into_iter_gives.0
 
 pub all_with_numbers-loop-tree-preserved : goal.all_with_numbers-loop-tree-preserved
 all_with_numbers-loop-tree-preserved t c =
-    so_far_more c.args.region.now c.args.trees.items c.loop-tree.tree-iterator.rest.items c.next.new.self.rest.items c.loop-tree.proofs.items c.push.new.self.items
-    c.in-Some.tree c.in_ok-with_numbers.field-0 c.loop-tree.invariant c.in-Some.ensures.steps.0 c.in_ok-push.ensures.items c.in_ok-with_numbers.ensures
+    so_far_more c.args.region.now c.args.trees.items c.loop-tree.tree-iterator.rest.items c.next.new.self.rest.items
+    c.loop-tree.proofs.items c.push.new.self.items
+    c.in-Some.tree c.in_ok-with_numbers.field-0 c.loop-tree.invariant c.in-Some.ensures.steps.0
+    c.in_ok-push.ensures.items c.in_ok-with_numbers.ensures
 
 pub all_with_numbers-with_numbers-requires : goal.all_with_numbers-with_numbers-requires
 all_with_numbers-with_numbers-requires t c =
-    let falls = so_far_falls c.args.region.now c.args.trees.items c.loop-tree.tree-iterator.rest.items c.next.new.self.rest.items c.loop-tree.proofs.items
+    let falls = so_far_falls c.args.region.now c.args.trees.items c.loop-tree.tree-iterator.rest.items
+    c.next.new.self.rest.items c.loop-tree.proofs.items
     c.in-Some.tree c.loop-tree.invariant c.in-Some.ensures.steps.0 in
     (omega (arith, falls, c.decreases), tt)
 
 pub all_with_numbers-returns : goal.all_with_numbers-returns
 all_with_numbers-returns t c =
-    let none : length c.loop-tree.tree-iterator.rest.items ≡ 0 = omega (arith, c.in-None.ensures.steps.0, c.loop-tree.tree-iterator.rest.ok.0) in
-    so_far_all c.args.region.now c.args.trees.items c.loop-tree.tree-iterator.rest.items c.loop-tree.proofs.items c.loop-tree.invariant none
+    let none : length c.loop-tree.tree-iterator.rest.items ≡ 0 =
+    omega (arith, c.in-None.ensures.steps.0, c.loop-tree.tree-iterator.rest.ok.0) in
+    so_far_all c.args.region.now c.args.trees.items c.loop-tree.tree-iterator.rest.items c.loop-tree.proofs.items
+    c.loop-tree.invariant none
 
 pub with_numbers-all_with_numbers-requires : goal.with_numbers-all_with_numbers-requires
 with_numbers-all_with_numbers-requires t c =
@@ -38,8 +44,10 @@ with_numbers-loop-rest-preserved t c =
     let is = ap tree_of c.in-Bar.is in
     let place = c.number_at-place.ensures ∙ ap (λ (l : List ℕ). slice_index l c.in-Bar.place) c.places.ensures.places in
     let by = c.number_at-by.ensures ∙ ap (λ (l : List ℕ). slice_index l c.in-Bar.by) c.places-in-Bar.ensures.places in (
-      bars_more region c.loop-rest.bars.items c.push.new.self.items (record { place = c.number_at-place.result; by = c.number_at-by.result })
-          c.in-Bar.place c.in-Bar.by (tree_of c.loop-rest.rest) c.in-Bar.kid (tree_of c.into_tree-rest.result) (numbered region (tree_of c.args.tree))
+      bars_more region c.loop-rest.bars.items c.push.new.self.items
+          (record { place = c.number_at-place.result; by = c.number_at-by.result })
+          c.in-Bar.place c.in-Bar.by (tree_of c.loop-rest.rest) c.in-Bar.kid (tree_of c.into_tree-rest.result)
+          (numbered region (tree_of c.args.tree))
           is c.into_tree-rest.ensures place by c.in_ok-push-in-Bar.ensures.items c.loop-rest.invariant.0,
       omega (arith, ap tree_size is, ap tree_size c.into_tree-rest.ensures, c.loop-rest.invariant.1),
     )

@@ -12,7 +12,8 @@ abbrev pub decreases-all_with_numbers : goal.decreases-all_with_numbers
 decreases-all_with_numbers l = forest_size (forest_of l.trees.items)
 
 abbrev pub invariant-all_with_numbers-loop-tree : goal.invariant-all_with_numbers-loop-tree
-invariant-all_with_numbers-loop-tree l = NumberedSoFar l.region l.fn.trees.items l.tree-iterator.rest.items l.proofs.items
+invariant-all_with_numbers-loop-tree l = NumberedSoFar l.region l.fn.trees.items l.tree-iterator.rest.items
+    l.proofs.items
 
 abbrev pub invariant-with_numbers-loop-rest : goal.invariant-with_numbers-loop-rest
 invariant-with_numbers-loop-rest l =

@@ -6,5 +6,6 @@ pub bounds-all-index : goal.bounds-all-index
 bounds-all-index c =
     let kept = c.args.kept.now in
     let index = c.loop-index.index-index in
-    let inside = c.requires.of_it (slice_index kept index) (element_of kept (slice_index kept index) index c.loop-index-test.true refl) in
+    let inside = c.requires.of_it (slice_index kept index)
+    (element_of kept (slice_index kept index) index c.loop-index-test.true refl) in
     omega (arith, inside, ap length c.places-all.ensures.places)

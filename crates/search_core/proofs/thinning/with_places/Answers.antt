@@ -13,7 +13,8 @@ same : (c : After-width) → record {
   width = c.width.result;
   words = c.in_ok-words.words.items;
 } ≡ thinned c.args.region.now c.args.kept.now
-same c = made_of _ _ _ _ _ _ _ _ (c.in_ok-cells.ensures.items ∙ c.cells.ensures.cells) c.in_ok-places.ensures.numbers c.width.ensures.width c.in_ok-words.ensures
+same c = made_of _ _ _ _ _ _ _ _ (c.in_ok-cells.ensures.items ∙ c.cells.ensures.cells) c.in_ok-places.ensures.numbers
+    c.width.ensures.width c.in_ok-words.ensures
 
 pub new-requires : goal.new-requires
 new-requires c =
