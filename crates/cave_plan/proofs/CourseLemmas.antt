@@ -18,15 +18,18 @@ use Rattle.search_core.specs.Planned.{IsBest, IsStopped}
 use Rattle.plan_laws.specs.Bounded.{Bounded, all_torches, total_floor}
 use Rattle.cave_plan.specs.Course.{Course, course, IsBounded, IsProved, AreProved, IsCourse, GoesOn}
 
+-- what holds of a value holds of all of a list of it alone
 one : {X : Type 0} (P : X → Type 0) (x : X) → P x → All P (x ∷ [])
 one P x h = All-cons P x [] h (All-nil P)
 
 -- ---- sums
 
+-- the total floor of two lists is the sum of theirs
 pub total-append : (these those : List Bounded) → total_floor (these ++ those) ≡ total_floor these + total_floor those
 total-append [] those = omega arith
 total-append (p ∷ ps) those = (let rest = total-append ps those in omega (arith, rest))
 
+-- the torches of two lists are theirs one after the other
 pub torches-append : (these those : List Bounded) → all_torches (these ++ those) ≡ all_torches these
     ++ all_torches those
 torches-append [] those = refl
@@ -49,6 +52,7 @@ of_piece region places cover = record {
 pub floor_within : (part : Bounded) → IsBounded part → part.floor ≤ length part.torches
 floor_within part is = is.none_below part.torches (of_piece part.region part.torches is.cover)
 
+-- where no floor is above its torches, their sum isn't
 pub total_within : (parts : List Bounded) → All IsBounded parts → total_floor parts ≤ length (all_torches parts)
 total_within [] all = omega arith
 total_within (p ∷ ps) all =
@@ -93,6 +97,7 @@ part_more regions turns old part floor stopped plans c is sum proved limited =
 abbrev pub AddsUp : List ℕ → ℕ → ℕ → ℕ → Type 0
 AddsUp torches a b sum = a + b ≤ length torches → sum ≡ a + b
 
+-- a best cover's size is a floor
 pub best_bounded : (region : Instance) (cover : Covering) (tree : Tree) → IsBest region cover tree → IsCover cover
     → IsBounded (record { region = region; torches = cover.places; floor = length cover.places })
 best_bounded region cover tree best kept = record {
@@ -102,6 +107,7 @@ best_bounded region cover tree best kept = record {
       (piece_serves (of_instance region) region.cells [] [] places is);
 }
 
+-- one more proved region
 proved_more : (regions : List Instance) (torches : List ℕ) (plans : List Plan) (plan : Plan)
     → AreProved regions torches plans → IsProved plan
     → AreProved (regions ++ plan.region ∷ []) (torches ++ plan.torches) (plans ++ plan ∷ [])
@@ -114,6 +120,7 @@ proved_more regions torches plans plan are is = record {
       ∙ ap (λ (l : List ℕ). l ++ plan.torches) are.whole;
 }
 
+-- one more region, with a best cover
 pub best_more : (turns : Option ℕ) (region : Instance) (cover : Covering) (tree : Tree) (old : Course) (floor : ℕ)
     → IsBest region cover tree → IsCover cover
     → AddsUp (old.torches ++ cover.places) old.floor (length cover.places) floor
@@ -129,6 +136,7 @@ best_more turns region cover tree old floor best kept sum =
           (record { cover = bounded.cover; good = best.proved })) c.limited;
     }
 
+-- one more region, whose turns were spent
 pub stopped_more : (turns : Option ℕ) (cover : Covering) (least : ℕ) (old : Course) (floor : ℕ)
     → IsStopped cover.region turns cover least → IsCover cover
     → AddsUp (old.torches ++ cover.places) old.floor least floor
@@ -141,6 +149,7 @@ stopped_more turns cover least old floor stops kept sum =
           (λ e. absurd (true≢false e)) (λ e. stops.limited);
     }
 
+-- before the first region nothing is planned
 pub none_planned : (turns : Option ℕ) (c : Course) → c.torches ≡ [] → c.floor ≡ 0 → c.stopped ≡ false → c.plans ≡ []
     → IsCourse [] turns c
 none_planned turns c t f s p = record {
@@ -159,6 +168,7 @@ none_planned turns c t f s p = record {
 
 -- ---- the same of what the code has
 
+-- a region with a best cover, as the code adds it
 pub best_added : (turns : Option ℕ) (region : Instance) (cover : Covering) (tree : Tree) (old : Course)
     (torches : List ℕ) (floor : ℕ) (plans : List Plan) → IsBest region cover tree → IsCover cover
     → torches ≡ old.torches ++ cover.places → AddsUp torches old.floor (length cover.places) floor
@@ -171,6 +181,7 @@ best_added turns region cover tree old torches floor plans best kept grown sum a
     (best_more turns region cover tree old floor best kept
     (subst (λ (ts : List ℕ). AddsUp ts old.floor (length cover.places) floor) grown sum)))
 
+-- a region whose turns were spent, as the code adds it
 pub stopped_added : (turns : Option ℕ) (cover : Covering) (least : ℕ) (old : Course) (torches : List ℕ) (floor : ℕ)
     → IsStopped cover.region turns cover least → IsCover cover
     → torches ≡ old.torches ++ cover.places → AddsUp torches old.floor least floor

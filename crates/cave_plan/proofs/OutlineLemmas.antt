@@ -32,16 +32,19 @@ AgreesIn cave region = Agrees (of_instance region) (of_cave cave) region.cells
 
 -- ---- regions
 
+-- the cells of regions that are parts of something
 cells_by : {X : Type 0} (f : X → Instance) (xs : List X) → cells_of_each (map f xs) ≡ map (λ x. (f x).cells) xs
 cells_by f [] = refl
 cells_by f (x ∷ xs) = ap (λ (l : List (List ℕ)). (f x).cells ∷ l) (cells_by f xs)
 
+-- the same of the regions of a cave
 regions_by : {X : Type 0} (cave : Cave) (regions : List Instance) (f : X → Instance) (xs : List X)
     → map f xs ≡ regions → AreRegions cave (cells_of_each regions)
     → AreRegions cave (map (λ x. (f x).cells) xs)
 regions_by cave regions f xs e are = subst (AreRegions cave) (cells_by f xs)
     (subst (λ (l : List Instance). AreRegions cave (cells_of_each l)) (sym e) are)
 
+-- bounds of regions that agree with the cave are bounds in it
 each_bounded : (cave : Cave) (parts : List Bounded) → All IsBounded parts
     → All (AgreesIn cave) (map (λ part. part.region) parts) → All (IsBoundedIn cave) parts
 each_bounded cave [] all agree = All-nil (IsBoundedIn cave)
@@ -56,6 +59,7 @@ each_bounded cave (p ∷ ps) all agree =
     })
     (each_bounded cave ps (All-tail IsBounded p ps all) (All-tail (AgreesIn cave) p.region rest agree))
 
+-- proved plans of regions that agree with the cave are best in it
 each_best : (cave : Cave) (plans : List Plan) → All IsProved plans → All IsRegion (map (λ plan. plan.region) plans)
     → All (AgreesIn cave) (map (λ plan. plan.region) plans) → All (IsBestOf cave) plans
 each_best cave [] all kept agree = All-nil (IsBestOf cave)
@@ -80,6 +84,7 @@ loose plans = flat_map (λ (plan : Plan). plan.torches) plans
 abbrev ordered : List Plan → List ℕ
 ordered plans = torches_of (map section_of plans)
 
+-- ordering each plan's torches loses none
 to_ordered : (plans : List Plan) (x : ℕ) → Contains (loose plans) x → Contains (ordered plans) x
 to_ordered [] x h = h
 to_ordered (p ∷ ps) x h = elim (Contains-append_cases p.torches (loose ps) x h) [
@@ -87,6 +92,7 @@ to_ordered (p ∷ ps) x h = elim (Contains-append_cases p.torches (loose ps) x h
   | inr h ↦ Contains-append_right (in_order p.torches) (ordered ps) x (to_ordered ps x h)
 ]
 
+-- and adds none
 to_loose : (plans : List Plan) (x : ℕ) → Contains (ordered plans) x → Contains (loose plans) x
 to_loose [] x h = h
 to_loose (p ∷ ps) x h = elim (Contains-append_cases (in_order p.torches) (ordered ps) x h) [
@@ -94,6 +100,7 @@ to_loose (p ∷ ps) x h = elim (Contains-append_cases (in_order p.torches) (orde
   | inr h ↦ Contains-append_right p.torches (loose ps) x (to_loose ps x h)
 ]
 
+-- a list of just the torches of all plans is that of the ordered ones
 of_plans : (plans : List Plan) (torches cells : List ℕ) → loose plans ≡ torches → Lists (Contains torches) cells
     → AreTorchesOf plans cells
 of_plans plans torches cells e order = record {
@@ -158,6 +165,7 @@ module _ (cave : Cave) (turns : Option ℕ) (regions : List Instance) (c : Cours
 
 -- ---- no plan
 
+-- where no torch lights a dark cell, no torches are safe
 pub none_safe : (cave : Cave) (cell : ℕ) (torches : List Torch) → IsSound cave → IsUnlightable cave cell
     → IsSafe cave torches → ⊥
 none_safe cave cell torches sound is safe =

@@ -13,6 +13,7 @@ use crate::fault::{PlanFault, RegionFault};
 use cave_regions::{Cover, Region};
 use proof_tree::{Planned, Proof};
 use scan_core::Cell;
+use search_core::Watch;
 use search_pool::Gate;
 use std::alloc::{AllocError, Global};
 use std::sync::{Arc, Wait};
@@ -133,7 +134,11 @@ pub fn planned<X: Threads + Wait + Sync, G: Gate>(
     ensures threads { IfErr result (λ e. e ≡ PlanFault.NoThread → 1 < crew.now.workers.number) }
 {
     let mut course = Course::new(alloc);
+    let count = regions.len();
+    let mut number: usize = 0;
     for region in regions {
+        number = number.saturating_add(1);
+        crew.gate.region(number, count);
         let region = Arc::new(alloc, region)?;
         course.plan(alloc, region, crew, turns)?;
     }

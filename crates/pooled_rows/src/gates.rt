@@ -1,5 +1,6 @@
 //! A gate that holds workers back.
 use proof_tree::Name;
+use search_core::Watch;
 use search_pool::Gate;
 use std::sync::atomic::{AtomicBool, AtomicU32, Ordering};
 
@@ -65,6 +66,8 @@ impl Meeting {
         self.held[1]
     }
 }
+
+impl Watch for Meeting {}
 
 impl Gate for Meeting {
     fn enter(&self, worker: u32, name: &Name) {

@@ -25,12 +25,40 @@ use std::sync::{Arc, Wait};
 use std::thread::Threads;
 use worker_results::Naming;
 
+/// The longest that names of pieces are.
+const DEEPEST: usize = 3;
+
+/// How many pieces a worker should find, and how many are enough for any number of workers.
+const PIECES: usize = 4;
+
+const MANY: usize = 16;
+
+/// A region of no more places makes few pieces.
+const FEW: usize = 128;
+
 /// What workers hand over once they are joined, how many turns they were granted, and whether some asked for more.
 #[derive(Drop)]
 pub(crate) struct Ran {
     pub(crate) joined: Joined,
     pub(crate) turns: u64,
     pub(crate) spent: bool,
+}
+
+/// How long the names of pieces are that are closed whole. Where the root has many kids for each worker none is opened
+/// again: an opened piece has a kid for each place that lights its cell, where a search leaves out those that another
+/// outdoes by then (this project's own).
+fn deepest_for(region: &Region, kids: usize, workers: u32) -> usize {
+    let wanted = (workers as usize).saturating_mul(PIECES).min(MANY);
+    if region.places().len() <= FEW {
+        return DEEPEST;
+    }
+    if kids >= wanted {
+        return 1;
+    }
+    if kids.saturating_mul(kids) >= wanted {
+        return 2;
+    }
+    DEEPEST
 }
 
 /// Starts a worker for each deque, joins them, and closes the beacon and the deques.
@@ -66,6 +94,7 @@ pub(crate) fn run_named<B: Naming + Send + Sync, R: Threads + Wait + Sync, G: Ga
         beacon: &beacon,
         region,
         thieves,
+        deepest: deepest_for(region.as_ref(), root.places().len(), workers.number),
     };
     let ended = run_scope::<B, R, G>(rt, alloc, shared, slots.as_slice(), gate, turns)?;
     let separated = separate(alloc, ended)?;

@@ -2,12 +2,14 @@
 ghost use Rattle.std.specs.Prelude.{◌≡◌, ◌<◌, IfSome, length};
 ghost use Rattle.std.specs.Arc.{arc_value};
 ghost use Rattle.worker_results.specs.Naming.{AreThieves};
+ghost use Rattle.worker_results.specs.Steps.{KeepFloors};
 
 use crate::ended::Ended;
 use crate::gate::Gate;
 use beacon::Beacon;
 use cave_regions::Region;
 use piece_deque::Thief;
+use search_core::Desk;
 use std::alloc::Global;
 use std::sync::{Arc, Mutex, Wait};
 use worker_results::{Berth, Done, Naming, PoolDesk, Share, Step, Tried};
@@ -24,6 +26,8 @@ pub(crate) struct Shared<'e> {
     pub(crate) beacon: &'e Beacon,
     pub(crate) region: &'e Arc<Region>,
     pub(crate) thieves: &'e [Thief],
+    /// Pieces whose names are shorter are opened, others are closed whole.
+    pub(crate) deepest: usize,
 }
 
 /// Takes a piece of its own deque, or else of the others in order.
@@ -61,6 +65,35 @@ fn steal_from<B: Naming>(share: &mut Share<B>, thieves: &[Thief], deque: usize) 
     false
 }
 
+/// Opens the piece that was taken last, where its name is short and that is worth while, or closes it.
+fn work_on<B: Naming, D: Desk>(
+    alloc: Global,
+    shared: Shared<'_>,
+    share: &mut Share<B>,
+    desk: &mut D,
+)
+    requires { (arc_value shared.region.now ≡ B.region) × (D.region desk.old ≡ B.region) }
+    ensures worker { share.new.worker ≡ share.old.worker }
+    ensures floors { KeepFloors B.region (D.shown desk.old) share.old.closed (D.shown desk.new) share.new.closed }
+    ensures same { D.region desk.new ≡ D.region desk.old }
+{
+    if has_short_name(share, shared.deepest) {
+        match share.open(alloc, shared.region, desk) {
+            Step::NotMade => (),
+            _ => return,
+        }
+    }
+    share.close(alloc, shared.region, desk);
+}
+
+/// Whether the name of the piece that was taken last is shorter than this.
+fn has_short_name<B: Naming>(share: &Share<B>, length: usize) -> bool {
+    match share.last_name() {
+        Some(name) => name.as_slice().len() < length,
+        None => false,
+    }
+}
+
 /// Takes its seat and passes from the slot, and works until it finds no piece, or its share of turns is used up. None
 /// where the slot has nothing for it.
 pub(crate) fn work_one<B: Naming, R: Wait, G: Gate>(
@@ -89,9 +122,7 @@ pub(crate) fn work_one<B: Naming, R: Wait, G: Gate>(
         if let Some(name) = share.last_name() {
             gate.enter(worker, name);
         }
-        if let Step::NotMade = share.open(alloc, shared.region, &mut desk) {
-            share.close(alloc, shared.region, &mut desk);
-        }
+        work_on(alloc, shared, &mut share, &mut desk);
         if desk.is_spent() {
             break;
         }
