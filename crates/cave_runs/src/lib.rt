@@ -16,6 +16,8 @@ pub use dark::run_dark;
 pub use fault::{Input, RunFault};
 pub use plan::{Outcome, PlanOpts, run_plan};
 pub use proof_check::Verdict;
+pub use proof_tree::Name;
 pub use reading::read_table;
+pub use search_core::Watch;
 pub use search_pool::{Gate, Open, Workers};
 pub use unkept::Unkept;

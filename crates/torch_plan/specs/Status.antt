@@ -1,7 +1,12 @@
 -- The exit status of a run that was refused. The numbers are this project's own.
-use Rattle.std.specs.Prelude.{ℕ}
+use Rattle.std.specs.Prelude.{◌≡◌, ◌⊎◌, ℕ}
+use Rattle.proof_check.specs.declared.verdict.Verdict.{Verdict}
+use Rattle.proof_check.specs.declared.verdict.Verdict.TheVariants.{Accepted, Rejected}
+use Rattle.cave_runs.specs.declared.plan.Outcome.{Outcome}
+use Rattle.cave_runs.specs.declared.plan.Outcome.TheVariants.{Done, Stopped}
 use Rattle.cave_runs.specs.declared.fault.RunFault.{RunFault}
-use Rattle.cave_runs.specs.declared.fault.RunFault.TheVariants.{ReadFailed, TooLong, WriteFailed, Scan, Table, Build, Unlightable, NoThread, OutOfMemory}
+use Rattle.cave_runs.specs.declared.fault.RunFault.TheVariants.{ReadFailed, TooLong, WriteFailed, Scan, Table, Build}
+use Rattle.cave_runs.specs.declared.fault.RunFault.TheVariants.{Unlightable, NoThread, OutOfMemory}
 
 -- 1 for refused input, 3 where a cell can't be lit, 6 where reading or writing failed, 7 for want of memory or threads
 abbrev pub status : RunFault → ℕ
@@ -14,3 +19,17 @@ status (Build fault) = 1
 status (Unlightable x y z) = 3
 status NoThread = 7
 status OutOfMemory = 7
+
+-- 5 where the turns of a region were spent
+abbrev pub ended : Outcome → ℕ
+ended Done = 0
+ended Stopped = 5
+
+-- 4 where the certificate is rejected
+abbrev pub judged : Verdict → ℕ
+judged (Accepted torches) = 0
+judged (Rejected reason) = 4
+
+-- nothing was printed as an answer: the input is refused, the words are wrong, or memory or threads were
+abbrev pub IsRefused : ℕ → Type 0
+IsRefused status = (status ≡ 1) ⊎ (status ≡ 2) ⊎ (status ≡ 3) ⊎ (status ≡ 7)

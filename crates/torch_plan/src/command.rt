@@ -22,6 +22,8 @@ pub enum Request<'a> {
         table: Option<&'a str>,
         opts: PlanOpts,
         proof: Option<&'a str>,
+        /// Whether standard error tells how the plan gets on.
+        progress: bool,
     },
     /// The verdict on the certificate in the file `proof`, which is never standard input.
     Check {
@@ -92,10 +94,20 @@ fn turns<'a>(alloc: Global) -> Arg<'a> {
         .help("How many nodes the search of a region may work on [default: no limit]")
 }
 
+fn progress<'a>(alloc: Global) -> Arg<'a> {
+    Arg::new(alloc, "progress")
+        .long("progress")
+        .action(ArgAction::SetTrue)
+        .help("Tell on standard error how the plan gets on, once a second [default: at a terminal]")
+}
+
 fn dark_command<'a>(alloc: Global) -> Result<Command<'a>, AllocError> {
     Command::new(alloc, "dark")
         .about(
             "Print the cells in which a hostile mob could spawn: their number, then x y z of each",
+        )
+        .after_help(
+            "Example: torchplan dark cave.nbt\nIt prints `dark 3`, and three lines `x y z`.",
         )
         .arg(file(alloc))?
         .arg(headroom(alloc))?
@@ -106,13 +118,17 @@ fn dark_command<'a>(alloc: Global) -> Result<Command<'a>, AllocError> {
 fn plan_command<'a>(alloc: Global) -> Result<Command<'a>, AllocError> {
     Command::new(alloc, "plan")
         .about("Print the fewest torches that leave no such cell dark, layer by layer")
+        .after_help(
+            "Example: torchplan plan cave.nbt --proof cave.proof\nIt prints `torches 2`, `dark 88`, a line `T x y z floor` for each torch (or the wall it hangs on), and the layers.",
+        )
         .arg(file(alloc))?
         .arg(headroom(alloc))?
         .arg(rule(alloc))?
         .arg(table(alloc))?
         .arg(proof(alloc))?
         .arg(workers(alloc))?
-        .arg(turns(alloc))
+        .arg(turns(alloc))?
+        .arg(progress(alloc))
 }
 
 fn check_command<'a>(alloc: Global) -> Result<Command<'a>, AllocError> {
@@ -122,6 +138,9 @@ fn check_command<'a>(alloc: Global) -> Result<Command<'a>, AllocError> {
         .help("The proof that `plan --proof` wrote");
     Command::new(alloc, "check")
         .about("Say whether a proof shows that its torches are the fewest for the structure")
+        .after_help(
+            "Example: torchplan check cave.nbt cave.proof\nIt prints `accepted 2`, or `rejected: ` and why.",
+        )
         .arg(file(alloc))?
         .arg(certificate)?
         .arg(headroom(alloc))?
@@ -178,6 +197,7 @@ fn plan_of<'a>(matches: &ArgMatches<'a>) -> Option<Request<'a>> {
             turns: matches.get_one::<u64>("turns"),
         },
         proof: matches.get_str("proof"),
+        progress: matches.get_flag("progress"),
     })
 }
 

@@ -1,0 +1,42 @@
+//! What the program asks of the system that it runs on: files, streams, and words for its user.
+
+use cave_runs::RunFault;
+use clap::Error;
+use std::io::{Read, Write};
+
+/// The files and streams of a run. The program has those of its host, tests their own.
+pub trait System {
+    /// A file that is read.
+    type File: Read + Drop;
+
+    /// Standard input.
+    type Standard: Read + Drop;
+
+    /// A file that is written.
+    type Kept: Write + Drop;
+
+    /// Opens a file to read it. None where that fails.
+    fn open(&self, path: &str) -> Option<Self::File>;
+
+    /// Standard input.
+    fn standard(&self) -> Self::Standard;
+
+    /// Makes a file, or empties the one that is there. None where that fails.
+    fn create(&self, path: &str) -> Option<Self::Kept>;
+
+    /// Whether writing to the one file would write over the other. `-` is standard input.
+    fn is_same(&self, path: &str, other: &str) -> bool;
+
+    /// Prints the help that was asked for on standard output, or the mistake in usage on standard error. False where
+    /// that fails.
+    fn explain(&self, error: &Error) -> bool;
+
+    /// Prints a mistake in usage on standard error.
+    fn object(&self, mistake: &str);
+
+    /// Prints the line of a fault on standard error.
+    fn refuse(&self, fault: &RunFault);
+
+    /// A plan is made next. Whether it was asked for that standard error tells how it gets on.
+    fn watch(&self, is_asked: bool);
+}

@@ -1,0 +1,106 @@
+//! Lines on standard error while a plan is sought, about once a second at most.
+
+use std::sync::atomic::{AtomicBool, AtomicU64, Ordering};
+use std::time::Clock;
+use torch_plan::{Gate, Name, Standing, Watch};
+
+/// How many milliseconds lie between two lines at least.
+const BETWEEN: u64 = 1000;
+
+/// Tells how a plan gets on, where that is asked for, and holds no worker back. A plan of less than a second is silent.
+#[derive(Drop)]
+pub(crate) struct Progress<'r> {
+    rt: &'r HostRuntime,
+    is_asked: AtomicBool,
+    region: AtomicU64,
+    regions: AtomicU64,
+    turns: AtomicU64,
+    pieces: AtomicU64,
+    /// When the last line was printed, or when the plan began.
+    last: AtomicU64,
+}
+
+impl<'r> Progress<'r> {
+    /// Nothing was asked for yet.
+    pub(crate) fn new(rt: &'r HostRuntime) -> Progress<'r> {
+        Progress {
+            rt,
+            is_asked: AtomicBool::new(false),
+            region: AtomicU64::new(0),
+            regions: AtomicU64::new(0),
+            turns: AtomicU64::new(0),
+            pieces: AtomicU64::new(0),
+            last: AtomicU64::new(0),
+        }
+    }
+
+    /// A plan begins, of which is to be told or not.
+    pub(crate) fn begin(&self, is_asked: bool) {
+        self.last.store(self.now(), Ordering::SeqCst);
+        self.is_asked.store(is_asked, Ordering::SeqCst);
+    }
+
+    /// Milliseconds since some start; 0 where there is no clock.
+    fn now(&self) -> u64 {
+        match self.rt.monotonic() {
+            Ok(time) => time
+                .as_secs()
+                .saturating_mul(1000)
+                .saturating_add(u64::from(time.subsec_millis())),
+            Err(_) => 0,
+        }
+    }
+
+    fn tell(&self, standing: &Standing) {
+        let _ = eprintln!(self.rt; "torchplan: {standing}");
+    }
+
+    /// Whether a line is due. The caller prints it: another thread finds none due then.
+    fn is_due(&self) -> bool {
+        if !self.is_asked.load(Ordering::SeqCst) {
+            return false;
+        }
+        let now = self.now();
+        let last = self.last.load(Ordering::SeqCst);
+        now.saturating_sub(last) >= BETWEEN
+            && self
+                .last
+                .compare_exchange(last, now, Ordering::SeqCst, Ordering::SeqCst)
+                .is_ok()
+    }
+}
+
+impl Watch for Progress<'_> {
+    fn region(&self, number: usize, count: usize) {
+        self.region.store(number as u64, Ordering::SeqCst);
+        self.regions.store(count as u64, Ordering::SeqCst);
+        self.turns.store(0, Ordering::SeqCst);
+        self.pieces.store(0, Ordering::SeqCst);
+    }
+
+    fn turn(&self, size: u64, aim: u64) {
+        let before = self.turns.fetch_add(1, Ordering::SeqCst);
+        if self.is_due() {
+            self.tell(&Standing::Turns {
+                region: self.region.load(Ordering::SeqCst),
+                regions: self.regions.load(Ordering::SeqCst),
+                floor: aim.saturating_sub(1),
+                size,
+                turns: before.saturating_add(1),
+            });
+        }
+    }
+}
+
+impl Gate for Progress<'_> {
+    fn enter(&self, _worker: u32, _name: &Name) {
+        let before = self.pieces.fetch_add(1, Ordering::SeqCst);
+        if self.is_due() {
+            self.tell(&Standing::Pieces {
+                region: self.region.load(Ordering::SeqCst),
+                regions: self.regions.load(Ordering::SeqCst),
+                pieces: before.saturating_add(1),
+            });
+        }
+    }
+}
