@@ -20,6 +20,7 @@ pub struct Lines {
 }
 
 impl Lines {
+    /// No line so far: the first one is to come.
     pub fn new(alloc: Global) -> Lines
         ensures stage { result.stage ≡ stages.Start }
         ensures taken { result.taken ≡ 0 }

@@ -1,16 +1,19 @@
 -- The kids of a piece that is opened are pieces.
-use Rattle.std.proofs.Common.{◌≡◌, ℕ, suc, ◌+◌, ◌<◌, List, [], ◌∷◌, ◌++◌, length, Contains, All, take, drop, subst, sym, ap, ◌∙◌, arith, inl, inr, length-take}
+use Rattle.std.proofs.Common.{◌≡◌, ℕ, suc, ◌+◌, ◌<◌, List, [], ◌∷◌, ◌++◌, length, Contains, All, take, drop, subst}
+use Rattle.std.proofs.Common.{sym, ap, ◌∙◌, arith, inl, inr, length-take}
 use Rattle.std.specs.Prelude.{slice_index}
 use Rattle.std.proofs.lemmas.List.{take-append-drop, append-nil, append_assoc, take_more}
 use Rattle.std.proofs.lemmas.List.Elements.{All-push, All-append, Contains-append_left, Contains-get_or}
 use Rattle.set_cover.specs.Instance.{LightsIn}
-use Rattle.proof_rules.proofs.ListLemmas.{all_members, at_member, cons_cases, no_member, distinct_nil, distinct_cons, distinct_append}
+use Rattle.proof_rules.proofs.ListLemmas.{all_members, at_member, cons_cases, no_member, distinct_nil, distinct_cons}
+use Rattle.proof_rules.proofs.ListLemmas.{distinct_append}
 use Rattle.proof_tree.specs.Piece.{Subproblem, IsPiece}
 use Rattle.proof_tree.specs.Opened.{Split, IsSplit, kid_of, kids_from}
 
 -- what the first items have, all have
 in_all : (n : ℕ) (xs : List ℕ) (y : ℕ) → Contains (take n xs) y → Contains xs y
-in_all n xs y c = subst (λ (l : List ℕ). Contains l y) (take-append-drop n xs) (Contains-append_left (take n xs) (drop n xs) y c)
+in_all n xs y c = subst (λ (l : List ℕ). Contains l y) (take-append-drop n xs)
+    (Contains-append_left (take n xs) (drop n xs) y c)
 
 module _ (split : Split) (number : ℕ) (is : IsSplit split) (lt : number < length split.places) where
   abbrev pub place : ℕ
@@ -21,7 +24,8 @@ module _ (split : Split) (number : ℕ) (is : IsSplit split) (lt : number < leng
 
   -- the kid's place isn't chosen, as it lights the cell
   pub new : ¬ Contains split.piece.chosen place
-  new chosen = at_member (λ p. ¬ LightsIn split.piece.region p split.cell) split.piece.chosen place is.unlit.unlit chosen
+  new chosen = at_member (λ p. ¬ LightsIn split.piece.region p split.cell) split.piece.chosen place is.unlit.unlit
+      chosen
       ((is.all.exact place).0 there).lights
 
   pub legal : Contains split.piece.region.places place

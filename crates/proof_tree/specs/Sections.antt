@@ -21,7 +21,8 @@ lists_text cells torches tree = cells_text (codes "D") cells ++ proved_text torc
 
 -- all lines of a region
 unfoldable pub region_text : List ℕ → List ℕ → Tree → List ℕ
-region_text cells torches tree = cells_text (codes "region") (length cells ∷ length torches ∷ []) ++ lists_text cells torches tree
+region_text cells torches tree = cells_text (codes "region") (length cells ∷ length torches ∷ [])
+    ++ lists_text cells torches tree
 
 -- the same as the certificate has it
 abbrev pub section_text : Plan → List ℕ

@@ -1,4 +1,5 @@
--- What lists of pieces hold, in whatever order: however pieces are weighed, two lists that hold the same weigh the same.
+-- What lists of pieces hold, in whatever order: however pieces are weighed, two lists that hold the same weigh the
+-- same.
 -- This is this project's own.
 use Rattle.std.specs.Prelude.{ℕ, ◌+◌, List, [], ◌∷◌}
 use Rattle.proof_tree.specs.Piece.{Subproblem}

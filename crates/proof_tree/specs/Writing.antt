@@ -18,4 +18,5 @@ pub record Passes (old : Option (List ℕ)) (had : List ℕ) (new : Option (List
 
 -- the text is on its way, or a beginning of it and of what the buffer had was taken
 abbrev pub IsSent : {X E : Type 0} → Result X E → Option (List ℕ) → List ℕ → Option (List ℕ) → List ℕ → List ℕ → Type 0
-IsSent r old had new has text = MatchResult r (λ _. Passes old had new has text) (λ _. AppendsPart old new (had ++ text))
+IsSent r old had new has text = MatchResult r (λ _. Passes old had new has text)
+    (λ _. AppendsPart old new (had ++ text))

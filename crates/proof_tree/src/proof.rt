@@ -89,6 +89,7 @@ impl Cells {
         Cells { items }
     }
 
+    /// The cells, in the order in which they were given.
     pub fn as_slice(&self) -> &[u32]
         ensures { result.now ≡ self.now }
     {
@@ -112,6 +113,7 @@ impl Kids {
         Kids { items }
     }
 
+    /// The trees, in the order in which they were given.
     pub fn trees(&self) -> &[Proof]
         ensures { self.now ≡ forest_of result.now }
     {
@@ -128,6 +130,7 @@ impl Kids {
 }
 
 impl Below {
+    /// This tree, in memory of its own.
     pub fn of(alloc: Global, tree: Proof) -> Result<Below, AllocError>
         ensures { IfOk result (λ below. below ≡ tree_of tree) }
     {
@@ -136,6 +139,7 @@ impl Below {
         })
     }
 
+    /// The tree below.
     pub fn tree(&self) -> &Proof
         ensures { tree_of result.now ≡ self.now }
     {

@@ -1,7 +1,7 @@
 -- Entries that are judged one after another, up to some index.
-use Rattle.std.proofs.Common.{◌≡◌, ℕ, suc, ◌+◌, ◌≤◌, List, [], ◌∷◌, ◌++◌, length, Option, Some, None, refl, sym, ap}
-use Rattle.std.proofs.Common.{subst, ◌∙◌, append_assoc, arith}
-use Rattle.std.proofs.lemmas.List.{append-nil, nil_from_length}
+use Rattle.std.proofs.Common.{◌≡◌, ℕ, suc, ◌+◌, ◌≤◌, List, [], ◌∷◌, ◌++◌, length, Option, Some, None, sym, ap}
+use Rattle.std.proofs.Common.{◌∙◌, append_assoc, arith}
+use Rattle.std.proofs.lemmas.List.{nil_from_length}
 use Rattle.nbt_core.specs.Value.{Nbt}
 use Rattle.scan_core.specs.Scan.{AreEach}
 use Rattle.scan_core.specs.Judging.{first_fault, each_from}
@@ -16,11 +16,6 @@ pub record AreTold {X : Type 0} (Is : Nbt → X → Type 0) (judge : ℕ → Nbt
   pub count : index + length rest ≡ length entries
   pub told : AreEach Is done values
   pub left : first_fault (each_from index judge rest) ≡ first_fault (each_from 0 judge entries)
-
--- before the first entry
-pub none_told : {X : Type 0} (Is : Nbt → X → Type 0) (judge : ℕ → Nbt → List (Option ScanFault))
-    (entries : List Nbt) → AreTold Is judge entries 0 entries []
-none_told Is judge entries = record { done = []; parts = refl; count = omega arith; told = tt; left = refl }
 
 -- one more at the end
 each_push : {X : Type 0} (Is : Nbt → X → Type 0) (ts : List Nbt) (xs : List X) (t : Nbt) (x : X) → AreEach Is ts xs
@@ -55,14 +50,6 @@ module _ {X : Type 0} (Is : Nbt → X → Type 0) (judge : ℕ → Nbt → List 
             ∙ sym (ap (λ (ts : List Nbt). first_fault (each_from index judge ts)) e)
             ∙ a.left;
       }
-
-  -- where none is left, all are told
-  pub told_all : rest ≡ [] → AreEach Is entries values × (first_fault (each_from 0 judge entries) ≡ None)
-  told_all e = (
-    subst (λ (ts : List Nbt). AreEach Is ts values)
-        (sym (a.parts ∙ ap (λ (ts : List Nbt). a.done ++ ts) e ∙ append-nil a.done)) a.told,
-    sym a.left ∙ ap (λ (ts : List Nbt). first_fault (each_from index judge ts)) e,
-  )
 
   -- at the last index none is left
   pub none_left : length entries ≤ index → rest ≡ []

@@ -4,15 +4,15 @@ use Rattle.std.proofs.Common.{set, Option, Some, None, IsTrue, All, refl, sym, a
 use Rattle.std.specs.Prelude.{if◌then◌else◌}
 use Rattle.std.proofs.lemmas.Bool.{eqb-true}
 use Rattle.std.proofs.lemmas.List.{get_or-set_same, get_or-set_other, length-set}
-use Rattle.std.proofs.lemmas.List.Elements.{All-nil, All-push}
+use Rattle.std.proofs.lemmas.List.Elements.{All-push}
 use Rattle.nbt_core.specs.Value.{Nbt}
 use Rattle.scan_core.specs.Box.{Point, cell_count, number, is_within}
-use Rattle.scan_core.specs.Cells.{IsPlaced, ShowEntries}
+use Rattle.scan_core.specs.Cells.{IsPlaced}
 use Rattle.scan_core.specs.Scan.{Entry, IsEntryOf, or_else, last_state}
 use Rattle.scan_core.specs.Faults.{entry_faults}
-use Rattle.scan_core.specs.Judging.{first_fault, each_from}
+use Rattle.scan_core.specs.Judging.{first_fault}
 use Rattle.scan_core.proofs.CellLemmas.{within_parts, number_below}
-use Rattle.scan_core.proofs.EachLemmas.{AreTold, none_told, told_more, told_all}
+use Rattle.scan_core.proofs.EachLemmas.{AreTold, told_more}
 
 -- the cells show the last of the entries below the index
 pub record AreFilled (size : Point) (states : ℕ) (ts : List Nbt) (index : ℕ) (rest : List Nbt)
@@ -24,21 +24,11 @@ pub record AreFilled (size : Point) (states : ℕ) (ts : List Nbt) (index : ℕ)
   pub whole : length cells ≡ cell_count size
   pub last : (cell : ℕ) → cell < cell_count size → get_or cells cell None ≡ last_state size cell entries
 
-pub none_filled : (size : Point) (states : ℕ) (ts : List Nbt) (cells : List (Option ℕ))
-    → length cells ≡ cell_count size → All (λ cell. cell ≡ None) cells → AreFilled size states ts 0 ts cells
-none_filled size states ts cells whole void = record {
-  entries = [];
-  told = none_told IsEntryOf (entry_faults size states) ts;
-  inside = All-nil (λ (entry : Entry). IsTrue (is_within size entry.at));
-  known = All-nil (λ (entry : Entry). entry.state < states);
-  whole = whole;
-  last = λ cell h. void cell None (subst (λ (n : ℕ). cell < n) (sym whole) h);
-}
-
 -- the state of an entry at the cell, or else another
 abbrev state_at : Point → ℕ → Entry → Option ℕ → Option ℕ
 state_at size cell entry other = if number size entry.at == cell then Some entry.state else other
 
+-- one more entry gives its cell its own state, and leaves the others
 pub last_push : (size : Point) (cell : ℕ) (entries : List Entry) (entry : Entry)
     → last_state size cell (entries ++ entry ∷ []) ≡ state_at size cell entry (last_state size cell entries)
 last_push size cell [] entry = refl
@@ -51,6 +41,7 @@ last_push size cell (x ∷ xs) entry =
     by_case true n o p = refl
     by_case false n o p = refl
 
+-- after one cell is set, that cell shows the new state, and any other what it showed
 set_shows : (cells : List (Option ℕ)) (at cell n : ℕ) → at < length cells
     → get_or (set cells at (Some n)) cell None ≡ (if at == cell then Some n else get_or cells cell None)
 set_shows cells at cell n h = by_case (at == cell) (λ e. eqb-true at cell e) (λ e. differs at cell e)
@@ -64,6 +55,7 @@ set_shows cells at cell n h = by_case (at == cell) (λ e. eqb-true at cell e) (�
     differs : (a b : ℕ) → (a == b) ≡ false → b ≢ a
     differs a b e p = grind arith
 
+-- an entry's cell is one of the cells
 pub placed_below : (size : Point) (states : ℕ) (cells : List (Option ℕ)) (t : Nbt) (cell n : ℕ)
     → length cells ≡ cell_count size → IsPlaced t size states cell n → cell < length cells
 placed_below size states cells t cell n whole p =
@@ -72,6 +64,7 @@ placed_below size states cells t cell n whole p =
     subst (λ (k : ℕ). k < length cells) (sym p.numbered)
     (subst (λ (k : ℕ). number size p.entry.at < k) (sym whole) inside)
 
+-- where one more entry sets its cell, the cells show the entries up to that one
 pub more_filled : (size : Point) (states : ℕ) (ts : List Nbt) (index : ℕ) (rest : List Nbt)
     (cells : List (Option ℕ)) (t : Nbt) (others : List Nbt) (cell n : ℕ) → AreFilled size states ts index rest cells
     → rest ≡ t ∷ others → IsPlaced t size states cell n → first_fault (entry_faults size states index t) ≡ None
@@ -94,19 +87,3 @@ more_filled size states ts index rest cells t others cell n f e p clean =
           ∙ ap (state_at size k p.entry) (f.last k l)
           ∙ sym (last_push size k f.entries p.entry);
     }))
-
-pub all_filled : (size : Point) (states : ℕ) (ts : List Nbt) (index : ℕ) (rest : List Nbt) (cells : List (Option ℕ))
-    → AreFilled size states ts index rest cells → rest ≡ [] → ShowEntries ts size states cells
-    × (first_fault (each_from 0 (entry_faults size states) ts) ≡ None)
-all_filled size states ts index rest cells f h =
-    let all = told_all IsEntryOf (entry_faults size states) ts index rest f.entries f.told h in (
-      record {
-        entries = f.entries;
-        each = all.0;
-        inside = f.inside;
-        known = f.known;
-        whole = f.whole;
-        last = f.last;
-      },
-      all.1,
-    )

@@ -9,13 +9,16 @@ use Rattle.nbt_core.specs.Parts.{named, entries_in}
 use Rattle.nbt_core.specs.Value as values
 use Rattle.scan_core.specs.Properties.{has_name, with_text, last_texts, props_of, HasEachOnce}
 
+-- where a disjunction is false, both parts are
 pub either_false : (a b : Bool) → (a || b) ≡ false → (a ≡ false) × (b ≡ false)
 either_false true b e = absurd (cc)
 either_false false b e = (refl, e)
 
+-- bytes that are judged to differ do
 pub differ : (xs ys : List ℕ) → bytes_eq xs ys ≡ false → xs ≢ ys
 differ xs ys e p = absurd (cc ((bytes_eq-Decides xs ys).1 p))
 
+-- the names of properties
 names : List (List ℕ × List ℕ) → List (List ℕ)
 names props = map (λ prop. prop.0) props
 
@@ -34,6 +37,7 @@ pub picked : {X : Type 0} (P : X → Type 0) (b : Bool) (x y : X) → P x → (b
 picked P true x y p q = p
 picked P false x y p q = q refl
 
+-- a name that no member has is none of the properties' names
 absent : (name : List ℕ) (ms : Members) → has_name name ms ≡ false → IsFree name (last_texts ms)
 absent name no_members e = All-nil (λ (key : List ℕ). name ≢ key)
 absent name (member key t ms) e =
@@ -44,6 +48,7 @@ absent name (member key t ms) e =
     (λ text. All-cons (λ (key : List ℕ). name ≢ key) key (map (λ prop. prop.0) (last_texts ms))
     (λ e. differ key name parts.0 (cc)) rest))
 
+-- of the members of one name the last alone is kept
 pub last_texts_once : (ms : Members) → HasEachOnce (last_texts ms)
 last_texts_once no_members = λ i j d h k. absurd (omega arith)
 last_texts_once (member key t ms) =
@@ -52,6 +57,7 @@ last_texts_once (member key t ms) =
     (λ e. with_text_keeps HasEachOnce key t (last_texts ms) rest
     (λ text. AllPairs-cons (λ (a b : List ℕ). a ≢ b) key (map (λ prop. prop.0) (last_texts ms)) (absent key ms e) rest))
 
+-- a state has each property at most once
 pub props_of_once : (found : Option Nbt) → HasEachOnce (props_of found)
 props_of_once (Some (compound ms)) = last_texts_once ms
 props_of_once found = λ i j d h k. absurd (omega arith)

@@ -20,6 +20,7 @@ use Rattle.scan_core.specs.declared.fault.ScanFault.TheVariants as faults
 use Rattle.scan_core.proofs.One.{one_structure}
 use Rattle.scan_core.proofs.ScanLemmas.{structure_clean, size_told, states_told}
 
+-- a field that wasn't found isn't there
 pub no_field : (r found : Option Nbt) → r ≡ found → is_some r ≡ false → found ≡ None
 no_field None found e h = sym e
 no_field (Some t) found e h = absurd (cc)
@@ -51,6 +52,7 @@ told_scan root size palette cells palettes there states s e h none p count c =
     is_scan root size palette cells s (no_field palettes (field (codes "palettes") root) e (sym h ∙ none)) p
     (subst (λ (n : ℕ). AreCellsOf root size n cells) count c)
 
+-- the fault of the last of four judgements, where the three before it find none
 fourth : (a b c d : Option ScanFault) (fault : ScanFault) → a ≡ None → b ≡ None → c ≡ None → d ≡ Some fault
     → first_fault (a ∷ b ∷ c ∷ d ∷ []) ≡ Some fault
 fourth a b c d fault p q r s =
@@ -76,15 +78,18 @@ fault_of-blocks root size palette palettes there states fault s clean e h none p
 
 -- ---- bytes with a root
 
+-- a root has at most one fault
 both_faults : (root : Nbt) (a b : ScanFault) → fault_of root ≡ Some a → fault_of root ≡ Some b → a ≡ b
 both_faults root a b p q = same a b (sym p ∙ q)
   where
     same : (a b : ScanFault) → ◌≡◌ {A = Option ScanFault} (Some a) (Some b) → a ≡ b
     same a b e = cc
 
+-- a judgement that finds nothing finds no fault
 clean_or : (o : Option ScanFault) (fault : ScanFault) → o ≡ None → o ≡ Some fault → ⊥
 clean_or o fault p q = absurd (cc)
 
+-- of a root that is the only one, no other structure is answered than the one that is told
 pub root_only : (bytes : List ℕ) (root : Nbt) (r : Result Structure ScanFault)
     → ((t : Nbt) → Root bytes t → root ≡ t) → TellsInRoom r (λ s. IsScanOf root s) (fault_of root) → (s : Structure)
     → Scans bytes s → IsAnswer r s
@@ -94,11 +99,13 @@ root_only bytes root (Err fault) only told s (t, is, scan) =
     ⊎_elim (λ e. absurd (clean_or (fault_of root) fault
     (structure_clean root s (subst (λ (t : Nbt). IsScanOf t s) (sym (only t is)) scan)) e)) (λ e. e) told
 
+-- a fault other than want of memory is the root's
 pub root_fault : (bytes : List ℕ) (root : Nbt) (r : Result Structure ScanFault) → Root bytes root
     → TellsInRoom r (λ s. IsScanOf root s) (fault_of root) → IfErr r (λ e. e ≢ faults.OutOfMemory → IsFaultOf bytes e)
 root_fault bytes root (Ok found) is told = tt
 root_fault bytes root (Err fault) is told = λ other. ⊎_elim (λ e. inr (root, is, e)) (λ e. absurd (other e)) told
 
+-- where bytes are a root and no other, the root's fault is answered
 pub root_refused : (bytes : List ℕ) (root : Nbt) (r : Result Structure ScanFault)
     → ((t : Nbt) → Root bytes t → root ≡ t) → ((e : NbtFault) → FaultOf bytes e → ⊥)
     → TellsInRoom r (λ s. IsScanOf root s) (fault_of root) → (e : ScanFault) → IsFaultOf bytes e → IsRefusal r e

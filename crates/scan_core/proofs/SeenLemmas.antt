@@ -32,6 +32,7 @@ query name = record { ref_ptr = (0, 0); now = name }
 abbrev by_bytes : Bor (List ℕ) → Bor (List ℕ) → Ordering
 by_bytes x y = slice_cmp nat_cmp x.now y.now
 
+-- bytes that are judged equal are
 same_bytes : (xs ys : List ℕ) → bytes_eq xs ys ≡ true → xs ≡ ys
 same_bytes xs ys e = (bytes_eq-Decides xs ys).0 e
 
@@ -55,6 +56,7 @@ names_again key name ms e = by_case (bytes_eq key name)
     by_case true p = p refl
     by_case false p = refl
 
+-- a name that was seen before, from behind, adds no property
 seen_again : (members rest : List (Bor (List ℕ) × Nbt)) (found : Bor (List ℕ)
     × Nbt) (props : List (List ℕ × List ℕ)) (seen after : BTreeSet (Bor (List ℕ))) → members ≡ found ∷ rest
     → AreSeen rest props seen → has_key found.0.now seen ≡ true → after.keys ≡ seen.keys
@@ -77,6 +79,7 @@ either : (a b : Bool) → (cond a true b) ≡ (a || b)
 either true b = refl
 either false b = refl
 
+-- a name that wasn't seen before adds its property, where it has a text
 seen_first : (members rest : List (Bor (List ℕ) × Nbt)) (found : Bor (List ℕ)
     × Nbt) (props more : List (List ℕ × List ℕ)) (seen after : BTreeSet (Bor (List ℕ))) → members ≡ found ∷ rest
     → AreSeen rest props seen → has_key found.0.now seen ≡ false
@@ -98,10 +101,12 @@ seen_first members rest found props more seen after e s h texts updates =
           ∙ ap (λ (b : Bool). bytes_eq found.0.now name || b) (s.names name);
     })
 
+-- a name that wasn't added was there
 not_new : (added found : Bool) → added ≡ not found → added ≡ false → found ≡ true
 not_new added true e f = refl
 not_new added false e f = absurd (cc)
 
+-- a name that was added wasn't there
 is_new : (added found : Bool) → added ≡ not found → added ≡ true → found ≡ false
 is_new added true e f = absurd (cc)
 is_new added false e f = refl

@@ -1,5 +1,6 @@
 -- What a root tells has known states, and each property once.
-use Rattle.std.proofs.Common.{ℕ, ◌<◌, ◌==◌, Bool, true, false, List, [], ◌∷◌, length, codes, Option, Some, None, IfSome, All, sym, subst, ◌∙◌}
+use Rattle.std.proofs.Common.{ℕ, ◌<◌, ◌==◌, Bool, true, false, List, [], ◌∷◌, length, codes, Option, Some, None}
+use Rattle.std.proofs.Common.{IfSome, All, sym, subst, ◌∙◌}
 use Rattle.std.specs.Prelude.{if◌then◌else◌}
 use Rattle.std.proofs.lemmas.List.{get_or_default}
 use Rattle.std.proofs.lemmas.List.Elements.{All-nil, All-cons, All-head, All-tail}
@@ -14,22 +15,30 @@ use Rattle.scan_core.proofs.PropertyLemmas.{props_of_once}
 abbrev pub IsBelow : ℕ → Option ℕ → Type 0
 IsBelow states cell = IfSome cell (λ index. index < states)
 
+-- of two states below the count, the first that is there is below it
 or_else_below : (states : ℕ) (a b : Option ℕ) → IsBelow states a → IsBelow states b → IsBelow states (or_else a b)
 or_else_below states (Some n) b p q = p
 or_else_below states None b p q = q
 
+-- a state below the count that may be there or not
 chosen_below : (states n : ℕ) (b : Bool) → n < states → IsBelow states (if b then Some n else None)
 chosen_below states n true h = h
 chosen_below states n false h = tt
 
-pub last_below : (size : Point) (states cell : ℕ) (entries : List Entry) → All (λ entry. entry.state < states) entries → IsBelow states (last_state size cell entries)
+-- the last state of a cell is below the count, where all are
+pub last_below : (size : Point) (states cell : ℕ) (entries : List Entry) → All (λ entry. entry.state < states) entries
+    → IsBelow states (last_state size cell entries)
 last_below size states cell [] h = tt
 last_below size states cell (entry ∷ entries) h =
-    or_else_below states (last_state size cell entries) (if number size entry.at == cell then Some entry.state else None)
+    or_else_below states (last_state size cell entries)
+    (if number size entry.at == cell then Some entry.state else None)
     (last_below size states cell entries (All-tail (λ (entry : Entry). entry.state < states) entry entries h))
-    (chosen_below states entry.state (number size entry.at == cell) (All-head (λ (entry : Entry). entry.state < states) entry entries h))
+    (chosen_below states entry.state (number size entry.at == cell)
+    (All-head (λ (entry : Entry). entry.state < states) entry entries h))
 
-each_once : (ts : List Nbt) (states : List BlockState) → AreEach IsStateOf ts states → All (λ state. HasEachOnce state.props) states
+-- each state that compounds tell has each property at most once
+each_once : (ts : List Nbt) (states : List BlockState) → AreEach IsStateOf ts states
+    → All (λ state. HasEachOnce state.props) states
 each_once [] [] e = All-nil (λ (state : BlockState). HasEachOnce state.props)
 each_once [] (x ∷ xs) e = absurd e
 each_once (t ∷ ts) [] e = absurd e
@@ -38,6 +47,7 @@ each_once (t ∷ ts) (state ∷ states) e =
     (subst HasEachOnce (sym (e.0).told) (props_of_once (field (codes "Properties") t)))
     (each_once ts states e.1)
 
+-- a structure that a root tells keeps what its type asks for
 pub scan_whole : (root : Nbt) (scan : Structure) → IsScanOf root scan → IsWhole scan
 scan_whole root scan s = record {
   small = s.small;

@@ -1,6 +1,7 @@
 -- Which fault comes first in a root that tells no structure.
 -- The order is this project's own.
-use Rattle.std.specs.Prelude.{◌≡◌, ℕ, ℤ, pos, negsuc, ◌⊎◌, nat_lt, List, [], ◌∷◌, length, codes, Option, Some, None, if◌then◌else◌}
+use Rattle.std.specs.Prelude.{◌≡◌, ℕ, ℤ, pos, negsuc, ◌⊎◌, nat_lt, List, [], ◌∷◌, length, codes, Option, Some, None}
+use Rattle.std.specs.Prelude.{if◌then◌else◌}
 use Rattle.nbt_core.specs.Value.{Nbt, field}
 use Rattle.nbt_core.specs.Spelling.{Root}
 use Rattle.nbt_core.specs.Breaking.{FaultOf}
@@ -8,7 +9,8 @@ use Rattle.nbt_core.specs.declared.fault.NbtFault.{NbtFault}
 use Rattle.scan_core.specs.Box.{Point, is_within, is_small}
 use Rattle.scan_core.specs.Judging.{first_fault, each_from, on_field, on_triple, on_compounds, on_text, on_int}
 use Rattle.scan_core.specs.declared.fault.Field.{Field}
-use Rattle.scan_core.specs.declared.fault.Field.TheVariants.{SizeField, PaletteField, NameField, BlocksField, PosField, StateField}
+use Rattle.scan_core.specs.declared.fault.Field.TheVariants.{SizeField, PaletteField, NameField, BlocksField}
+use Rattle.scan_core.specs.declared.fault.Field.TheVariants.{PosField, StateField}
 use Rattle.scan_core.specs.declared.fault.ScanFault.{ScanFault}
 use Rattle.scan_core.specs.declared.fault.ScanFault.TheVariants as faults
 
@@ -19,7 +21,8 @@ side_fault (Some size) = if is_small size then None else Some faults.TooLarge
 
 -- the field of the size: three Ints
 abbrev pub size_fault : Nbt → Option ScanFault
-size_fault root = on_field (field (codes "size") root) (Some (faults.Missing SizeField)) (on_triple (Some (faults.WrongType SizeField)) side_fault)
+size_fault root = on_field (field (codes "size") root) (Some (faults.Missing SizeField))
+    (on_triple (Some (faults.WrongType SizeField)) side_fault)
 
 -- an entry `palettes`, of whatever type
 abbrev pub palettes_fault : Nbt → Option ScanFault
@@ -27,11 +30,13 @@ palettes_fault root = on_field (field (codes "palettes") root) None (λ t. Some 
 
 -- a list of compounds, and then each of them
 abbrev pub list_fault : Field → (ℕ → Nbt → List (Option ScanFault)) → Option Nbt → Option ScanFault
-list_fault of judge found = on_field found (Some (faults.Missing of)) (on_compounds (Some (faults.WrongType of)) (λ ts. first_fault (each_from 0 judge ts)))
+list_fault of judge found = on_field found (Some (faults.Missing of))
+    (on_compounds (Some (faults.WrongType of)) (λ ts. first_fault (each_from 0 judge ts)))
 
 -- an entry of the palette: its name is a String
 abbrev pub name_fault : ℕ → Nbt → List (Option ScanFault)
-name_fault index entry = on_field (field (codes "Name") entry) (Some (faults.Missing (NameField index))) (on_text (Some (faults.WrongType (NameField index))) None) ∷ []
+name_fault index entry = on_field (field (codes "Name") entry) (Some (faults.Missing (NameField index)))
+    (on_text (Some (faults.WrongType (NameField index))) None) ∷ []
 
 -- the palette
 abbrev pub palette_fault : Nbt → Option ScanFault
@@ -44,7 +49,8 @@ place_fault size index (Some at) = if is_within size at then None else Some (fau
 
 -- its field: three Ints
 abbrev pub pos_fault : Point → ℕ → Nbt → Option ScanFault
-pos_fault size index entry = on_field (field (codes "pos") entry) (Some (faults.Missing (PosField index))) (on_triple (Some (faults.WrongType (PosField index))) (place_fault size index))
+pos_fault size index entry = on_field (field (codes "pos") entry) (Some (faults.Missing (PosField index)))
+    (on_triple (Some (faults.WrongType (PosField index))) (place_fault size index))
 
 -- the index of an entry of the blocks: one of so many states
 abbrev pub index_fault : ℕ → ℕ → ℤ → Option ScanFault
@@ -53,7 +59,8 @@ index_fault states index (negsuc n) = Some (faults.BadState index)
 
 -- its field: an Int
 abbrev pub state_fault : ℕ → ℕ → Nbt → Option ScanFault
-state_fault states index entry = on_field (field (codes "state") entry) (Some (faults.Missing (StateField index))) (on_int (Some (faults.WrongType (StateField index))) (index_fault states index))
+state_fault states index entry = on_field (field (codes "state") entry) (Some (faults.Missing (StateField index)))
+    (on_int (Some (faults.WrongType (StateField index))) (index_fault states index))
 
 -- an entry of the blocks: its place, then its index
 abbrev pub entry_faults : Point → ℕ → ℕ → Nbt → List (Option ScanFault)

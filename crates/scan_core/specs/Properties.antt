@@ -1,7 +1,9 @@
 -- The properties of a block state: the Strings of its `Properties`. Of entries with one name the last counts,
 -- and then its type: one that is no String counts as absent, and so does a `Properties` that is no compound.
--- Source: Minecraft Wiki, "Structure file"; what counts as absent, and that the last entry counts, is this project's own.
-use Rattle.std.specs.Prelude.{◌≢◌, ℕ, Bool, false, ◌||◌, List, [], ◌∷◌, map, AllPairs, bytes_eq, Option, Some, if◌then◌else◌}
+-- Source: Minecraft Wiki, "Structure file"; what counts as absent, and that the last entry counts, is this project's
+-- own.
+use Rattle.std.specs.Prelude.{◌≢◌, ℕ, Bool, false, ◌||◌, List, [], ◌∷◌, map, AllPairs, bytes_eq, Option, Some}
+use Rattle.std.specs.Prelude.{if◌then◌else◌}
 use Rattle.nbt_core.specs.Value.{Nbt, leaf, list, compound, Members, no_members, member}
 use Rattle.nbt_core.specs.Value as values
 

@@ -1,6 +1,7 @@
 -- What a structure file tells: a box, a palette of block states, and the state of each cell.
 -- Source: Minecraft Wiki, "Structure file". That of two entries the last counts is this project's own.
-use Rattle.std.specs.Prelude.{◌≡◌, ℕ, ℤ, pos, ◌<◌, ◌==◌, IsTrue, List, [], ◌∷◌, length, All, codes, Option, Some, None, IfSome, slice_index_or, if◌then◌else◌}
+use Rattle.std.specs.Prelude.{◌≡◌, ℕ, ℤ, pos, ◌<◌, ◌==◌, IsTrue, List, [], ◌∷◌, length, All, codes, Option, Some}
+use Rattle.std.specs.Prelude.{None, IfSome, slice_index_or, if◌then◌else◌}
 use Rattle.nbt_core.specs.Value.{Nbt, leaf, list, items_of, field}
 use Rattle.nbt_core.specs.Value as values
 use Rattle.nbt_core.specs.Spelling.{Root}
@@ -59,7 +60,8 @@ or_else None other = other
 -- the state of the last entry at the cell
 abbrev pub last_state : Point → ℕ → List Entry → Option ℕ
 last_state size cell [] = None
-last_state size cell (entry ∷ entries) = or_else (last_state size cell entries) (if number size entry.at == cell then Some entry.state else None)
+last_state size cell (entry ∷ entries) = or_else (last_state size cell entries)
+    (if number size entry.at == cell then Some entry.state else None)
 
 -- the root tells this structure
 pub record IsScanOf (root : Nbt) (scan : Structure) : Type 0 where
@@ -72,7 +74,8 @@ pub record IsScanOf (root : Nbt) (scan : Structure) : Type 0 where
   pub inside : All (λ entry. IsTrue (is_within scan.size entry.at)) entries
   pub known : All (λ entry. entry.state < length scan.palette) entries
   pub whole : length scan.cells ≡ cell_count scan.size
-  pub last : (cell : ℕ) → cell < cell_count scan.size → slice_index_or scan.cells cell None ≡ last_state scan.size cell entries
+  pub last : (cell : ℕ) → cell < cell_count scan.size
+      → slice_index_or scan.cells cell None ≡ last_state scan.size cell entries
 
 -- the bytes begin with a root that tells this structure
 abbrev pub Scans : List ℕ → Structure → Type 0

@@ -2,7 +2,8 @@
 use Rattle.std.specs.Prelude.{ℕ, List, ◌++◌, codes, decimal}
 use Rattle.nbt_core.specs.Texts as inner
 use Rattle.scan_core.specs.declared.fault.Field.{Field}
-use Rattle.scan_core.specs.declared.fault.Field.TheVariants.{SizeField, PaletteField, NameField, BlocksField, PosField, StateField}
+use Rattle.scan_core.specs.declared.fault.Field.TheVariants.{SizeField, PaletteField, NameField, BlocksField}
+use Rattle.scan_core.specs.declared.fault.Field.TheVariants.{PosField, StateField}
 use Rattle.scan_core.specs.declared.fault.ScanFault.{ScanFault}
 use Rattle.scan_core.specs.declared.fault.ScanFault.TheVariants as faults
 

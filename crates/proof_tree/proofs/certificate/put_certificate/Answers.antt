@@ -14,19 +14,25 @@ returns-in_err-put_text g c =
     let p = err_from_is_err_and c.from_residual-in_err-put_text.result c.from_residual-in_err-put_text.ensures.1 in
     let plans = plans_of c.args.parts.now in
     let body = body_text plans in
-    let text = ap (λ (l : List ℕ). l ++ body) (c.as_str.ensures.value ∙ c.in_ok-heading.ensures ∙ ap (λ (b : Bool). heading_text c.args.world.now (length c.args.parts.now) b) c.is_second-second.ensures
-    ∙ ap (λ (n : ℕ). heading_text c.args.world.now n (is_second c.args.world.now.rule.need plans)) (sym (length-map c.args.parts.now plan_of)))
+    let text = ap (λ (l : List ℕ). l ++ body) (c.as_str.ensures.value ∙ c.in_ok-heading.ensures
+    ∙ ap (λ (b : Bool). heading_text c.args.world.now (length c.args.parts.now) b) c.is_second-second.ensures
+    ∙ ap (λ (n : ℕ). heading_text c.args.world.now n (is_second c.args.world.now.rule.need plans))
+    (sym (length-map c.args.parts.now plan_of)))
     ∙ certificate_is c.args.world.now plans in
-    err_sent c.from_residual-in_err-put_text.result p.0 (g.W.Write.contents c.args.writer.now) (g.W.Write.contents c.put_text.new.writer) (string_bytes c.args.buffer.now) (string_bytes c.put_text.new.buffer)
+    err_sent c.from_residual-in_err-put_text.result p.0 (g.W.Write.contents c.args.writer.now)
+    (g.W.Write.contents c.put_text.new.writer) (string_bytes c.args.buffer.now) (string_bytes c.put_text.new.buffer)
     c.as_str.result.now body (certificate_text c.args.world.now plans) p.1 text c.in_err-put_text.ensures
 
 pub returns : goal.returns
 returns g c =
     let plans = plans_of c.args.parts.now in
     let body = body_text plans in
-    let text = ap (λ (l : List ℕ). l ++ body) (c.as_str.ensures.value ∙ c.in_ok-heading.ensures ∙ ap (λ (b : Bool). heading_text c.args.world.now (length c.args.parts.now) b) c.is_second-second.ensures
-    ∙ ap (λ (n : ℕ). heading_text c.args.world.now n (is_second c.args.world.now.rule.need plans)) (sym (length-map c.args.parts.now plan_of)))
+    let text = ap (λ (l : List ℕ). l ++ body) (c.as_str.ensures.value ∙ c.in_ok-heading.ensures
+    ∙ ap (λ (b : Bool). heading_text c.args.world.now (length c.args.parts.now) b) c.is_second-second.ensures
+    ∙ ap (λ (n : ℕ). heading_text c.args.world.now n (is_second c.args.world.now.rule.need plans))
+    (sym (length-map c.args.parts.now plan_of)))
     ∙ certificate_is c.args.world.now plans in
-    then_sent c.put_body.result (g.W.Write.contents c.args.writer.now) (g.W.Write.contents c.put_text.new.writer) (g.W.Write.contents c.put_body.new.writer)
+    then_sent c.put_body.result (g.W.Write.contents c.args.writer.now) (g.W.Write.contents c.put_text.new.writer)
+    (g.W.Write.contents c.put_body.new.writer)
     (string_bytes c.args.buffer.now) (string_bytes c.put_text.new.buffer) (string_bytes c.put_body.new.buffer)
     c.as_str.result.now body (certificate_text c.args.world.now plans) text c.in_ok-put_text.ensures c.put_body.ensures

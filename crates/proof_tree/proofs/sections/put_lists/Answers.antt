@@ -9,11 +9,16 @@ use Rattle.proof_tree.proofs.sections.put_lists.Goals as goal
 pub returns-in_err-put_cells : goal.returns-in_err-put_cells
 returns-in_err-put_cells g c =
     let p = err_from_is_err_and c.from_residual.result c.from_residual.ensures.1 in
-    err_sent c.from_residual.result p.0 (g.W.Write.contents c.args.writer.now) (g.W.Write.contents c.put_cells.new.writer) (string_bytes c.args.buffer.now) (string_bytes c.put_cells.new.buffer)
-    (cells_text (codes "D") c.args.cells.now) (proved_text c.args.torches.now (tree_of c.args.proof.now)) _ p.1 (lists_is c.args.cells.now c.args.torches.now (tree_of c.args.proof.now)) c.in_err-put_cells.ensures
+    err_sent c.from_residual.result p.0 (g.W.Write.contents c.args.writer.now)
+    (g.W.Write.contents c.put_cells.new.writer) (string_bytes c.args.buffer.now) (string_bytes c.put_cells.new.buffer)
+    (cells_text (codes "D") c.args.cells.now) (proved_text c.args.torches.now (tree_of c.args.proof.now)) _ p.1
+    (lists_is c.args.cells.now c.args.torches.now (tree_of c.args.proof.now)) c.in_err-put_cells.ensures
 
 pub returns : goal.returns
 returns g c =
-    then_sent c.put_proved.result (g.W.Write.contents c.args.writer.now) (g.W.Write.contents c.put_cells.new.writer) (g.W.Write.contents c.put_proved.new.writer)
+    then_sent c.put_proved.result (g.W.Write.contents c.args.writer.now) (g.W.Write.contents c.put_cells.new.writer)
+    (g.W.Write.contents c.put_proved.new.writer)
     (string_bytes c.args.buffer.now) (string_bytes c.put_cells.new.buffer) (string_bytes c.put_proved.new.buffer)
-    (cells_text (codes "D") c.args.cells.now) (proved_text c.args.torches.now (tree_of c.args.proof.now)) _ (lists_is c.args.cells.now c.args.torches.now (tree_of c.args.proof.now)) c.in_ok-put_cells.ensures c.put_proved.ensures
+    (cells_text (codes "D") c.args.cells.now) (proved_text c.args.torches.now (tree_of c.args.proof.now)) _
+    (lists_is c.args.cells.now c.args.torches.now (tree_of c.args.proof.now)) c.in_ok-put_cells.ensures
+    c.put_proved.ensures

@@ -11,11 +11,18 @@ use Rattle.proof_tree.proofs.sections.put_proved.Goals as goal
 pub returns-in_err-put_torches : goal.returns-in_err-put_torches
 returns-in_err-put_torches g c =
     let p = err_from_is_err_and c.from_residual.result c.from_residual.ensures.1 in
-    err_sent c.from_residual.result p.0 (g.W.Write.contents c.args.writer.now) (g.W.Write.contents c.put_torches.new.writer) (string_bytes c.args.buffer.now) (string_bytes c.put_torches.new.buffer)
-    (cells_text (codes "T") (in_order c.args.torches.now)) (tree_text (tree_of c.args.proof.now)) _ p.1 (proved_is c.args.torches.now (tree_of c.args.proof.now)) c.in_err-put_torches.ensures
+    err_sent c.from_residual.result p.0 (g.W.Write.contents c.args.writer.now)
+    (g.W.Write.contents c.put_torches.new.writer) (string_bytes c.args.buffer.now)
+    (string_bytes c.put_torches.new.buffer)
+    (cells_text (codes "T") (in_order c.args.torches.now))
+    (tree_text (tree_of c.args.proof.now)) _ p.1 (proved_is c.args.torches.now (tree_of c.args.proof.now))
+    c.in_err-put_torches.ensures
 
 pub returns : goal.returns
 returns g c =
-    then_sent c.put_tree.result (g.W.Write.contents c.args.writer.now) (g.W.Write.contents c.put_torches.new.writer) (g.W.Write.contents c.put_tree.new.writer)
+    then_sent c.put_tree.result (g.W.Write.contents c.args.writer.now) (g.W.Write.contents c.put_torches.new.writer)
+    (g.W.Write.contents c.put_tree.new.writer)
     (string_bytes c.args.buffer.now) (string_bytes c.put_torches.new.buffer) (string_bytes c.put_tree.new.buffer)
-    (cells_text (codes "T") (in_order c.args.torches.now)) (tree_text (tree_of c.args.proof.now)) _ (proved_is c.args.torches.now (tree_of c.args.proof.now)) c.in_ok-put_torches.ensures c.put_tree.ensures
+    (cells_text (codes "T") (in_order c.args.torches.now))
+    (tree_text (tree_of c.args.proof.now)) _ (proved_is c.args.torches.now (tree_of c.args.proof.now))
+    c.in_ok-put_torches.ensures c.put_tree.ensures

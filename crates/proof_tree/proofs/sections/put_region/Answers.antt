@@ -9,11 +9,18 @@ use Rattle.proof_tree.proofs.sections.put_region.Goals as goal
 pub returns-in_err-put_line : goal.returns-in_err-put_line
 returns-in_err-put_line g c =
     let p = err_from_is_err_and c.from_residual.result c.from_residual.ensures.1 in
-    err_sent c.from_residual.result p.0 (g.W.Write.contents c.args.writer.now) (g.W.Write.contents c.put_line.new.writer) (string_bytes c.args.buffer.now) (string_bytes c.put_line.new.buffer)
-    (cells_text (codes "region") (length c.args.cells.now ∷ length c.args.torches.now ∷ [])) (lists_text c.args.cells.now c.args.torches.now (tree_of c.args.proof.now)) _ p.1 (region_is c.args.cells.now c.args.torches.now (tree_of c.args.proof.now)) c.in_err-put_line.ensures
+    err_sent c.from_residual.result p.0 (g.W.Write.contents c.args.writer.now)
+    (g.W.Write.contents c.put_line.new.writer) (string_bytes c.args.buffer.now) (string_bytes c.put_line.new.buffer)
+    (cells_text (codes "region") (length c.args.cells.now ∷ length c.args.torches.now ∷ []))
+    (lists_text c.args.cells.now c.args.torches.now (tree_of c.args.proof.now)) _ p.1
+    (region_is c.args.cells.now c.args.torches.now (tree_of c.args.proof.now)) c.in_err-put_line.ensures
 
 pub returns : goal.returns
 returns g c =
-    then_sent c.put_lists.result (g.W.Write.contents c.args.writer.now) (g.W.Write.contents c.put_line.new.writer) (g.W.Write.contents c.put_lists.new.writer)
+    then_sent c.put_lists.result (g.W.Write.contents c.args.writer.now) (g.W.Write.contents c.put_line.new.writer)
+    (g.W.Write.contents c.put_lists.new.writer)
     (string_bytes c.args.buffer.now) (string_bytes c.put_line.new.buffer) (string_bytes c.put_lists.new.buffer)
-    (cells_text (codes "region") (length c.args.cells.now ∷ length c.args.torches.now ∷ [])) (lists_text c.args.cells.now c.args.torches.now (tree_of c.args.proof.now)) _ (region_is c.args.cells.now c.args.torches.now (tree_of c.args.proof.now)) c.in_ok-put_line.ensures c.put_lists.ensures
+    (cells_text (codes "region") (length c.args.cells.now ∷ length c.args.torches.now ∷ []))
+    (lists_text c.args.cells.now c.args.torches.now (tree_of c.args.proof.now)) _
+    (region_is c.args.cells.now c.args.torches.now (tree_of c.args.proof.now)) c.in_ok-put_line.ensures
+    c.put_lists.ensures

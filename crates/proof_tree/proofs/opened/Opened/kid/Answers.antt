@@ -10,7 +10,8 @@ overflow_cast-number c =
 
 pub one_kid-requires-clause-of_it : goal.one_kid-requires-clause-of_it
 one_kid-requires-clause-of_it c =
-    rw (c.piece.ensures.piece, c.requires.place) (legal c.args.self.now c.args.number c.piece.ensures.kept c.requires.inside)
+    rw (c.piece.ensures.piece, c.requires.place)
+    (legal c.args.self.now c.args.number c.piece.ensures.kept c.requires.inside)
 
 pub one_kid-requires-clause-before : goal.one_kid-requires-clause-before
 one_kid-requires-clause-before c =
