@@ -30,6 +30,24 @@ impl Read for Reading<'_> {
     }
 }
 
+/// Gives the same byte, one a call, for ever.
+#[derive(Drop)]
+struct Endless {
+    byte: u8,
+}
+
+impl Read for Endless {
+    fn read(&mut self, buf: &mut [u8]) -> Done<usize> {
+        match buf.first_mut() {
+            Some(first) => {
+                *first = self.byte;
+                Ok(1)
+            }
+            None => Ok(0),
+        }
+    }
+}
+
 const fn reader_of(rest: &[u8], fails_at: usize) -> Reading<'_> {
     Reading {
         rest,
@@ -131,6 +149,18 @@ fn a_read_that_fails_anywhere_is_told(rt: HostRuntime) -> Result<(), Fail> {
     }
     let ended = of_pillar(alloc, &structure, count.wrapping_add(1), 1000);
     assert!(rt; matches!(&ended, Ok(Verdict::Accepted { torches: 1 })));
+    Ok(())
+}
+
+#[test]
+fn a_reader_that_never_ends_is_given_up(rt: HostRuntime) -> Result<(), Fail> {
+    let alloc = rt.alloc();
+    let structure = caves::PILLAR.bytes(alloc)?;
+    for byte in [b'\n', b't'] {
+        let mut reader = Endless { byte };
+        let ended = check_from(alloc, &structure, None, rule(1), &mut reader, u64::MAX);
+        assert!(rt; matches!(&ended, Err(CheckFault::ReadFailed)));
+    }
     Ok(())
 }
 

@@ -4,6 +4,7 @@ ghost use Rattle.scan_core.specs.Box.{cell_count};
 
 mod build;
 mod hang;
+mod large;
 mod neighbours;
 mod spawn;
 

@@ -4,6 +4,7 @@ mod depth;
 mod faults;
 mod files;
 mod hostile;
+mod large;
 mod leaves;
 mod memory;
 mod names;

@@ -2,6 +2,7 @@
 mod boxes;
 mod caves;
 mod faults;
+mod large;
 mod memory;
 mod printed;
 mod properties;

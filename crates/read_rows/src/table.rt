@@ -1,4 +1,5 @@
 mod faults;
+mod large;
 mod refused;
 mod shipped;
 mod user;
