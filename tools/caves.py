@@ -10,12 +10,12 @@ def text(s):
     return struct.pack(">H", len(b)) + b
 
 
-def structure(size, state_of):
-    """A structure file with an entry for each cell."""
+def structure(size, state_of, names=NAMES):
+    """A structure file with an entry for each cell; a state is an index into the names."""
     x_side, y_side, z_side = size
     parts = [b"\x0a\x00\x00", b"\x09", text("size"), b"\x03\x00\x00\x00\x03", struct.pack(">3i", *size)]
-    parts += [b"\x09", text("palette"), b"\x0a", struct.pack(">i", len(NAMES))]
-    parts += [b"\x08" + text("Name") + text(name) + b"\x00" for name in NAMES]
+    parts += [b"\x09", text("palette"), b"\x0a", struct.pack(">i", len(names))]
+    parts += [b"\x08" + text("Name") + text(name) + b"\x00" for name in names]
     parts += [b"\x09", text("blocks"), b"\x0a", struct.pack(">i", x_side * y_side * z_side)]
     head, tail = b"\x09" + text("pos") + b"\x03\x00\x00\x00\x03", b"\x03" + text("state")
     for y in range(y_side):
@@ -56,6 +56,49 @@ def floors(size):
     x_side, y_side, z_side = size
     layers = [y for y in range(y_side) if y % 3 != 0 and y + y % 3 < y_side + 1]
     return {(x, y, z): AIR for y in layers for z in range(z_side) for x in range(x_side)}
+
+
+def mine(seed, size):
+    """A mine: corridors two high that cross, a room here and there, with torches along a third of the corridors."""
+    rng = random.Random(seed)
+    x_side, y_side, z_side = size
+    cells = {}
+
+    def dig(x, z):
+        if 0 < x < x_side - 1 and 0 < z < z_side - 1:
+            cells[x, 1, z] = cells[x, 2, z] = AIR
+
+    rows = list(range(4, z_side - 2, 8))
+    columns = list(range(4, x_side - 2, 8))
+    for z in rows:
+        for x in range(2, x_side - 2):
+            dig(x, z)
+    for x in columns:
+        for z in range(rng.choice(rows), rng.choice(rows) + 1):
+            dig(x, z)
+    for _ in range(x_side * z_side // 400):
+        cx, cz = rng.choice(columns), rng.choice(rows)
+        for x in range(cx - rng.randrange(2, 5), cx + rng.randrange(2, 5)):
+            for z in range(cz - rng.randrange(2, 5), cz + rng.randrange(2, 5)):
+                dig(x, z)
+    for z in rng.sample(rows, len(rows) // 3):
+        for x in range(6, x_side - 2, 12):
+            if cells.get((x, 1, z)) == AIR:
+                cells[x, 1, z] = TORCH
+    return cells
+def ring():
+    """A ring of 28 cells round an 8 x 8 square, two high, in a box of 10 x 4 x 10."""
+    return {(x, y, z): AIR for x in range(1, 9) for y in (1, 2) for z in range(1, 9) if x in (1, 8) or z in (1, 8)}
+
+
+def felt_ring():
+    """The file of the same ring in a block that the table beside it knows, with stone under three of its cells: three
+    places for a torch, of which two light all."""
+    state_of = lambda *at: AIR if at in ring() else STONE if at in {(1, 0, 1), (4, 0, 1), (8, 0, 1)} else len(NAMES)
+    return structure((10, 4, 10), state_of, [*NAMES, "cave:felt"])
+
+
+FELT_TABLE = b'[[row]]\nname = "cave:felt"\nopacity = 15\nstand = true\n'
 
 
 def file_of(cells, size):
