@@ -108,6 +108,30 @@ pub const EMPTY: Structure<'static> = Structure {
     more: &[],
 };
 
+/// A ring of 28 cells round a square, two high.
+pub const RING: Structure<'static> = Structure {
+    size: [10, 4, 10],
+    palette: &[STONE, AIR],
+    fills: &[
+        Fill {
+            from: [0, 0, 0],
+            to: [9, 3, 9],
+            state: Some(0),
+        },
+        Fill {
+            from: [1, 1, 1],
+            to: [8, 2, 8],
+            state: Some(1),
+        },
+        Fill {
+            from: [2, 1, 2],
+            to: [7, 2, 7],
+            state: Some(0),
+        },
+    ],
+    more: &[],
+};
+
 /// Two free cells over one of stone.
 pub const PILLAR: Structure<'static> = Structure {
     size: [1, 3, 1],

@@ -2,7 +2,11 @@
 #![tactic(auto)]
 
 #[cfg(test)]
+mod answering;
+#[cfg(test)]
 mod caves;
+#[cfg(test)]
+mod check_streams;
 #[cfg(test)]
 mod coverage;
 #[cfg(test)]
@@ -10,9 +14,21 @@ mod damaged;
 #[cfg(test)]
 mod dark;
 #[cfg(test)]
+mod failing;
+#[cfg(test)]
+mod headroom;
+#[cfg(test)]
+mod large_numbers;
+#[cfg(test)]
 mod light;
 #[cfg(test)]
+mod limits;
+#[cfg(test)]
+mod long_streams;
+#[cfg(test)]
 mod plan;
+#[cfg(test)]
+mod plan_streams;
 #[cfg(test)]
 mod planning;
 #[cfg(test)]
@@ -21,6 +37,8 @@ mod regions;
 mod rule;
 #[cfg(test)]
 mod running;
+#[cfg(test)]
+mod shelf;
 #[cfg(test)]
 mod streams;
 #[cfg(test)]

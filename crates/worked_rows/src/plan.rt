@@ -1,11 +1,11 @@
 //! The worked examples, by `plan`.
 
 use crate::caves::{
-    AIR, CORRIDOR_28, DUG, EMPTY, FELT, FELT_TABLE, PILLAR, ROCK, STAIRS, STONE, TORCH, block,
-    fill, gap, long_box, third_at,
+    AIR, CORRIDOR_28, DUG, EMPTY, FELT, FELT_TABLE, PILLAR, RING, ROCK, STAIRS, STONE, TORCH, fill,
+    gap, long_box, third_at,
 };
 use crate::planning::{alone, freely, is_accepted, lines_with, plan, plans, plans_so_many};
-use cave_files::{Fill, Structure};
+use cave_files::Structure;
 use std::test::Fail;
 use torch_plan::{Outcome, Rule};
 
@@ -56,24 +56,9 @@ fn plus_needs_four_torches_where_largest_first_takes_five(rt: HostRuntime) -> Re
     plans_so_many(&rt, rt.alloc(), &plus, None, [4, 57])
 }
 
-/// The fills of a ring of 28 cells.
-fn ring() -> [Fill; 3] {
-    [
-        fill([0, 0, 0], [9, 3, 9], 0),
-        fill([1, 1, 1], [8, 2, 8], 1),
-        fill([2, 1, 2], [7, 2, 7], 0),
-    ]
-}
-
 #[test]
 fn ring_needs_two_torches(rt: HostRuntime) -> Result<(), Fail> {
-    let ring = Structure {
-        size: [10, 4, 10],
-        palette: &[STONE, AIR],
-        fills: &ring(),
-        more: &[],
-    };
-    plans_so_many(&rt, rt.alloc(), &ring, None, [2, 28])
+    plans_so_many(&rt, rt.alloc(), &RING, None, [2, 28])
 }
 
 #[test]
@@ -224,13 +209,7 @@ fn before_1_18_the_corridor_needs_three_torches(rt: HostRuntime) -> Result<(), F
 #[test]
 fn one_turn_stops_the_ring_and_a_million_do_not(rt: HostRuntime) -> Result<(), Fail> {
     let alloc = rt.alloc();
-    let ring = Structure {
-        size: [10, 4, 10],
-        palette: &[block("minecraft:stone"), AIR],
-        fills: &ring(),
-        more: &[],
-    };
-    let bytes = ring.bytes(alloc)?;
+    let bytes = RING.bytes(alloc)?;
     let rule = Rule::new(2, 1);
     let stopped = plan(&rt, alloc, &bytes, None, &alone(&rt, rule, Some(1)))?;
     assert!(rt; stopped.outcome == Some(Outcome::Stopped));

@@ -49,7 +49,7 @@ fn faults_have_their_statuses(rt: HostRuntime) {
 }
 
 /// The words of a command line, parted by spaces.
-fn words_of(alloc: Global, line: &str) -> Result<Vec<String>, AllocError> {
+pub fn words_of(alloc: Global, line: &str) -> Result<Vec<String>, AllocError> {
     let mut words = Vec::new(alloc);
     for word in line.split(' ') {
         words.push(String::from_str(alloc, word)?)?;
@@ -93,6 +93,7 @@ fn plan_asks_for_no_proof_one_worker_and_all_turns_unless_told(
             turns: None,
         },
         proof: None,
+        progress: false,
     };
     assert!(rt; request_of(alloc, &plain)? == asked);
     let words =
@@ -107,6 +108,7 @@ fn plan_asks_for_no_proof_one_worker_and_all_turns_unless_told(
             turns: Some(1_000_000_000),
         },
         proof: Some("out.proof"),
+        progress: false,
     };
     assert!(rt; request_of(alloc, &told)? == asked);
     Ok(())

@@ -1,0 +1,144 @@
+//! Inputs at their limits and past them, a reader without end, and an input without bytes.
+
+use crate::caves::PILLAR;
+use crate::planning::freely;
+use nbt_core::NbtFault;
+use scan_core::ScanFault;
+use std::io::{Read, Result as Done};
+use std::test::Fail;
+use torch_plan::{Input, Open, Rule, RunFault, read_table, run_check, run_dark, run_plan};
+
+/// Gives so many zeros, as many a call as are asked for, and counts them.
+#[derive(Drop)]
+struct Zeros {
+    left: usize,
+    given: usize,
+}
+
+impl Read for Zeros {
+    fn read(&mut self, buf: &mut [u8]) -> Done<usize> {
+        let count = self.left.min(buf.len());
+        for byte in &mut buf[..count] {
+            *byte = 0;
+        }
+        self.left = self.left.wrapping_sub(count);
+        self.given = self.given.wrapping_add(count);
+        Ok(count)
+    }
+}
+
+/// So many zeros.
+const fn zeros_of(left: usize) -> Zeros {
+    Zeros { left, given: 0 }
+}
+
+/// The bytes that a structure file may have.
+const STRUCTURE_LIMIT: usize = 67_108_864;
+
+/// The bytes that a table may have.
+const TABLE_LIMIT: usize = 1_048_576;
+
+/// The bytes that are read at a time.
+const BUFFER: usize = 8_192;
+
+#[test]
+fn a_structure_of_the_limit_is_judged_and_one_byte_more_is_too_long(
+    rt: HostRuntime,
+) -> Result<(), Fail> {
+    let alloc = rt.alloc();
+    let rule = Rule::new(2, 1);
+    let mut written = Vec::new(alloc);
+    let ended = run_dark(
+        alloc,
+        &mut zeros_of(STRUCTURE_LIMIT),
+        None,
+        rule,
+        &mut written,
+    );
+    assert!(rt;
+        matches!(
+            &ended,
+            Err(RunFault::Scan(ScanFault::Nbt(NbtFault::NotCompound)))
+        )
+    );
+    let ended = run_dark(
+        alloc,
+        &mut zeros_of(STRUCTURE_LIMIT + 1),
+        None,
+        rule,
+        &mut written,
+    );
+    assert!(rt; matches!(&ended, Err(RunFault::TooLong(Input::StructureInput))));
+    assert!(rt; written.is_empty());
+    Ok(())
+}
+
+#[test]
+fn a_structure_that_is_too_long_is_neither_planned_nor_checked(
+    rt: HostRuntime,
+) -> Result<(), Fail> {
+    let alloc = rt.alloc();
+    let mut text = Vec::new(alloc);
+    let mut proof = Vec::new(alloc);
+    let ended = run_plan(
+        &rt,
+        alloc,
+        &mut zeros_of(STRUCTURE_LIMIT + 1),
+        None,
+        &freely(&rt),
+        &Open,
+        &mut text,
+        &mut proof,
+    );
+    assert!(rt; matches!(&ended, Err(RunFault::TooLong(Input::StructureInput))));
+    assert!(rt; proof.is_empty());
+    let ended = run_check(
+        alloc,
+        &mut zeros_of(STRUCTURE_LIMIT + 1),
+        None,
+        Rule::new(2, 1),
+        &mut zeros_of(usize::MAX),
+        &mut text,
+    );
+    assert!(rt; matches!(&ended, Err(RunFault::TooLong(Input::StructureInput))));
+    assert!(rt; text.is_empty());
+    Ok(())
+}
+
+#[test]
+fn a_reader_without_end_is_left_one_buffer_past_the_limit(rt: HostRuntime) -> Result<(), Fail> {
+    let alloc = rt.alloc();
+    let mut reader = zeros_of(usize::MAX);
+    let mut written = Vec::new(alloc);
+    let ended = run_dark(alloc, &mut reader, None, Rule::new(2, 1), &mut written);
+    assert!(rt; matches!(&ended, Err(RunFault::TooLong(Input::StructureInput))));
+    assert!(rt; STRUCTURE_LIMIT < reader.given);
+    assert!(rt; reader.given <= STRUCTURE_LIMIT + BUFFER);
+    assert!(rt; written.is_empty());
+    let mut reader = zeros_of(usize::MAX);
+    let ended = read_table(alloc, &mut reader);
+    assert!(rt; matches!(&ended, Err(RunFault::TooLong(Input::TableInput))));
+    assert!(rt; TABLE_LIMIT < reader.given);
+    assert!(rt; reader.given <= TABLE_LIMIT + BUFFER);
+    Ok(())
+}
+
+#[test]
+fn an_empty_table_file_is_a_table_without_rows(rt: HostRuntime) -> Result<(), Fail> {
+    let alloc = rt.alloc();
+    let table = read_table(alloc, &mut zeros_of(0))?;
+    assert!(rt; table.is_empty());
+    let bytes = PILLAR.bytes(alloc)?;
+    let mut reader = bytes.as_slice();
+    let mut written = Vec::new(alloc);
+    let ended = run_dark(
+        alloc,
+        &mut reader,
+        Some(&table),
+        Rule::new(2, 1),
+        &mut written,
+    );
+    assert!(rt; ended.is_ok());
+    assert_eq!(rt; written.as_slice(), b"dark 1\n0 1 0\n".as_slice());
+    Ok(())
+}
