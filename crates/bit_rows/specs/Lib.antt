@@ -1,2 +1,3 @@
+-- public clauses cite
 pub mod Bits
 pub mod Counts

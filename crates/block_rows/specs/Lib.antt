@@ -1,9 +1,10 @@
+-- public clauses cite
 pub mod Class
 pub mod Rows
 pub mod Shipped
-pub mod Lines
 pub mod Columns
 pub mod UserTable
-pub mod Judging
-pub mod Answer
 pub mod Texts
+-- private
+pub mod Lines
+pub mod Judging

@@ -12,8 +12,8 @@ pub record Table : Type 0 where
   pub shipped : List Row
 
 -- a row for whatever no other row names
-abbrev pub is_joker : Row → Bool
-is_joker row = bytes_eq row.name (codes "*")
+abbrev pub is_wildcard : Row → Bool
+is_wildcard row = bytes_eq row.name (codes "*")
 
 -- the state has this property with this value
 abbrev pub has_prop : BlockState → (List ℕ × List ℕ) → Bool
@@ -25,15 +25,16 @@ conditions_hold state row = list_all (has_prop state) row.when
 
 -- the row fits by its name
 abbrev pub fits : BlockState → Row → Bool
-fits state row = not (is_joker row) && bytes_eq row.name state.name && conditions_hold state row
+fits state row = not (is_wildcard row) && bytes_eq row.name state.name && conditions_hold state row
 
 -- the row fits whatever the name
-abbrev pub fits_as_joker : BlockState → Row → Bool
-fits_as_joker state row = is_joker row && conditions_hold state row
+abbrev pub fits_as_wildcard : BlockState → Row → Bool
+fits_as_wildcard state row = is_wildcard row && conditions_hold state row
 
 -- the first row that fits by its name, else the first of the user's that fits whatever the name
 abbrev pub row_of : Table → BlockState → Option Row
-row_of table state = option_or (find (fits state) (table.user ++ table.shipped)) (find (fits_as_joker state) table.user)
+row_of table state =
+    option_or (find (fits state) (table.user ++ table.shipped)) (find (fits_as_wildcard state) table.user)
 
 -- each of the rows has a sound class
 abbrev pub AreSoundRows : List Row → Type 0

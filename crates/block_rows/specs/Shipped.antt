@@ -1,5 +1,5 @@
 -- The shipped rows, block by block, in their order. Every entry is this project's own.
-use Rattle.std.specs.Prelude.{◌≡◌, ◌≢◌, ℕ, Bool, true, false, List, [], ◌∷◌, ◌++◌, map, codes, AllPairs}
+use Rattle.std.specs.Prelude.{◌≡◌, ◌≢◌, ℕ, true, false, List, [], ◌∷◌, ◌++◌, map, codes, AllPairs}
 use Rattle.block_rows.specs.declared.row.Row.{Row}
 use Rattle.block_rows.specs.declared.class.Class.{Class}
 
@@ -8,10 +8,73 @@ abbrev pub rows_named : List (List ℕ) → List (List ℕ × List ℕ) → Clas
 rows_named names when class =
     map (λ name. record { name = codes "minecraft:" ++ name; when = when; class = class }) names
 
--- a class by its columns: opacity, emission, free, stand, put, top, side
-abbrev pub columns : ℕ → ℕ → Bool → Bool → Bool → Bool → Bool → Class
-columns opacity emission free stand put top side =
-    record { opacity = opacity; emission = emission; free = free; stand = stand; put = put; top = top; side = side }
+-- a class of which no more is said than its opacity and its emission
+abbrev pub plain : ℕ → ℕ → Class
+plain opacity emission = record {
+  opacity = opacity;
+  emission = emission;
+  free = false;
+  stand = false;
+  put = false;
+  top = false;
+  side = false;
+}
+
+-- a class with one more of its columns set
+abbrev pub with_free : Class → Class
+with_free class = record {
+  opacity = class.opacity;
+  emission = class.emission;
+  free = true;
+  stand = class.stand;
+  put = class.put;
+  top = class.top;
+  side = class.side;
+}
+
+abbrev pub with_stand : Class → Class
+with_stand class = record {
+  opacity = class.opacity;
+  emission = class.emission;
+  free = class.free;
+  stand = true;
+  put = class.put;
+  top = class.top;
+  side = class.side;
+}
+
+abbrev pub with_put : Class → Class
+with_put class = record {
+  opacity = class.opacity;
+  emission = class.emission;
+  free = class.free;
+  stand = class.stand;
+  put = true;
+  top = class.top;
+  side = class.side;
+}
+
+abbrev pub with_top : Class → Class
+with_top class = record {
+  opacity = class.opacity;
+  emission = class.emission;
+  free = class.free;
+  stand = class.stand;
+  put = class.put;
+  top = true;
+  side = class.side;
+}
+
+abbrev pub with_side : Class → Class
+with_side class = record {
+  opacity = class.opacity;
+  emission = class.emission;
+  free = class.free;
+  stand = class.stand;
+  put = class.put;
+  top = class.top;
+  side = true;
+}
 
 -- the blocks that fill their cell, give no light, and hold whatever stands on them or hangs on their sides
 abbrev pub full_blocks : List (List ℕ)
@@ -32,25 +95,25 @@ full_blocks = codes "stone" ∷ codes "granite" ∷ codes "diorite" ∷ codes "a
 -- the rows; a redstone lamp asks for `lit` in the first of its two
 unfoldable pub shipped_rows : List Row
 shipped_rows =
-    rows_named (codes "air" ∷ codes "cave_air" ∷ codes "void_air" ∷ []) [] (columns 0 0 true false true false false)
-    ++ rows_named full_blocks [] (columns 15 0 false true false true true)
-    ++ rows_named (codes "bedrock" ∷ []) [] (columns 15 0 false false false true true)
-    ++ rows_named (codes "glass" ∷ []) [] (columns 0 0 false false false true true)
-    ++ rows_named (codes "water" ∷ []) [] (columns 1 0 false false false false false)
-    ++ rows_named (codes "lava" ∷ []) [] (columns 1 15 false false false false false)
-    ++ rows_named (codes "torch" ∷ codes "wall_torch" ∷ []) [] (columns 0 14 true false false false false)
-    ++ rows_named (codes "soul_torch" ∷ codes "soul_wall_torch" ∷ []) [] (columns 0 10 true false false false false)
-    ++ rows_named (codes "lantern" ∷ []) [] (columns 0 15 false false false false false)
-    ++ rows_named (codes "soul_lantern" ∷ []) [] (columns 0 10 false false false false false)
+    rows_named (codes "air" ∷ codes "cave_air" ∷ codes "void_air" ∷ []) [] (with_put (with_free (plain 0 0)))
+    ++ rows_named full_blocks [] (with_side (with_top (with_stand (plain 15 0))))
+    ++ rows_named (codes "bedrock" ∷ []) [] (with_side (with_top (plain 15 0)))
+    ++ rows_named (codes "glass" ∷ []) [] (with_side (with_top (plain 0 0)))
+    ++ rows_named (codes "water" ∷ []) [] (plain 1 0)
+    ++ rows_named (codes "lava" ∷ []) [] (plain 1 15)
+    ++ rows_named (codes "torch" ∷ codes "wall_torch" ∷ []) [] (with_free (plain 0 14))
+    ++ rows_named (codes "soul_torch" ∷ codes "soul_wall_torch" ∷ []) [] (with_free (plain 0 10))
+    ++ rows_named (codes "lantern" ∷ []) [] (plain 0 15)
+    ++ rows_named (codes "soul_lantern" ∷ []) [] (plain 0 10)
     ++ rows_named (codes "glowstone" ∷ codes "sea_lantern" ∷ codes "shroomlight" ∷ []) []
-    (columns 15 15 false false false true true)
-    ++ rows_named (codes "magma_block" ∷ []) [] (columns 15 3 false false false true true)
-    ++ rows_named (codes "jack_o_lantern" ∷ []) [] (columns 15 15 false true false true true)
+    (with_side (with_top (plain 15 15)))
+    ++ rows_named (codes "magma_block" ∷ []) [] (with_side (with_top (plain 15 3)))
+    ++ rows_named (codes "jack_o_lantern" ∷ []) [] (with_side (with_top (with_stand (plain 15 15))))
     ++ rows_named (codes "redstone_lamp" ∷ []) ((codes "lit", codes "true") ∷ [])
-    (columns 15 15 false true false true true)
-    ++ rows_named (codes "redstone_lamp" ∷ []) [] (columns 15 0 false true false true true)
+    (with_side (with_top (with_stand (plain 15 15))))
+    ++ rows_named (codes "redstone_lamp" ∷ []) [] (with_side (with_top (with_stand (plain 15 0))))
     ++ rows_named (codes "rail" ∷ codes "powered_rail" ∷ codes "detector_rail" ∷ codes "activator_rail" ∷ []) []
-    (columns 0 0 false false false false false)
+    (plain 0 0)
 
 -- rows of one name differ in what they ask for
 abbrev pub AreDistinctRows : List Row → Type 0

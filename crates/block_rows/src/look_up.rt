@@ -6,8 +6,8 @@ use nbt_core::Sequence;
 use scan_core::BlockState;
 
 /// The row is named `*`.
-fn is_joker(row: &Row) -> bool
-    ensures { result ≡ look_up.is_joker row.now }
+fn is_wildcard(row: &Row) -> bool
+    ensures { result ≡ look_up.is_wildcard row.now }
 {
     row.name.as_slice() == b"*".as_slice()
 }
@@ -34,14 +34,14 @@ fn conditions_hold(state: &BlockState, row: &Row) -> bool
 fn fits(row: &Row, state: &BlockState) -> bool
     ensures { result ≡ look_up.fits state.now row.now }
 {
-    !is_joker(row) && row.name.as_slice() == state.name.as_slice() && conditions_hold(state, row)
+    !is_wildcard(row) && row.name.as_slice() == state.name.as_slice() && conditions_hold(state, row)
 }
 
 /// The row fits whatever the name.
-fn fits_as_joker(row: &Row, state: &BlockState) -> bool
-    ensures { result ≡ look_up.fits_as_joker state.now row.now }
+fn fits_as_wildcard(row: &Row, state: &BlockState) -> bool
+    ensures { result ≡ look_up.fits_as_wildcard state.now row.now }
 {
-    is_joker(row) && conditions_hold(state, row)
+    is_wildcard(row) && conditions_hold(state, row)
 }
 
 /// The first row that fits by its name.
@@ -52,8 +52,8 @@ pub(crate) fn first_by_name<'a>(rows: &'a [Row], state: &BlockState) -> Option<&
 }
 
 /// The first row that fits whatever the name.
-pub(crate) fn first_joker<'a>(rows: &'a [Row], state: &BlockState) -> Option<&'a Row>
-    ensures { option_copied result ≡ find (look_up.fits_as_joker state.now) rows.now }
+pub(crate) fn first_wildcard<'a>(rows: &'a [Row], state: &BlockState) -> Option<&'a Row>
+    ensures { option_copied result ≡ find (look_up.fits_as_wildcard state.now) rows.now }
 {
-    rows.iter().find(|row| fits_as_joker(row, state))
+    rows.iter().find(|row| fits_as_wildcard(row, state))
 }

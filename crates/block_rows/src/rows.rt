@@ -1,5 +1,5 @@
 ghost use Rattle.std.specs.Prelude.{◌≡◌, ◌≢◌, [], IfErr, IfOk, IfSome, option_copied};
-ghost use Rattle.block_rows.specs.Answer.{IsAnswer, IsRefusal};
+ghost use Rattle.nbt_core.specs.Answer.{IsAnswer, IsRefusal};
 ghost use Rattle.block_rows.specs.Class.{IsSoundClass};
 ghost use Rattle.block_rows.specs.Rows.{Table, row_of};
 ghost use Rattle.block_rows.specs.Shipped.{shipped_rows};
@@ -7,7 +7,7 @@ ghost use Rattle.block_rows.specs.UserTable.{IsFaultOf, IsTableOf};
 ghost use Rattle.block_rows.specs.declared.fault.RowsFault.{RowsFault};
 
 use crate::fault::RowsFault;
-use crate::look_up::{first_by_name, first_joker};
+use crate::look_up::{first_by_name, first_wildcard};
 use crate::row::Row;
 use crate::shipped::shipped_table;
 use crate::user::{document, document_rows};
@@ -53,11 +53,12 @@ impl Rows {
         // What is made is the table of the text.
         ensures found { IfOk result (IsTableOf text.now) }
         // Such a table is made.
-        ensures only { (table : Table) → IsTableOf text.now table → IsAnswer result table }
+        ensures only { (table : Table) → IsTableOf text.now table
+            → IsAnswer RowsFault.OutOfMemory result (λ rows. rows ≡ table) }
         // A fault is the first one.
         ensures fault { IfErr result (λ e. e ≢ RowsFault.OutOfMemory → IsFaultOf text.now e) }
         // Such a fault is answered.
-        ensures refused { (e : RowsFault) → IsFaultOf text.now e → IsRefusal result e }
+        ensures refused { (e : RowsFault) → IsFaultOf text.now e → IsRefusal RowsFault.OutOfMemory result e }
     {
         let document = document(alloc, text)?;
         let user = document_rows(alloc, &document)?;
@@ -80,6 +81,6 @@ impl Rows {
         if let Some(row) = first_by_name(&self.shipped, state) {
             return Some(row);
         }
-        first_joker(&self.user, state)
+        first_wildcard(&self.user, state)
     }
 }

@@ -41,12 +41,11 @@ fn conditions(
 fn push_line(alloc: Global, rows: &mut Vec<Row>, line: &Line) -> Result<(), AllocError>
     ensures { OnOk result (rows.new.items ≡ rows.old.items ++ rows_in (line_of line.now)) }
 {
-    let (names, when, class) = *line;
-    for name in names {
+    for name in line.names {
         let row = Row {
             name: whole_name(alloc, name)?,
-            when: conditions(alloc, when)?,
-            class,
+            when: conditions(alloc, line.when)?,
+            class: line.class,
         };
         rows.push(row)?;
     }

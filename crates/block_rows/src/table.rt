@@ -84,40 +84,46 @@ pub const FULL_BLOCKS: &[&str] = &[
 ];
 
 /// A line of the table: the names of its blocks, the properties that it asks for, each with its value, and the class.
-pub type Line<'a> = (&'a [&'a str], &'a [(&'a str, &'a str)], Class);
+#[derive(Clone, Copy)]
+pub struct Line<'a> {
+    pub names: &'a [&'a str],
+    pub when: &'a [(&'a str, &'a str)],
+    pub class: Class,
+}
+
+/// A line that asks for no property.
+macro_rules! line {
+    ($names:expr, $class:expr) => {
+        Line { names: $names, when: &[], class: $class }
+    };
+}
 
 /// The table, line by line. The class has the opacity, the emission and the columns that are yes.
 pub const LINES: &[Line<'static>] = &[
-    (
-        &["air", "cave_air", "void_air"],
-        &[],
-        class!(0, 0, free, put),
-    ),
-    (FULL_BLOCKS, &[], class!(15, 0, stand, top, side)),
-    (&["bedrock"], &[], class!(15, 0, top, side)),
-    (&["glass"], &[], class!(0, 0, top, side)),
-    (&["water"], &[], class!(1, 0)),
-    (&["lava"], &[], class!(1, 15)),
-    (&["torch", "wall_torch"], &[], class!(0, 14, free)),
-    (&["soul_torch", "soul_wall_torch"], &[], class!(0, 10, free)),
-    (&["lantern"], &[], class!(0, 15)),
-    (&["soul_lantern"], &[], class!(0, 10)),
-    (
+    line!(&["air", "cave_air", "void_air"], class!(0, 0, free, put)),
+    line!(FULL_BLOCKS, class!(15, 0, stand, top, side)),
+    line!(&["bedrock"], class!(15, 0, top, side)),
+    line!(&["glass"], class!(0, 0, top, side)),
+    line!(&["water"], class!(1, 0)),
+    line!(&["lava"], class!(1, 15)),
+    line!(&["torch", "wall_torch"], class!(0, 14, free)),
+    line!(&["soul_torch", "soul_wall_torch"], class!(0, 10, free)),
+    line!(&["lantern"], class!(0, 15)),
+    line!(&["soul_lantern"], class!(0, 10)),
+    line!(
         &["glowstone", "sea_lantern", "shroomlight"],
-        &[],
-        class!(15, 15, top, side),
+        class!(15, 15, top, side)
     ),
-    (&["magma_block"], &[], class!(15, 3, top, side)),
-    (&["jack_o_lantern"], &[], class!(15, 15, stand, top, side)),
-    (
-        &["redstone_lamp"],
-        &[("lit", "true")],
-        class!(15, 15, stand, top, side),
-    ),
-    (&["redstone_lamp"], &[], class!(15, 0, stand, top, side)),
-    (
+    line!(&["magma_block"], class!(15, 3, top, side)),
+    line!(&["jack_o_lantern"], class!(15, 15, stand, top, side)),
+    Line {
+        names: &["redstone_lamp"],
+        when: &[("lit", "true")],
+        class: class!(15, 15, stand, top, side),
+    },
+    line!(&["redstone_lamp"], class!(15, 0, stand, top, side)),
+    line!(
         &["rail", "powered_rail", "detector_rail", "activator_rail"],
-        &[],
-        class!(0, 0),
+        class!(0, 0)
     ),
 ];

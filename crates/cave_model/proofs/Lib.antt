@@ -4,4 +4,5 @@ pub mod TorchLemmas
 pub mod StateLemmas
 pub mod CaveLemmas
 pub mod ListingLemmas
+pub mod PlaceLemmas
 pub mod ReadLemmas

@@ -1,6 +1,6 @@
 -- The cave that the bytes of a structure and a user's table tell, or why they tell none.
 -- That the structure is judged first, then the table, then the blocks, is this project's own.
-use Rattle.std.specs.Prelude.{◌≡◌, ◌⊎◌, ℕ, List, [], Option, Some, None, Result, MatchResult}
+use Rattle.std.specs.Prelude.{◌≡◌, ◌⊎◌, ℕ, List, [], Option, Some, None}
 use Rattle.scan_core.specs.Scan.{Structure, Scans}
 use Rattle.scan_core.specs.Faults as structure
 use Rattle.scan_core.specs.declared.fault.ScanFault.{ScanFault}
@@ -50,11 +50,3 @@ IsUnknownIn scan table fault = (rows : Table) × IsTableFor table rows
 abbrev pub IsFaultOfBytes : List ℕ → Option (List ℕ) → CaveFault → Type 0
 IsFaultOfBytes bytes table fault = IsNoStructure bytes fault
     ⊎ ((scan : Structure) × Scans bytes scan × (IsNoTable table fault ⊎ IsUnknownIn scan table fault))
-
--- the value, unless memory ran out
-abbrev pub IsCaveAnswer : {X : Type 0} → Result X CaveFault → X → Type 0
-IsCaveAnswer r x = MatchResult r (λ y. y ≡ x) (λ e. e ≡ faults.OutOfMemory)
-
--- the fault, unless memory ran out
-abbrev pub IsCaveRefusal : {X : Type 0} → Result X CaveFault → CaveFault → Type 0
-IsCaveRefusal r fault = MatchResult r (λ _. ⊥) (λ e. (e ≡ fault) ⊎ (e ≡ faults.OutOfMemory))

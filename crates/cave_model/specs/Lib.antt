@@ -15,7 +15,6 @@ pub mod Coverage
 pub mod Regions
 pub mod Bytes
 pub mod Merging
-pub mod Answer
 pub mod Texts
 -- private
 pub mod Faces

@@ -1,5 +1,5 @@
 ghost use Rattle.std.specs.Prelude.{◌≡◌, ◌≢◌, ◌<◌, IfOk, IfErr, IfSome, All, length, map};
-ghost use Rattle.cave_model.specs.Answer.{IsAnswer, IsRefusal};
+ghost use Rattle.nbt_core.specs.Answer.{IsAnswer, IsRefusal};
 ghost use Rattle.cave_model.specs.Building.{AreClassesOf, AreUsed, class_by};
 ghost use Rattle.cave_model.specs.Cave.{Cave};
 ghost use Rattle.cave_model.specs.RuleOf.{rule_of};
@@ -95,11 +95,13 @@ pub fn build(alloc: Global, scan: &Scan, rows: &Rows, rule: Rule) -> Result<Worl
     // What is built is the cave of the structure.
     ensures found { IfOk result (IsCaveOf scan.now rows.now (rule_of rule)) }
     // Such a cave is built.
-    ensures only { (cave : Cave) → IsCaveOf scan.now rows.now (rule_of rule) cave → IsAnswer result cave }
+    ensures only { (cave : Cave) → IsCaveOf scan.now rows.now (rule_of rule) cave
+        → IsAnswer BuildFault.OutOfMemory result (λ x. x ≡ cave) }
     // A fault names the least index that a cell names and no row fits.
     ensures fault { IfErr result (λ e. e ≢ BuildFault.OutOfMemory → IsUnknownBlock scan.now rows.now e) }
     // Such a fault is answered.
-    ensures refused { (e : BuildFault) → IsUnknownBlock scan.now rows.now e → IsRefusal result e }
+    ensures refused { (e : BuildFault) → IsUnknownBlock scan.now rows.now e
+        → IsRefusal BuildFault.OutOfMemory result e }
 {
     let cells = scan.cells();
     let used = used_states(alloc, scan)?;

@@ -6,6 +6,9 @@ use crate::face::Face;
 use crate::world::World;
 use scan_core::Cell;
 
+/// The light that a torch gives (Minecraft Wiki, "Torch").
+pub const TORCH_LIGHT: u8 = 14;
+
 /// How a torch is held: it stands on the floor, or faces this way on a wall, hanging on the block behind it
 /// (Minecraft Wiki, "Torch").
 #[derive(Clone, Copy, Debug, PartialEq, Eq)]

@@ -18,7 +18,7 @@ pub use block_rows::Class;
 pub use building::build;
 pub use cave_fault::CaveFault;
 pub use fault::BuildFault;
-pub use hang::Hang;
+pub use hang::{Hang, TORCH_LIGHT};
 pub use reading::read_cave;
 pub use rule::Rule;
 pub use std::alloc::AllocError as OutOfMemory;

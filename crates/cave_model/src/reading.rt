@@ -1,8 +1,8 @@
-ghost use Rattle.std.specs.Prelude.{◌≢◌, IfOk, IfErr, option_copied};
-ghost use Rattle.block_rows.specs.Answer as table_rows;
+ghost use Rattle.std.specs.Prelude.{◌≡◌, ◌≢◌, IfOk, IfErr, option_copied};
 ghost use Rattle.block_rows.specs.Rows.{Table};
 ghost use Rattle.block_rows.specs.declared.fault.RowsFault.{RowsFault};
-ghost use Rattle.cave_model.specs.Bytes.{IsCaveAnswer, IsCaveOfBytes, IsCaveRefusal, IsFaultOfBytes};
+ghost use Rattle.nbt_core.specs.Answer.{IsAnswer, IsRefusal};
+ghost use Rattle.cave_model.specs.Bytes.{IsCaveOfBytes, IsFaultOfBytes};
 ghost use Rattle.cave_model.specs.Bytes.{IsTableFault, IsTableFor};
 ghost use Rattle.cave_model.specs.Cave.{Cave};
 ghost use Rattle.cave_model.specs.RuleOf.{rule_of};
@@ -19,9 +19,11 @@ use std::alloc::Global;
 /// The rows of the user's table, where there is one, before the shipped ones.
 fn rows_for(alloc: Global, table: Option<&[u8]>) -> Result<Rows, RowsFault>
     ensures found { IfOk result (IsTableFor (option_copied table.entry)) }
-    ensures only { (rows : Table) → IsTableFor (option_copied table.entry) rows → table_rows.IsAnswer result rows }
+    ensures only { (rows : Table) → IsTableFor (option_copied table.entry) rows
+        → IsAnswer RowsFault.OutOfMemory result (λ x. x ≡ rows) }
     ensures fault { IfErr result (λ e. e ≢ RowsFault.OutOfMemory → IsTableFault (option_copied table.entry) e) }
-    ensures refused { (e : RowsFault) → IsTableFault (option_copied table.entry) e → table_rows.IsRefusal result e }
+    ensures refused { (e : RowsFault) → IsTableFault (option_copied table.entry) e
+        → IsRefusal RowsFault.OutOfMemory result e }
 {
     match table {
         Some(text) => Rows::with_table(alloc, text),
@@ -41,13 +43,13 @@ pub fn read_cave(
     ensures found { IfOk result (IsCaveOfBytes structure.now (option_copied table.entry) (rule_of rule)) }
     // Such a cave is answered.
     ensures only { (cave : Cave) → IsCaveOfBytes structure.now (option_copied table.entry) (rule_of rule) cave
-        → IsCaveAnswer result cave }
+        → IsAnswer CaveFault.OutOfMemory result (λ x. x ≡ cave) }
     // A fault is the first of the bytes.
     ensures fault { IfErr result (λ e. e ≢ CaveFault.OutOfMemory
         → IsFaultOfBytes structure.now (option_copied table.entry) e) }
     // Such a fault is answered.
     ensures refused { (e : CaveFault) → IsFaultOfBytes structure.now (option_copied table.entry) e
-        → IsCaveRefusal result e }
+        → IsRefusal CaveFault.OutOfMemory result e }
 {
     let scan = read_scan(alloc, structure)?;
     let rows = rows_for(alloc, table)?;

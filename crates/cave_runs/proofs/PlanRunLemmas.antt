@@ -7,7 +7,7 @@ use Rattle.std.proofs.KnownBytes.{Keeps-refl}
 use Rattle.std.proofs.lemmas.List.{append-nil}
 use Rattle.scan_core.specs.Box.{Point, point, coordinates}
 use Rattle.cave_model.specs.Bytes as caves
-use Rattle.cave_model.specs.Bytes.{IsCaveOfBytes, IsCaveAnswer}
+use Rattle.cave_model.specs.Bytes.{IsCaveOfBytes}
 use Rattle.cave_model.specs.Cave.{Cave}
 use Rattle.cave_model.specs.Listing.{Lists}
 use Rattle.cave_model.specs.Rule.{Rule}

@@ -82,7 +82,7 @@ pub record BeginsPlan (bytes : List ℕ) (table : Option (List ℕ)) (rule : Rul
   pub told : IsCaveOfBytes bytes table rule cave
   pub begins : Begins cave turns old new proof_old proof_new
 
--- a failed write leaves a beginning of each; want of memory one of the certificate alone; any other fault nothing
+-- a failed write leaves a beginning of each; refused memory one of the certificate alone; any other fault nothing
 abbrev pub Leaves : RunFault → Option (List ℕ) → Option (List ℕ) → Rule → Option ℕ → Option (List ℕ)
     → Option (List ℕ) → Option (List ℕ) → Option (List ℕ) → Type 0
 Leaves faults.WriteFailed known table rule turns old new proof_old proof_new =

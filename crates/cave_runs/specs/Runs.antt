@@ -32,10 +32,6 @@ IsFaultOfInput bytes table fault = ((structure_limit < length bytes) × (fault �
 abbrev pub IsOfInput : RunFault → Type 0
 IsOfInput fault = (fault ≢ faults.ReadFailed) × (fault ≢ faults.WriteFailed) × (fault ≢ faults.OutOfMemory)
 
--- the fault is answered, unless memory ran out
-abbrev pub IsRefusal : {X : Type 0} → Result X RunFault → RunFault → Type 0
-IsRefusal r fault = MatchResult r (λ _. ⊥) (λ e. (e ≡ fault) ⊎ (e ≡ faults.OutOfMemory))
-
 -- the fault is answered, unless a read failed or memory ran out
 abbrev pub IsRefusedRun : {X : Type 0} → Result X RunFault → RunFault → Type 0
 IsRefusedRun r fault = MatchResult r (λ _. ⊥) (λ e. (e ≡ fault) ⊎ (e ≡ faults.ReadFailed) ⊎ (e ≡ faults.OutOfMemory))

@@ -1,11 +1,12 @@
 ghost use Rattle.std.specs.Prelude.{◌≡◌, ◌≢◌, IfOk, IfErr, IfSome, OnOk, option_copied, string_bytes};
 ghost use Rattle.std.specs.Io.KnownBytes.{Keeps};
+ghost use Rattle.nbt_core.specs.Answer.{IsRefusal};
 ghost use Rattle.cave_model.specs.RuleOf.{rule_of};
 ghost use Rattle.cave_runs.specs.DarkText.{IsDarkText};
 ghost use Rattle.cave_runs.specs.Limits.{structure_limit};
 ghost use Rattle.cave_runs.specs.Reading.{GivesAtMost};
 ghost use Rattle.cave_runs.specs.Runs.{BeginsDark, IsDarkTextOf, IsFaultOfBytes, IsFaultOfInput, IsOfInput};
-ghost use Rattle.cave_runs.specs.Runs.{IsRefusal, IsRefusedRun, WritesDark};
+ghost use Rattle.cave_runs.specs.Runs.{IsRefusedRun, WritesDark};
 ghost use Rattle.cave_runs.specs.declared.fault.RunFault.{RunFault};
 
 use crate::fault::{Input, RunFault};
@@ -39,7 +40,8 @@ fn text_of(
         IsDarkTextOf bytes.now (option_copied table.entry) (rule_of rule) (string_bytes s)) }
     ensures fault { IfErr result (λ e. e ≢ RunFault.OutOfMemory
         → IsFaultOfBytes bytes.now (option_copied table.entry) e) }
-    ensures refused { (e : RunFault) → IsFaultOfBytes bytes.now (option_copied table.entry) e → IsRefusal result e }
+    ensures refused { (e : RunFault) → IsFaultOfBytes bytes.now (option_copied table.entry) e
+        → IsRefusal RunFault.OutOfMemory result e }
 {
     let world = read_cave(alloc, bytes, table, rule)?;
     let text = world_text(alloc, &world)?;

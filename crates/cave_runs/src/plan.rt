@@ -1,5 +1,6 @@
 //! The plan of a structure, from the bytes read to the bytes written.
 ghost use Rattle.std.specs.Prelude.{◌≡◌, ◌≢◌, ◌<◌, IfOk, IfErr, IfSome, OnOk, option_copied, string_bytes};
+ghost use Rattle.nbt_core.specs.Answer.{IsRefusal};
 ghost use Rattle.cave_model.specs.RuleOf.{rule_of};
 ghost use Rattle.cave_plan.specs.Outline.{IsOutlineOf, IsPlanned};
 ghost use Rattle.proof_tree.specs.PlanOf.{plans_of};
@@ -7,7 +8,7 @@ ghost use Rattle.cave_runs.specs.Limits.{structure_limit};
 ghost use Rattle.cave_runs.specs.PlanRuns.{EndsIn, IsNoPlan, IsNoPlanOfInput, IsUnlit, Leaves};
 ghost use Rattle.cave_runs.specs.PlanRuns.{LeavesIn, LeavesProved, Plans, Tells, WritesBest};
 ghost use Rattle.cave_runs.specs.Reading.{GivesAtMost};
-ghost use Rattle.cave_runs.specs.Runs.{IsOfInput, IsRefusal, IsRefusedRun};
+ghost use Rattle.cave_runs.specs.Runs.{IsOfInput, IsRefusedRun};
 ghost use Rattle.cave_runs.specs.declared.fault.RunFault.{RunFault};
 
 use crate::fault::{Input, RunFault};
@@ -53,7 +54,7 @@ fn outline_of<X: Threads + Wait + Sync, G: Gate>(
         IsOutlineOf world.now turns (string_bytes o.text) o.stopped (plans_of o.parts.items)) }
     ensures fault { IfErr result (λ e. e ≢ RunFault.OutOfMemory → e ≢ RunFault.NoThread → IsUnlit world.now e) }
     ensures threads { IfErr result (λ e. e ≡ RunFault.NoThread → 1 < crew.now.workers.number) }
-    ensures refused { (e : RunFault) → IsUnlit world.now e → IsRefusal result e }
+    ensures refused { (e : RunFault) → IsUnlit world.now e → IsRefusal RunFault.OutOfMemory result e }
 {
     match plan_cave(alloc, world, crew, turns) {
         Ok(outline) => Ok(outline),
@@ -80,7 +81,7 @@ fn planned<X: Threads + Wait + Sync, G: Gate>(
         → IsNoPlan bytes.now (option_copied table.entry) (rule_of opts.now.rule) e) }
     ensures threads { IfErr result (λ e. e ≡ RunFault.NoThread → 1 < crew.now.workers.number) }
     ensures refused { (e : RunFault) → IsNoPlan bytes.now (option_copied table.entry) (rule_of opts.now.rule) e
-        → IsRefusal result e }
+        → IsRefusal RunFault.OutOfMemory result e }
 {
     let world = read_cave(alloc, bytes, table, opts.rule)?;
     let outline = outline_of(alloc, &world, crew, opts.turns)?;

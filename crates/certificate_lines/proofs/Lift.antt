@@ -1,7 +1,7 @@
 -- From the numbers of a line to the line.
 use Rattle.std.proofs.Common.{◌≡◌, ◌≢◌, ℕ, ◌≤◌, ◌⊎◌, inl, inr, List, [], ◌∷◌, length, get_or, All, refl, sym, subst}
 use Rattle.std.proofs.Common.{ap, arith}
-use Rattle.std.specs.Prelude.{Bool, true, false, IsTrue, Option, Some, None, Result, Ok, Err, IfOk, MatchBool}
+use Rattle.std.specs.Prelude.{Bool, true, false, IsTrue, Option, Some, None, MatchBool}
 use Rattle.std.specs.Prelude.{MatchOption, is_some, codes, nat_le, ◌&&◌}
 use Rattle.std.proofs.lemmas.List.Elements.{All-nil, All-cons}
 use Rattle.std.proofs.lemmas.Bool.{leb-true}
@@ -248,11 +248,6 @@ module _ (second : Bool) (count to_come pending : ℕ) (text : List ℕ) (r : Op
   at_bar is h = pick_right Leaf (λ s. Branch s ⊎ Bar s) r
       (λ s m. let f = head_of text (line (codes "L") m.0) m.1 in omega arith)
       (pick_right Branch Bar r (λ s m. let f = head_of text (line (codes "B") m.0) m.1 in omega arith) h)
-
-pub if_ok : {E : Type 0} (r : Result (Option Stage) E) (P Q : Option Stage → Type 0) → ((o : Option Stage) → P o → Q o)
-    → IfOk r P → IfOk r Q
-if_ok (Ok o) P Q f h = f o h
-if_ok (Err e) P Q f h = h
 
 pub off : (b : Bool) (A B : Type 0) → b ≡ false → MatchBool b A B → B
 off true A B e h = absurd cc

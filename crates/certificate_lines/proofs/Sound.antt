@@ -17,15 +17,6 @@ abbrev pub forest_append : Forest → Forest → Forest
 forest_append none others = others
 forest_append (more tree trees) others = more tree (forest_append trees others)
 
-pub forest_lines-append : (a b : Forest) → forest_lines (forest_append a b) ≡ forest_lines a ++ forest_lines b
-forest_lines-append none b = refl
-forest_lines-append (more t a) b = rw (forest_lines-append a b)
-    (sym (append_assoc (tree_lines t) (forest_lines a) (forest_lines b)))
-
-pub tree_count-append : (a b : Forest) → tree_count (forest_append a b) ≡ tree_count a + tree_count b
-tree_count-append none b = omega arith
-tree_count-append (more t a) b = omega (arith, tree_count-append a b)
-
 -- a front of so many trees, and the others
 pub record Cut (count k p : ℕ) (trees : Forest) : Type 0 where
   pub front : Forest

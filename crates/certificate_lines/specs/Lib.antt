@@ -1,3 +1,4 @@
+-- public clauses cite
 pub mod Steps
 pub mod Kinds
 pub mod Numbers
@@ -8,4 +9,5 @@ pub mod Cuts
 pub mod Moves
 pub mod Walked
 pub mod Held
+-- private
 pub mod Keeping

@@ -9,7 +9,7 @@ use Rattle.cave_model.specs.declared.hang.Hang.TheVariants.{Floor}
 use Rattle.cave_model.proofs.TorchLemmas as torches
 use Rattle.cover_rows.specs.Coverage.{IsProblemOf}
 use Rattle.set_cover.specs.Instance.{Instance, LightsIn}
-use Rattle.cover_rows.proofs.PlaceLemmas.{legal_hang}
+use Rattle.cave_model.proofs.PlaceLemmas.{legal_hang}
 
 -- hung torches are at their places
 pub cells_hung : (cave : Cave) (places : List ℕ) → cells_of (hung cave places) ≡ places

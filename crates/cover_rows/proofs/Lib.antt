@@ -1,6 +1,5 @@
 pub mod NumberLemmas
 pub mod MarkLemmas
 pub mod FillLemmas
-pub mod PlaceLemmas
 pub mod InstanceLemmas
 pub mod CoverLemmas

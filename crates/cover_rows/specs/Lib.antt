@@ -1,6 +1,5 @@
 -- public clauses cite
 pub mod Coverage
-pub mod Answer
 pub mod Texts
 -- private
 pub mod Filling

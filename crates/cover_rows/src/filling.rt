@@ -6,13 +6,10 @@ ghost use Rattle.cover_rows.specs.Filling.{AreEmpty, IsFilling, IsListed};
 use crate::indexing::indices_of;
 use crate::marking::mark;
 use bit_rows::empty;
-use cave_model::{OutOfMemory, World};
+use cave_model::{OutOfMemory, TORCH_LIGHT, World};
 use light_flood::Scratch;
 use scan_core::Cell;
 use std::alloc::Global;
-
-/// The level of light of a torch (Minecraft Wiki, "Torch").
-const TORCH_LIGHT: u8 = 14;
 
 /// The rows of the places, one after another, and the row of the cells that some place lights.
 #[derive(Drop)]

@@ -4,7 +4,6 @@
 //! that a torch there lights.
 #![tactic(auto)]
 
-mod building;
 mod fault;
 mod filling;
 mod indexing;

@@ -1,12 +1,15 @@
 ghost use Rattle.std.specs.Prelude.{◌≡◌, ◌≢◌, ◌<◌, ◌↔◌, ℕ, Contains, IfOk, IfErr, IsTrue, length};
 ghost use Rattle.set_cover.specs.Instance.{IsInstance, IsRowAt, LightsIn};
-ghost use Rattle.cover_rows.specs.Answer.{IsRefusal};
+ghost use Rattle.nbt_core.specs.Answer.{IsRefusal};
 ghost use Rattle.cover_rows.specs.Coverage.{IsProblemOf, IsUnlightableFault};
 ghost use Rattle.cover_rows.specs.declared.fault.CoverFault.{CoverFault};
 
-use crate::building::instance;
 use crate::fault::CoverFault;
+use crate::filling::{Rows, rows_of};
+use crate::places::legal_places;
+use crate::search::first_unlit;
 use cave_model::World;
+use light_flood::{dark_cells, light};
 use scan_core::Cell;
 use set_cover::Instance;
 use std::alloc::Global;
@@ -39,10 +42,20 @@ impl Problem {
         // A fault names the least dark cell that no place lights.
         ensures fault { IfErr result (λ e. e ≢ CoverFault.OutOfMemory → IsUnlightableFault world.now e) }
         // Such a fault is answered.
-        ensures refused { (e : CoverFault) → IsUnlightableFault world.now e → IsRefusal result e }
+        ensures refused { (e : CoverFault) → IsUnlightableFault world.now e
+            → IsRefusal CoverFault.OutOfMemory result e }
     {
-        let instance = instance(alloc, world)?;
-        Ok(Problem { instance })
+        let levels = light(alloc, world)?;
+        let cells = dark_cells(alloc, world, &levels)?;
+        let places = legal_places(alloc, world)?;
+        let Rows { words, covered } = rows_of(alloc, world, &cells, &places)?;
+        match first_unlit(&covered, &cells) {
+            Some(cell) => Err(CoverFault::Unlightable { cell }),
+            None => {
+                let instance = Instance::new(cells, places, covered.len(), words);
+                Ok(Problem { instance })
+            }
+        }
     }
 
     /// The set cover instance that the problem is.

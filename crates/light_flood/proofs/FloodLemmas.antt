@@ -7,7 +7,7 @@ use Rattle.cave_model.specs.Cave.{Cave, class_at}
 use Rattle.cave_model.proofs.LightLemmas.{AreSettled, settled_level}
 use Rattle.light_flood.specs.Dense.{HasNoLight}
 use Rattle.light_flood.specs.Levels.{AreLevelsOf}
-use Rattle.light_flood.specs.Spreading.{NoneWaits, AreEmissions, IsFlood, IsRaised, IsSettled}
+use Rattle.light_flood.specs.Spreading.{NoneWaits, AreEmissions, IsFlood, IsFloodIn, IsRaised, IsSettled}
 use Rattle.light_flood.proofs.SpreadLemmas.{source_inside, spread_brought, passed_from_1}
 
 -- ---- the start
@@ -25,10 +25,15 @@ flood_none cave levels waiting dark none = record {
     not_in_none : (cell : ℕ) → Contains [] cell → ⊥
     not_in_none cell h = absurd (omega (arith, h.1))
 
+-- nor in a store with a level for each cell
+pub flood_in_none : (cave : Cave) (cells : ℕ) (levels : ℕ → ℕ) (waiting : List (List ℕ)) → cells ≡ cell_count cave.size
+    → ((cell : ℕ) → levels cell ≡ 0) → NoneWaits waiting → IsFloodIn cave 16 16 cells levels waiting
+flood_in_none cave cells levels waiting whole dark none =
+    record { whole = whole; flood = flood_none cave levels waiting dark none }
+
 -- the cells before this one have their emissions
 pub record Seeded (cave : Cave) (count : ℕ) (levels : List ℕ) (waiting : List (List ℕ)) : Type 0 where
-  pub whole : length levels ≡ cell_count cave.size
-  pub flood : IsFlood cave 16 16 (slice_index levels) waiting
+  pub flood : IsFloodIn cave 16 16 (length levels) (slice_index levels) waiting
   pub each : (cell : ℕ) → cell < count → slice_index levels cell ≡ (class_at cave cell).emission
   pub dark : (cell : ℕ) → count ≤ cell → slice_index levels cell ≡ 0
 
@@ -36,19 +41,17 @@ pub record Seeded (cave : Cave) (count : ℕ) (levels : List ℕ) (waiting : Lis
 pub seeded_none : (cave : Cave) (levels : List ℕ) (waiting : List (List ℕ)) → HasNoLight (cell_count cave.size) levels
     → NoneWaits waiting → Seeded cave 0 levels waiting
 seeded_none cave levels waiting unlit none = record {
-  whole = unlit.counted;
-  flood = flood_none cave (slice_index levels) waiting unlit.dark none;
+  flood = flood_in_none cave (length levels) (slice_index levels) waiting unlit.counted unlit.dark none;
   each = λ cell h. absurd (omega arith);
   dark = λ cell h. unlit.dark cell;
 }
 
 -- the next cell is raised to its emission
 pub seeded_more : (cave : Cave) (count : ℕ) (levels next : List ℕ) (waiting later : List (List ℕ))
-    → Seeded cave count levels waiting → length next ≡ cell_count cave.size
+    → Seeded cave count levels waiting
     → IsRaised (slice_index levels) count (class_at cave count).emission (slice_index next)
-    → IsFlood cave 16 16 (slice_index next) later → Seeded cave (count + 1) next later
-seeded_more cave count levels next waiting later s whole raised flood = record {
-  whole = whole;
+    → IsFloodIn cave 16 16 (length next) (slice_index next) later → Seeded cave (count + 1) next later
+seeded_more cave count levels next waiting later s raised flood = record {
   flood = flood;
   each = λ cell h. (elim (cases_eq cell count) [
     | inl e ↦ ap (slice_index next) e ∙ raised.raised ∙ ap (λ (c : ℕ). (class_at cave c).emission) (sym e)
@@ -63,7 +66,8 @@ seeded_more cave count levels next waiting later s whole raised flood = record {
 -- after the last each cell has its emission
 pub seeded_all : (cave : Cave) (count : ℕ) (levels : List ℕ) (waiting : List (List ℕ)) → count ≡ cell_count cave.size
     → Seeded cave count levels waiting → AreEmissions cave levels
-seeded_all cave count levels waiting e s = record { whole = s.whole; each = λ cell h. s.each cell (omega (arith, e)) }
+seeded_all cave count levels waiting e s =
+    record { whole = s.flood.whole; each = λ cell h. s.each cell (omega (arith, e)) }
 
 -- ---- the end
 

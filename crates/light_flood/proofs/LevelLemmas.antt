@@ -6,18 +6,17 @@ use Rattle.std.proofs.lemmas.Grind.{get_or_default_zero}
 use Rattle.scan_core.specs.Box.{cell_count}
 use Rattle.cave_model.specs.Cells.{AreNeighbours}
 use Rattle.cave_model.specs.Cave.{Cave}
-use Rattle.light_flood.specs.Spreading.{waiting_at, IsWaiting, IsFlood, Rises, Spreads, IsPassed, HasPassed, IsSettled}
+use Rattle.light_flood.specs.Spreading.{waiting_at, IsWaiting, IsFlood, IsFloodIn, IsStep, Rises, Spreads, IsPassed}
+use Rattle.light_flood.specs.Spreading.{HasPassed, IsSettled}
 use Rattle.light_flood.proofs.SpreadLemmas.{spread_none, spread_on}
-use Rattle.light_flood.proofs.PassLemmas.{rise_none, rise_on}
+use Rattle.light_flood.proofs.PassLemmas.{step_none, step_on}
 
 -- ---- one level
 
 -- of the cells that waited at the level, those before this index have passed their light on
 pub record PassingLevel (cave : Cave) (level : ℕ) (start levels : ℕ → ℕ) (waiting : List (List ℕ)) (cells : List ℕ)
     (index : ℕ) : Type 0 where
-  pub flood : IsFlood cave (level + 1) level levels waiting
-  pub rises : Rises level start levels
-  pub spreads : Spreads cave start levels
+  pub step : IsStep cave (level + 1) level start levels waiting
   pub here : (cell : ℕ) → cell < cell_count cave.size → start cell ≡ level → Contains cells cell
   pub inside : (cell : ℕ) → Contains cells cell → cell < cell_count cave.size
   pub passed : (k d : ℕ) → k < index → levels (get_or cells k d) ≡ level → HasPassed cave levels (get_or cells k d)
@@ -27,7 +26,7 @@ pub level_start : (cave : Cave) (level : ℕ) (start : ℕ → ℕ) (waiting nex
     → IsFlood cave (level + 1) (level + 1) start waiting → cells ≡ waiting_at waiting level
     → IsWaiting waiting level [] next → PassingLevel cave level start start next cells 0
 level_start cave level start waiting next cells pos flood taken rest = record {
-  flood = record {
+  step = step_none cave (level + 1) level start next (record {
     low = flood.low;
     passed_on = flood.passed_on;
     awaited = λ cell inside lit below.
@@ -38,9 +37,7 @@ level_start cave level start waiting next cells pos flood taken rest = record {
           (subst (λ (l : List ℕ). Contains l cell) (ap (waiting_at next) e ∙ rest.here) has))
       | inr ne ↦ flood.inside other cell (subst (λ (l : List ℕ). Contains l cell) (rest.others other ne) has)
     ]);
-  };
-  rises = rise_none level start;
-  spreads = spread_none cave start;
+  });
   here = λ cell inside e. (subst (λ (l : List ℕ). Contains l cell) (ap (waiting_at waiting) e ∙ sym taken)
       (flood.awaited cell inside (omega (arith, e)) (omega (arith, e))));
   inside = λ cell has. flood.inside level cell (subst (λ (l : List ℕ). Contains l cell) taken has);
@@ -59,21 +56,19 @@ still_passed cave level levels next cell rises at passed to shared =
 -- the next cell has this level, and passed its light on
 pub level_passed : (cave : Cave) (level : ℕ) (start levels next : ℕ → ℕ) (waiting later : List (List ℕ))
     (cells : List ℕ) (index from : ℕ) → PassingLevel cave level start levels waiting cells index
-    → ((d : ℕ) → get_or cells index d ≡ from) → levels from ≡ level → IsFlood cave (levels from + 1)
-    (levels from) next later → Rises (levels from) levels next → Spreads cave levels next → HasPassed cave next from
+    → ((d : ℕ) → get_or cells index d ≡ from) → levels from ≡ level
+    → IsStep cave (levels from + 1) (levels from) levels next later → HasPassed cave next from
     → PassingLevel cave level start next later cells (index + 1)
-level_passed cave level start levels next waiting later cells index from s this at flood rises spreads passed =
-    let rises_here : Rises level levels next = subst (λ (l : ℕ). Rises l levels next) at rises in
+level_passed cave level start levels next waiting later cells index from s this at step passed =
+    let step_here = subst (λ (l : ℕ). IsStep cave (l + 1) l levels next later) at step in
     record {
-      flood = subst (λ (l : ℕ). IsFlood cave (l + 1) l next later) at flood;
-      rises = rise_on level start levels next s.rises rises_here;
-      spreads = spread_on cave start levels next s.spreads spreads;
+      step = step_on cave (level + 1) level start levels next waiting later s.step step_here;
       here = s.here;
       inside = s.inside;
       passed = λ k d h e. (elim (cases_lt k index) [
         | inl lt ↦ (let was : levels (get_or cells k d) ≡ level =
-            sym (rises_here.below (get_or cells k d) (omega (arith, e))) ∙ e in
-            still_passed cave level levels next (get_or cells k d) rises_here e (s.passed k d lt was))
+            sym (step_here.rises.below (get_or cells k d) (omega (arith, e))) ∙ e in
+            still_passed cave level levels next (get_or cells k d) step_here.rises e (s.passed k d lt was))
         | inr le ↦ (let now : k ≡ index = omega arith in subst (HasPassed cave next)
             (sym (ap (λ (j : ℕ). get_or cells j d) now ∙ this d)) passed)
       ]);
@@ -85,9 +80,7 @@ pub level_skipped : (cave : Cave) (level : ℕ) (start levels : ℕ → ℕ) (wa
     → ((d : ℕ) → get_or cells index d ≡ from) → (levels from ≡ level → ⊥)
     → PassingLevel cave level start levels waiting cells (index + 1)
 level_skipped cave level start levels waiting cells index from s this other = record {
-  flood = s.flood;
-  rises = s.rises;
-  spreads = s.spreads;
+  step = s.step;
   here = s.here;
   inside = s.inside;
   passed = λ k d h e. (elim (cases_lt k index) [
@@ -97,23 +90,36 @@ level_skipped cave level start levels waiting cells index from s this other = re
   ]);
 }
 
+-- the level at which the next cell stands is where the flood stands
+pub level_here : (cave : Cave) (level count : ℕ) (start levels : ℕ → ℕ) (waiting : List (List ℕ)) (cells : List ℕ)
+    (index from : ℕ) → count ≡ cell_count cave.size → PassingLevel cave level start levels waiting cells index
+    → levels from ≡ level → IsFloodIn cave (levels from + 1) (levels from) count levels waiting
+level_here cave level count start levels waiting cells index from whole s at = record {
+  whole = whole;
+  flood = subst (λ (l : ℕ). IsFlood cave (l + 1) l levels waiting) (sym at) s.step.flood;
+}
+
 -- all cells of the level have passed their light on
 pub level_end : (cave : Cave) (level : ℕ) (start levels : ℕ → ℕ) (waiting : List (List ℕ)) (cells : List ℕ) (index : ℕ)
     → length cells ≤ index → PassingLevel cave level start levels waiting cells index
-    → IsFlood cave level level levels waiting
+    → IsStep cave level level start levels waiting
 level_end cave level start levels waiting cells index all s = record {
-  low = s.flood.low;
-  passed_on = λ before cell shared high. (elim (cases_eq (levels before) level) [
-    | inl e ↦ (let was : start before ≡ level = sym (s.rises.below before high) ∙ e in
-        let found = s.here before shared.inside was in
-        let at : levels (get_or cells found.0 before) ≡ level = ap levels found.2 ∙ e in
-        subst (λ (b : ℕ). IsPassed cave levels b cell)
-        found.2 (s.passed found.0 before (omega (arith, found.1)) at cell
-        (subst (λ (b : ℕ). AreNeighbours cave.size b cell) (sym found.2) shared)))
-    | inr ne ↦ s.flood.passed_on before cell shared (above before ne high)
-  ]);
-  awaited = s.flood.awaited;
-  inside = s.flood.inside;
+  rises = s.step.rises;
+  spreads = s.step.spreads;
+  flood = record {
+    low = s.step.flood.low;
+    passed_on = λ before cell shared high. (elim (cases_eq (levels before) level) [
+      | inl e ↦ (let was : start before ≡ level = sym (s.step.rises.below before high) ∙ e in
+          let found = s.here before shared.inside was in
+          let at : levels (get_or cells found.0 before) ≡ level = ap levels found.2 ∙ e in
+          subst (λ (b : ℕ). IsPassed cave levels b cell)
+          found.2 (s.passed found.0 before (omega (arith, found.1)) at cell
+          (subst (λ (b : ℕ). AreNeighbours cave.size b cell) (sym found.2) shared)))
+      | inr ne ↦ s.step.flood.passed_on before cell shared (above before ne high)
+    ]);
+    awaited = s.step.flood.awaited;
+    inside = s.step.flood.inside;
+  };
 }
   where
     above : (before : ℕ) → (levels before ≡ level → ⊥) → level ≤ levels before → level + 1 ≤ levels before
@@ -138,12 +144,12 @@ passing_none cave start waiting flood =
 
 -- a level done, the flood stands at the next lower one
 pub passing_level : (cave : Cave) (level : ℕ) (start levels next : ℕ → ℕ) (waiting later : List (List ℕ))
-    → Passing cave (level + 1) start levels waiting → IsFlood cave level level next later → Rises level levels next
-    → Spreads cave levels next → Passing cave level start next later
-passing_level cave level start levels next waiting later s flood rises spreads = record {
-  flood = flood;
-  up = λ cell. (let a = s.up cell in let b = rises.up cell in omega arith);
-  spreads = spread_on cave start levels next s.spreads spreads;
+    → Passing cave (level + 1) start levels waiting → IsStep cave level level levels next later
+    → Passing cave level start next later
+passing_level cave level start levels next waiting later s step = record {
+  flood = step.flood;
+  up = λ cell. (let a = s.up cell in let b = step.rises.up cell in omega arith);
+  spreads = spread_on cave start levels next s.spreads step.spreads;
 }
 
 -- what lies above this level has passed its light on

@@ -5,7 +5,8 @@ use Rattle.std.proofs.lemmas.Bool.{cases_lt}
 use Rattle.scan_core.specs.Box.{Point, cell_count}
 use Rattle.cave_model.specs.Cells.{Face, west, east, north, south, below, above, beyond, neighbours_of, AreNeighbours}
 use Rattle.cave_model.specs.Cave.{Cave}
-use Rattle.light_flood.specs.Spreading.{IsFlood, Rises, Spreads, IsPassed, HasPassed}
+use Rattle.cave_model.proofs.FaceLemmas.{neighbours_mutual}
+use Rattle.light_flood.specs.Spreading.{IsFlood, IsFloodIn, IsStep, Rises, IsPassed, HasPassed}
 use Rattle.light_flood.proofs.SpreadLemmas.{spread_none, spread_on}
 
 -- ---- the list of neighbours
@@ -25,6 +26,11 @@ face_at size from (suc (suc (suc (suc (suc (suc j)))))) to e = absurd cc
 pub listed_shares : (size : Point) (from j to : ℕ) → from < cell_count size
     → get_or (neighbours_of size from) j None ≡ Some to → AreNeighbours size from to
 listed_shares size from j to h e = let f = face_at size from j to e in record { inside = h; face = f.0; there = f.1 }
+
+-- and it lies in the box
+pub listed_inside : (size : Point) (from j to : ℕ) → from < cell_count size
+    → get_or (neighbours_of size from) j None ≡ Some to → to < cell_count size
+listed_inside size from j to h e = (neighbours_mutual size from to (listed_shares size from j to h e)).inside
 
 -- the number of a face in the list of neighbours
 index_of : Face → ℕ
@@ -69,13 +75,26 @@ rise_on level f g h first second = record {
   below = λ cell high. (let same = second.below cell high in same ∙ first.below cell (omega (arith, same)));
 }
 
+-- a step that passes nothing on
+pub step_none : (cave : Cave) (passed level : ℕ) (f : ℕ → ℕ) (waiting : List (List ℕ))
+    → IsFlood cave passed level f waiting → IsStep cave passed level f f waiting
+step_none cave passed level f waiting flood =
+    record { rises = rise_none level f; spreads = spread_none cave f; flood = flood }
+
+-- two steps from one level are one
+pub step_on : (cave : Cave) (passed level : ℕ) (f g h : ℕ → ℕ) (waiting later : List (List ℕ))
+    → IsStep cave passed level f g waiting → IsStep cave passed level g h later → IsStep cave passed level f h later
+step_on cave passed level f g h waiting later first second = record {
+  rises = rise_on level f g h first.rises second.rises;
+  spreads = spread_on cave f g h first.spreads second.spreads;
+  flood = second.flood;
+}
+
 -- the neighbours before this index have been offered light
 pub record PassingOn (cave : Cave) (from : ℕ) (start levels : ℕ → ℕ) (waiting : List (List ℕ))
     (around : List (Option ℕ)) (index : ℕ) : Type 0 where
   pub whole : around ≡ neighbours_of cave.size from
-  pub flood : IsFlood cave (start from + 1) (start from) levels waiting
-  pub rises : Rises (start from) start levels
-  pub spreads : Spreads cave start levels
+  pub step : IsStep cave (start from + 1) (start from) start levels waiting
   pub offered : (j to : ℕ) → j < index → get_or around j None ≡ Some to → IsPassed cave levels from to
 
 -- before the first neighbour no light is passed on
@@ -84,42 +103,40 @@ pub passing_start : (cave : Cave) (from : ℕ) (start : ℕ → ℕ) (waiting : 
     → PassingOn cave from start start waiting around 0
 passing_start cave from start waiting around whole flood = record {
   whole = whole;
-  flood = flood;
-  rises = rise_none (start from) start;
-  spreads = spread_none cave start;
+  step = step_none cave (start from + 1) (start from) start waiting flood;
   offered = λ j to h e. absurd (omega arith);
 }
 
 -- the cell that passes on has the level that it had
 pub from_kept : (cave : Cave) (from : ℕ) (start levels : ℕ → ℕ) (waiting : List (List ℕ)) (around : List (Option ℕ))
     (index : ℕ) → PassingOn cave from start levels waiting around index → levels from ≡ start from
-from_kept cave from start levels waiting around index s = s.rises.below from (s.rises.up from)
+from_kept cave from start levels waiting around index s = s.step.rises.below from (s.step.rises.up from)
 
 -- between two neighbours the flood stands at the level of the cell
-pub flood_here : (cave : Cave) (from : ℕ) (start levels : ℕ → ℕ) (waiting : List (List ℕ)) (around : List (Option ℕ))
-    (index : ℕ) → PassingOn cave from start levels waiting around index
-    → IsFlood cave (levels from + 1) (levels from) levels waiting
-flood_here cave from start levels waiting around index s =
-    subst (λ (level : ℕ). IsFlood cave (level + 1) level levels waiting)
-    (sym (from_kept cave from start levels waiting around index s)) s.flood
+pub flood_here : (cave : Cave) (from cells : ℕ) (start levels : ℕ → ℕ) (waiting : List (List ℕ))
+    (around : List (Option ℕ)) (index : ℕ) → cells ≡ cell_count cave.size
+    → PassingOn cave from start levels waiting around index
+    → IsFloodIn cave (levels from + 1) (levels from) cells levels waiting
+flood_here cave from cells start levels waiting around index whole s = record {
+  whole = whole;
+  flood = subst (λ (level : ℕ). IsFlood cave (level + 1) level levels waiting)
+      (sym (from_kept cave from start levels waiting around index s)) s.step.flood;
+}
 
 -- a neighbour was offered light
 pub passing_some : (cave : Cave) (from to : ℕ) (start levels next : ℕ → ℕ) (waiting later : List (List ℕ))
     (around : List (Option ℕ)) (index : ℕ) → PassingOn cave from start levels waiting around index
-    → get_or around index None ≡ Some to → IsFlood cave (levels from + 1) (levels from) next later
-    → Rises (levels from) levels next → Spreads cave levels next → IsPassed cave next from to
-    → PassingOn cave from start next later around (index + 1)
-passing_some cave from to start levels next waiting later around index s here flood rises spreads passed =
+    → get_or around index None ≡ Some to → IsStep cave (levels from + 1) (levels from) levels next later
+    → IsPassed cave next from to → PassingOn cave from start next later around (index + 1)
+passing_some cave from to start levels next waiting later around index s here step passed =
     let kept = from_kept cave from start levels waiting around index s in
-    let rises_here : Rises (start from) levels next = subst (λ (level : ℕ). Rises level levels next) kept rises in
+    let step_here = subst (λ (level : ℕ). IsStep cave (level + 1) level levels next later) kept step in
     record {
       whole = s.whole;
-      flood = subst (λ (level : ℕ). IsFlood cave (level + 1) level next later) kept flood;
-      rises = rise_on (start from) start levels next s.rises rises_here;
-      spreads = spread_on cave start levels next s.spreads spreads;
+      step = step_on cave (start from + 1) (start from) start levels next waiting later s.step step_here;
       offered = λ j other h e. (elim (cases_lt j index) [
-        | inl lt ↦ (let old = s.offered j other lt e in let same = rises.below from (rises.up from) in
-            let up = rises.up other in omega arith)
+        | inl lt ↦ (let old = s.offered j other lt e in let same = step.rises.below from (step.rises.up from) in
+            let up = step.rises.up other in omega arith)
         | inr le ↦ (let now : j ≡ index = omega arith in
             let found : Some other ≡ Some to = sym e ∙ ap (λ (k : ℕ). get_or around k None) now ∙ here in
             let same : to ≡ other = cc in subst (IsPassed cave next from) same passed)
@@ -132,9 +149,7 @@ pub passing_none : (cave : Cave) (from : ℕ) (start levels : ℕ → ℕ) (wait
     → PassingOn cave from start levels waiting around (index + 1)
 passing_none cave from start levels waiting around index s here = record {
   whole = s.whole;
-  flood = s.flood;
-  rises = s.rises;
-  spreads = s.spreads;
+  step = s.step;
   offered = λ j other h e. (elim (cases_lt j index) [
     | inl lt ↦ s.offered j other lt e
     | inr le ↦ (let now : j ≡ index = omega arith in

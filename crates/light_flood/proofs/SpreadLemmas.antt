@@ -9,7 +9,7 @@ use Rattle.cave_model.specs.Cave.{Cave}
 use Rattle.cave_model.specs.Light.{Path, BringsFrom, entering_cost}
 use Rattle.cave_model.specs.Light.Path.{start, onward}
 use Rattle.cave_model.proofs.LightLemmas.{path_end_inside}
-use Rattle.light_flood.specs.Spreading.{waiting_at, IsWaiting, IsRaised, Spreads, IsPassed, IsFlood, IsSettled}
+use Rattle.light_flood.specs.Spreading.{waiting_at, IsWaiting, IsRaised, Rises, Spreads, IsPassed, IsFlood, IsSettled}
 
 -- ---- paths
 
@@ -75,6 +75,21 @@ raised_spreads cave f g from to shared enough raised cell = elim (cases_eq cell 
   | inr ne ↦ inl (raised.others cell ne)
 ]
 
+-- a cell raised to a level below this one rises
+pub raised_rises : (level : ℕ) (f g : ℕ → ℕ) (to brought : ℕ) → brought < level → f to ≤ brought
+    → IsRaised f to brought g → Rises level f g
+raised_rises level f g to brought under higher raised = record {
+  up = λ cell. (elim (cases_eq cell to) [
+    | inl e ↦ (let here : g cell ≡ brought = ap g e ∙ raised.raised in let was : f cell ≡ f to = ap f e in
+        omega (arith, here, was))
+    | inr ne ↦ omega (arith, raised.others cell ne)
+  ]);
+  below = λ cell high. (elim (cases_eq cell to) [
+    | inl e ↦ (let here : g cell ≡ brought = ap g e ∙ raised.raised in absurd (omega (arith, here)))
+    | inr ne ↦ raised.others cell ne
+  ]);
+}
+
 -- a cell raised to a level at which it waits keeps the flood
 pub raised_flood : (cave : Cave) (f g : ℕ → ℕ) (waiting next : List (List ℕ)) (passed waits to brought : ℕ)
     → to < cell_count cave.size → IsFlood cave passed waits f waiting
@@ -117,11 +132,7 @@ raised_flood cave f g waiting next passed waits to brought to_in flood under low
 }
   where
     rises : (cell : ℕ) → f cell ≤ g cell
-    rises cell = elim (cases_eq cell to) [
-      | inl e ↦ (let here : g cell ≡ brought = ap g e ∙ raised.raised in let was : f cell ≡ f to = ap f e in
-          omega (arith, here, was))
-      | inr ne ↦ omega (arith, raised.others cell ne)
-    ]
+    rises = (raised_rises passed f g to brought under higher raised).up
 
     kept : (level cell : ℕ) → Contains (waiting_at waiting level) cell → Contains (waiting_at next level) cell
     kept level cell has = elim (cases_eq level brought) [

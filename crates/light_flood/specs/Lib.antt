@@ -1,4 +1,6 @@
+-- public clauses cite
 pub mod Levels
+pub mod Reached
+-- private
 pub mod Spreading
 pub mod Dense
-pub mod Reached

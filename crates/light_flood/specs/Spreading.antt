@@ -43,6 +43,23 @@ pub record IsFlood (cave : Cave) (passed waits : ℕ) (levels : ℕ → ℕ) (wa
       → Contains (waiting_at waiting (levels cell)) cell
   pub inside : (level cell : ℕ) → Contains (waiting_at waiting level) cell → cell < cell_count cave.size
 
+-- a flood in a store of so many cells, one for each of the box
+pub record IsFloodIn (cave : Cave) (passed waits cells : ℕ) (levels : ℕ → ℕ) (waiting : List (List ℕ)) : Type 0 where
+  pub whole : cells ≡ cell_count cave.size
+  pub flood : IsFlood cave passed waits levels waiting
+
+-- passing on from this level: levels below it rise, each by light from one that was there, and the flood goes on
+pub record IsStep (cave : Cave) (passed level : ℕ) (old new : ℕ → ℕ) (waiting : List (List ℕ)) : Type 0 where
+  pub rises : Rises level old new
+  pub spreads : Spreads cave old new
+  pub flood : IsFlood cave passed level new waiting
+
+-- a cell of the box without light, and an emission for it
+pub record IsUnlit (cave : Cave) (levels : ℕ → ℕ) (cell emission : ℕ) : Type 0 where
+  pub inside : cell < cell_count cave.size
+  pub unlit : levels cell ≡ 0
+  pub most : emission ≤ 15
+
 -- the cell has passed its light on to all its neighbours
 abbrev pub HasPassed : Cave → (ℕ → ℕ) → ℕ → Type 0
 HasPassed cave levels before = (cell : ℕ) → AreNeighbours cave.size before cell → IsPassed cave levels before cell

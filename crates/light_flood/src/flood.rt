@@ -1,27 +1,27 @@
-ghost use Rattle.std.specs.Prelude.{◌≡◌, ◌<◌, ℕ, [], IfOk, OnOk, slice_index};
+ghost use Rattle.std.specs.Prelude.{◌≡◌, ◌<◌, ℕ, [], length, IfOk, OnOk, slice_index};
 ghost use Rattle.scan_core.specs.Box.{cell_count};
 ghost use Rattle.cave_model.specs.Cave.{class_at};
 ghost use Rattle.light_flood.specs.Dense.{HasNoLight};
 ghost use Rattle.light_flood.specs.Levels.{AreLevelsOf};
-ghost use Rattle.light_flood.specs.Spreading.{AreEmissions, IsFlood, NoneWaits};
+ghost use Rattle.light_flood.specs.Spreading.{AreEmissions, IsFloodIn, NoneWaits};
 
 use crate::dense::Dense;
 use crate::levels::Levels;
-use crate::seeding::seed;
-use crate::spreading::spread;
+use crate::spreading::Flood;
 use crate::waiting::Waiting;
 use cave_model::{OutOfMemory, World};
 use std::alloc::Global;
 
 /// Gives each cell its emission.
-fn seed_all(world: &World, store: &mut Dense, waiting: &mut Waiting) -> Result<(), OutOfMemory>
-    requires unlit { HasNoLight (cell_count world.now.size) store.old.levels }
-    requires none_waits { NoneWaits waiting.old }
-    ensures emissions { OnOk result (AreEmissions world.now store.new.levels) }
-    ensures flood { OnOk result (IsFlood world.now 16 16 (slice_index store.new.levels) waiting.new) }
+fn seed_all(world: &World, flood: &mut Flood<Dense>) -> Result<(), OutOfMemory>
+    requires unlit { HasNoLight (cell_count world.now.size) flood.old.store.levels }
+    requires none_waits { NoneWaits flood.old.waiting }
+    ensures emissions { OnOk result (AreEmissions world.now flood.new.store.levels) }
+    ensures flood { OnOk result (let levels = flood.new.store.levels in
+        IsFloodIn world.now 16 16 (length levels) (slice_index levels) flood.new.waiting) }
 {
     for cell in 0..world.cell_count() {
-        seed(world, store, waiting, cell, world.class_of(cell).emission)?;
+        flood.seed(world, cell, world.class_of(cell).emission)?;
     }
     Ok(())
 }
@@ -30,9 +30,10 @@ fn seed_all(world: &World, store: &mut Dense, waiting: &mut Waiting) -> Result<(
 pub fn light(alloc: Global, world: &World) -> Result<Levels, OutOfMemory>
     ensures { IfOk result (AreLevelsOf world.now) }
 {
-    let mut store = Dense::new(alloc, world.cell_count())?;
-    let mut waiting = Waiting::new(alloc)?;
-    seed_all(world, &mut store, &mut waiting)?;
-    spread(world, &mut store, &mut waiting, 1)?;
-    Ok(Levels::from_vec(store.into_levels()))
+    let store = Dense::new(alloc, world.cell_count())?;
+    let waiting = Waiting::new(alloc)?;
+    let mut flood = Flood { store, waiting };
+    seed_all(world, &mut flood)?;
+    flood.spread(world, 1)?;
+    Ok(Levels::from_vec(flood.store.into_levels()))
 }

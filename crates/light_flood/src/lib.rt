@@ -11,7 +11,6 @@ mod levels;
 mod reached;
 mod reaching;
 mod scratch;
-mod seeding;
 mod sparse;
 mod spreading;
 mod store;

@@ -4,9 +4,8 @@ ghost use Rattle.light_flood.specs.Levels.{AreReachOf};
 ghost use Rattle.light_flood.specs.Reached.{reached};
 
 use crate::reached::Reach;
-use crate::seeding::seed;
 use crate::sparse::Sparse;
-use crate::spreading::spread;
+use crate::spreading::Flood;
 use crate::waiting::Waiting;
 use cave_model::{OutOfMemory, World};
 use scan_core::Cell;
@@ -19,9 +18,10 @@ pub fn reach(alloc: Global, world: &World, cell: Cell, emission: u8) -> Result<R
     requires emission { emission ≤ 15 }
     ensures { IfOk result (λ r. AreReachOf world.now cell emission (reached r)) }
 {
-    let mut store = Sparse::new(alloc, world.cell_count());
-    let mut waiting = Waiting::new(alloc)?;
-    seed(world, &mut store, &mut waiting, cell, emission)?;
-    spread(world, &mut store, &mut waiting, 1)?;
-    Ok(Reach::from_map(store.into_levels()))
+    let store = Sparse::new(alloc, world.cell_count());
+    let waiting = Waiting::new(alloc)?;
+    let mut flood = Flood { store, waiting };
+    flood.seed(world, cell, emission)?;
+    flood.spread(world, 1)?;
+    Ok(Reach::from_map(flood.store.into_levels()))
 }

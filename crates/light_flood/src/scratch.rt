@@ -3,8 +3,7 @@ ghost use Rattle.scan_core.specs.Box.{cell_count};
 ghost use Rattle.light_flood.specs.Levels.{ListsLit};
 
 use crate::dense::Dense;
-use crate::seeding::seed;
-use crate::spreading::spread;
+use crate::spreading::Flood;
 use crate::waiting::Waiting;
 use cave_model::{OutOfMemory, World};
 use scan_core::Cell;
@@ -19,7 +18,7 @@ const HIGHEST: u8 = 15;
 #[derive(Debug, Drop)]
 pub struct Scratch {
     alloc: Global,
-    store: Dense,
+    flood: Flood<Dense>,
 }
 
 impl Model for Scratch {
@@ -28,7 +27,7 @@ impl Model for Scratch {
     // how many cells the boxes have
     ghost Value = { ℕ };
 
-    ghost view = { λ s. length s.store.levels };
+    ghost view = { λ s. length s.flood.store.levels };
 }
 
 impl Scratch {
@@ -36,9 +35,11 @@ impl Scratch {
     pub fn new(alloc: Global, count: u32) -> Result<Scratch, OutOfMemory>
         ensures { IfOk result (λ s. s ≡ count) }
     {
+        let store = Dense::new(alloc, count)?;
+        let waiting = Waiting::new(alloc)?;
         Ok(Scratch {
             alloc,
-            store: Dense::new(alloc, count)?,
+            flood: Flood { store, waiting },
         })
     }
 
@@ -57,15 +58,10 @@ impl Scratch {
         ensures lit { IfOk result (λ v. ListsLit world.now cell emission least v.items) }
         ensures same { self.new ≡ self.old }
     {
-        self.store.clear();
-        let mut waiting = Waiting::new(self.alloc)?;
-        seed(world, &mut self.store, &mut waiting, cell, emission)?;
-        spread(
-            world,
-            &mut self.store,
-            &mut waiting,
-            u8::min(least, HIGHEST),
-        )?;
-        self.store.at_least(self.alloc, least)
+        self.flood.store.clear();
+        self.flood.waiting = Waiting::new(self.alloc)?;
+        self.flood.seed(world, cell, emission)?;
+        self.flood.spread(world, u8::min(least, HIGHEST))?;
+        self.flood.store.at_least(self.alloc, least)
     }
 }

@@ -1,7 +1,9 @@
+//! Passing light on. The cells that wait are a bucket queue (Dial's algorithm: E. Dial, "Algorithm 360: shortest-path
+//! forest with topological ordering", 1969): levels from 15 down, each with the cells that got it.
 ghost use Rattle.std.specs.Prelude.{◌≡◌, ◌<◌, ◌≤◌, ◌+◌, OnOk};
 ghost use Rattle.scan_core.specs.Box.{cell_count};
 ghost use Rattle.cave_model.specs.Cells.{AreNeighbours};
-ghost use Rattle.light_flood.specs.Spreading.{HasPassed, IsFlood, IsPassed, IsSettled, Rises, Spreads};
+ghost use Rattle.light_flood.specs.Spreading.{HasPassed, IsFloodIn, IsPassed, IsRaised, IsSettled, IsStep, IsUnlit};
 
 use crate::store::Store;
 use crate::waiting::Waiting;
@@ -9,101 +11,99 @@ use cave_model::World;
 use scan_core::Cell;
 use std::alloc::AllocError;
 
-/// Passes light on from one cell to a neighbour, which then waits with what it got.
-fn offer<S: Store>(
-    world: &World,
-    store: &mut S,
-    waiting: &mut Waiting,
-    from: Cell,
-    to: Cell,
-) -> Result<(), AllocError>
-    requires cells { S.cells store.old ≡ cell_count world.now.size }
-    requires shared { AreNeighbours world.now.size from to }
-    requires inside { to < cell_count world.now.size }
-    requires flood { let level = S.levels store.old from in
-        IsFlood world.now (level + 1) level (S.levels store.old) waiting.old }
-    ensures cells { S.cells store.new ≡ cell_count world.now.size }
-    ensures flood { OnOk result (let level = S.levels store.old from in
-        IsFlood world.now (level + 1) level (S.levels store.new) waiting.new) }
-    ensures rises { OnOk result (Rises (S.levels store.old from) (S.levels store.old) (S.levels store.new)) }
-    ensures spreads { OnOk result (Spreads world.now (S.levels store.old) (S.levels store.new)) }
-    ensures passed { OnOk result (IsPassed world.now (S.levels store.new) from to) }
-{
-    let level = store.level(from);
-    let cost = u8::max(1, world.class_of(to).opacity);
-    let brought = level.saturating_sub(cost);
-    if brought > store.level(to) {
-        store.raise(to, brought)?;
-        waiting.push(brought, to)?;
-    }
-    Ok(())
+/// A flood of light: the levels so far, and the cells that have yet to pass theirs on.
+#[derive(Debug, Drop)]
+pub struct Flood<S: Store> {
+    pub store: S,
+    pub waiting: Waiting,
 }
 
-/// Passes light on from one cell to all its neighbours.
-fn pass_on<S: Store>(
-    world: &World,
-    store: &mut S,
-    waiting: &mut Waiting,
-    from: Cell,
-) -> Result<(), AllocError>
-    requires cells { S.cells store.old ≡ cell_count world.now.size }
-    requires in_box { from < cell_count world.now.size }
-    requires flood { let level = S.levels store.old from in
-        IsFlood world.now (level + 1) level (S.levels store.old) waiting.old }
-    ensures cells { S.cells store.new ≡ cell_count world.now.size }
-    ensures flood { OnOk result (let level = S.levels store.old from in
-        IsFlood world.now (level + 1) level (S.levels store.new) waiting.new) }
-    ensures rises { OnOk result (Rises (S.levels store.old from) (S.levels store.old) (S.levels store.new)) }
-    ensures spreads { OnOk result (Spreads world.now (S.levels store.old) (S.levels store.new)) }
-    ensures passed { OnOk result (HasPassed world.now (S.levels store.new) from) }
-{
-    for to in world.neighbours(from) {
-        if let Some(to) = to {
-            offer(world, store, waiting, from, to)?;
+impl<S: Store> Flood<S> {
+    /// Gives a cell without light its emission, before light spreads.
+    pub fn seed(&mut self, world: &World, cell: Cell, emission: u8) -> Result<(), AllocError>
+        requires unlit { IsUnlit world.now (S.levels self.old.store) cell emission }
+        requires flood { let s = self.old.store in
+            IsFloodIn world.now 16 16 (S.cells s) (S.levels s) self.old.waiting }
+        ensures cells { S.cells self.new.store ≡ cell_count world.now.size }
+        ensures raised { OnOk result (IsRaised (S.levels self.old.store) cell emission (S.levels self.new.store)) }
+        ensures flood { OnOk result (let s = self.new.store in
+            IsFloodIn world.now 16 16 (S.cells s) (S.levels s) self.new.waiting) }
+    {
+        if emission > 0 {
+            self.store.raise(cell, emission)?;
+            self.waiting.push(emission, cell)?;
         }
+        Ok(())
     }
-    Ok(())
-}
 
-/// Passes light on from all cells of this level, those above having done so.
-fn pass_level<S: Store>(
-    world: &World,
-    store: &mut S,
-    waiting: &mut Waiting,
-    level: u8,
-) -> Result<(), AllocError>
-    requires level { (1 ≤ level) × (level < 16) }
-    requires cells { S.cells store.old ≡ cell_count world.now.size }
-    requires flood { IsFlood world.now (level + 1) (level + 1) (S.levels store.old) waiting.old }
-    ensures cells { S.cells store.new ≡ cell_count world.now.size }
-    ensures flood { OnOk result (IsFlood world.now level level (S.levels store.new) waiting.new) }
-    ensures rises { OnOk result (Rises level (S.levels store.old) (S.levels store.new)) }
-    ensures spreads { OnOk result (Spreads world.now (S.levels store.old) (S.levels store.new)) }
-{
-    let cells = waiting.take(level);
-    for from in &cells {
-        if store.level(*from) == level {
-            pass_on(world, store, waiting, *from)?;
+    /// Passes light on from one cell to a neighbour, which then waits with what it got.
+    fn offer(&mut self, world: &World, from: Cell, to: Cell) -> Result<(), AllocError>
+        requires shared { AreNeighbours world.now.size from to × (to < cell_count world.now.size) }
+        requires flood { let s = self.old.store in let level = S.levels s from in
+            IsFloodIn world.now (level + 1) level (S.cells s) (S.levels s) self.old.waiting }
+        ensures cells { S.cells self.new.store ≡ cell_count world.now.size }
+        ensures step { OnOk result (let s = self.old.store in let level = S.levels s from in
+            IsStep world.now (level + 1) level (S.levels s) (S.levels self.new.store) self.new.waiting) }
+        ensures passed { OnOk result (IsPassed world.now (S.levels self.new.store) from to) }
+    {
+        let level = self.store.level(from);
+        let cost = u8::max(1, world.class_of(to).opacity);
+        let brought = level.saturating_sub(cost);
+        if brought > self.store.level(to) {
+            self.store.raise(to, brought)?;
+            self.waiting.push(brought, to)?;
         }
+        Ok(())
     }
-    Ok(())
-}
 
-/// Lets the light of a store spread, where every cell with light waits at its level, as far as it is above this level.
-pub fn spread<S: Store>(
-    world: &World,
-    store: &mut S,
-    waiting: &mut Waiting,
-    least: u8,
-) -> Result<(), AllocError>
-    requires least { least < 16 }
-    requires cells { S.cells store.old ≡ cell_count world.now.size }
-    requires flood { IsFlood world.now 16 16 (S.levels store.old) waiting.old }
-    ensures cells { S.cells store.new ≡ cell_count world.now.size }
-    ensures settled { OnOk result (IsSettled world.now least (S.levels store.old) (S.levels store.new)) }
-{
-    for level in (least + 1..16).rev() {
-        pass_level(world, store, waiting, level)?;
+    /// Passes light on from one cell to all its neighbours.
+    fn pass_on(&mut self, world: &World, from: Cell) -> Result<(), AllocError>
+        requires in_box { from < cell_count world.now.size }
+        requires flood { let s = self.old.store in let level = S.levels s from in
+            IsFloodIn world.now (level + 1) level (S.cells s) (S.levels s) self.old.waiting }
+        ensures cells { S.cells self.new.store ≡ cell_count world.now.size }
+        ensures step { OnOk result (let s = self.old.store in let level = S.levels s from in
+            IsStep world.now (level + 1) level (S.levels s) (S.levels self.new.store) self.new.waiting) }
+        ensures passed { OnOk result (HasPassed world.now (S.levels self.new.store) from) }
+    {
+        for to in world.neighbours(from) {
+            if let Some(to) = to {
+                self.offer(world, from, to)?;
+            }
+        }
+        Ok(())
     }
-    Ok(())
+
+    /// Passes light on from all cells of this level, those above having done so.
+    fn pass_level(&mut self, world: &World, level: u8) -> Result<(), AllocError>
+        requires level { (1 ≤ level) × (level < 16) }
+        requires flood { let s = self.old.store in
+            IsFloodIn world.now (level + 1) (level + 1) (S.cells s) (S.levels s) self.old.waiting }
+        ensures cells { S.cells self.new.store ≡ cell_count world.now.size }
+        ensures step { OnOk result (let s = self.old.store in
+            IsStep world.now level level (S.levels s) (S.levels self.new.store) self.new.waiting) }
+    {
+        let cells = self.waiting.take(level);
+        for from in &cells {
+            if self.store.level(*from) == level {
+                self.pass_on(world, *from)?;
+            }
+        }
+        Ok(())
+    }
+
+    /// Lets light spread, where every cell with light waits at its level, as far as it is above this level.
+    pub fn spread(&mut self, world: &World, least: u8) -> Result<(), AllocError>
+        requires least { least < 16 }
+        requires flood { let s = self.old.store in
+            IsFloodIn world.now 16 16 (S.cells s) (S.levels s) self.old.waiting }
+        ensures cells { S.cells self.new.store ≡ cell_count world.now.size }
+        ensures settled { OnOk result
+            (IsSettled world.now least (S.levels self.old.store) (S.levels self.new.store)) }
+    {
+        for level in (least + 1..16).rev() {
+            self.pass_level(world, level)?;
+        }
+        Ok(())
+    }
 }

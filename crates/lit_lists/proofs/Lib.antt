@@ -1,6 +1,5 @@
 pub mod RelaxLemmas
 pub mod RowLemmas
-pub mod PlaceLemmas
 pub mod SeedLemmas
 pub mod TakeLemmas
 pub mod PairLemmas

@@ -1,3 +1,4 @@
+-- public clauses cite
 pub mod Relaxing
 pub mod Seeded
 pub mod Lists

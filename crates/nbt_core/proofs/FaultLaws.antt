@@ -1,20 +1,24 @@
 -- Lists and compounds: the fault that is met is the first, and the first fault is met.
-use Rattle.std.proofs.Common.{◌≡◌, ◌≢◌, ℕ, zero, suc, ◌+◌, ◌-◌, ◌<◌, ◌≤◌, ℤ, false, cond, eqb, List, ◌++◌, length, Option, Some, None, Err, refl, sym, ap, subst, ◌∙◌, arith, inl, inr}
+use Rattle.std.proofs.Common.{◌≡◌, ◌≢◌, ℕ, zero, suc, ◌+◌, ◌-◌, ◌<◌, ◌≤◌, ℤ, false, cond, eqb, List, ◌++◌, length}
+use Rattle.std.proofs.Common.{Option, Some, None, Err, refl, sym, ap, subst, ◌∙◌, arith, inl, inr}
 use Rattle.std.proofs.lemmas.Bool.{eqb-false, ne_eqb}
 use Rattle.std.proofs.lemmas.List.{length-append}
 use Rattle.nbt_core.specs.declared.fault.NbtFault.{NbtFault}
 use Rattle.nbt_core.specs.declared.fault.NbtFault.TheVariants.{BadLength}
 use Rattle.nbt_core.specs.declared.kind.Kind.{Kind}
 use Rattle.nbt_core.specs.declared.kind.Kind.TheVariants as kinds
-use Rattle.nbt_core.specs.Value.{Nbt, leaf, list, compound, Items, no_items, item, Members, no_members, member, count_of, natural}
+use Rattle.nbt_core.specs.Value.{Nbt, leaf, list, compound, Items, no_items, item, Members, no_members, member}
+use Rattle.nbt_core.specs.Value.{count_of, natural}
 use Rattle.nbt_core.specs.Reading.{Reads, ◌>>=◌, mapped, text_at, kind_at, count_at}
 use Rattle.nbt_core.specs.TreeReading.{by_kind, items_at, members_at, list_at, compound_at, value_at}
 use Rattle.nbt_core.specs.Ids.{id_of, id_of_items}
 use Rattle.nbt_core.specs.Spelling.{◌▷◌, IsByte, IsInt, IsText, Spells, AreItems, AreMembers}
 use Rattle.nbt_core.specs.Breaking.{BreaksMember, BreaksList, BreaksCompound, Breaks}
 use Rattle.nbt_core.proofs.Results.{bind_err, mapped_err, chosen, gave, failed, err_is, ok_never}
-use Rattle.nbt_core.proofs.Fronts.{Takes, takes_then, takes_one, takes_some, then_at, then_front, first_as, second_as, assoc, no_front}
-use Rattle.nbt_core.proofs.Pieces.{count_takes, count_again, count_err, count_short, text_takes, text_again, text_err, text_breaks, kind_takes, kind_again, kind_err, kind_breaks}
+use Rattle.nbt_core.proofs.Fronts.{Takes, takes_then, takes_one, takes_some, then_at, then_front, first_as, second_as}
+use Rattle.nbt_core.proofs.Fronts.{assoc, no_front}
+use Rattle.nbt_core.proofs.Pieces.{count_takes, count_again, count_err, count_short, text_takes, text_again, text_err}
+use Rattle.nbt_core.proofs.Pieces.{text_breaks, kind_takes, kind_again, kind_err, kind_breaks}
 use Rattle.nbt_core.proofs.LeafLaws.{leaf_err, leaf_breaks}
 use Rattle.nbt_core.proofs.MembersLoop.{opened, one_member}
 use Rattle.nbt_core.proofs.TreeLaws.{Spelled, Reread, value_takes, value_again}

@@ -1,5 +1,6 @@
 -- Payloads that hold no other: what is read is spelled so, what is spelled so is read, and each fault is the first.
-use Rattle.std.proofs.Common.{◌≡◌, ℕ, ◌-◌, ◌*◌, ℤ, pos, negsuc, List, ◌++◌, length, Ok, Err, refl, sym, ap, subst, ◌∙◌, inl, inr}
+use Rattle.std.proofs.Common.{◌≡◌, ℕ, ◌-◌, ◌*◌, ℤ, pos, negsuc, List, ◌++◌, length, Ok, Err, refl, sym, ap, subst}
+use Rattle.std.proofs.Common.{◌∙◌, inl, inr}
 use Rattle.std.specs.Int.{Width, w8, w16, w32, w64}
 use Rattle.nbt_core.specs.declared.fault.NbtFault.{NbtFault}
 use Rattle.nbt_core.specs.declared.fault.NbtFault.TheVariants.{BadLength}
@@ -12,7 +13,8 @@ use Rattle.nbt_core.specs.Spelling.{◌▷◌, IsSigned, IsInt, IsText, IsRun, A
 use Rattle.nbt_core.specs.Breaking.{BreaksArray, BreaksLeaf}
 use Rattle.nbt_core.proofs.Results.{bind_ok, bind_err, mapped_ok, mapped_err, gave, failed, err_is, err_never}
 use Rattle.nbt_core.proofs.Fronts.{Takes, takes_then, takes_mapped, then_at, regroup}
-use Rattle.nbt_core.proofs.Pieces.{run_takes, run_again, run_err, run_short, signed_takes, signed_again, signed_err, signed_short, text_takes, text_again, text_err, text_breaks}
+use Rattle.nbt_core.proofs.Pieces.{run_takes, run_again, run_err, run_short, signed_takes, signed_again, signed_err}
+use Rattle.nbt_core.proofs.Pieces.{signed_short, text_takes, text_again, text_err, text_breaks}
 use Rattle.nbt_core.proofs.Numbers.{length-numbers_in, numbers_in-spelled, numbers_in-again, length-spelled}
 
 -- ---- arrays

@@ -1,6 +1,8 @@
 -- The numbers of a run, read one by one or all at once.
-use Rattle.std.proofs.Common.{◌≡◌, ℕ, zero, suc, ◌+◌, ◌*◌, ◌≤◌, ℤ, List, [], ◌∷◌, ◌++◌, length, drop, take, map, refl, sym, ap, ◌∙◌, arith, mul-suc, mul-zero}
-use Rattle.std.proofs.lemmas.List.{drop-drop, take_at, take_all, drop_at, take-append-drop, length-take, length-drop, length-append, nil_from_length}
+use Rattle.std.proofs.Common.{◌≡◌, ℕ, zero, suc, ◌+◌, ◌*◌, ◌≤◌, ℤ, List, [], ◌∷◌, ◌++◌, length, drop, take, map, refl}
+use Rattle.std.proofs.Common.{sym, ap, ◌∙◌, arith, mul-suc, mul-zero}
+use Rattle.std.proofs.lemmas.List.{drop-drop, take_at, take_all, drop_at, take-append-drop, length-take, length-drop}
+use Rattle.std.proofs.lemmas.List.{length-append, nil_from_length}
 use Rattle.std.specs.Int.{Width, w8, cast_signed}
 use Rattle.byteorder.specs.Endian.{big_number, IsReadBy}
 use Rattle.byteorder.specs.Numbers.{big_from-append}

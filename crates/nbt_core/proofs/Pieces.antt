@@ -1,5 +1,6 @@
 -- What each small piece takes from the front, that it takes it again, and the fault where it can't.
-use Rattle.std.proofs.Common.{◌≡◌, ◌≢◌, ℕ, suc, ◌-◌, ◌≤◌, ℤ, false, eqb, ltb, List, [], ◌∷◌, ◌++◌, length, Option, Some, None, Ok, Err, refl, sym, ap, subst, ◌∙◌, arith, inl, inr}
+use Rattle.std.proofs.Common.{◌≡◌, ◌≢◌, ℕ, suc, ◌-◌, ◌≤◌, ℤ, false, eqb, ltb, List, [], ◌∷◌, ◌++◌, length, Option}
+use Rattle.std.proofs.Common.{Some, None, Ok, Err, refl, sym, ap, subst, ◌∙◌, arith, inl, inr}
 use Rattle.std.specs.Int.{Width, w32, cast_signed}
 use Rattle.byteorder.specs.Endian.{big_number}
 use Rattle.std.proofs.lemmas.Bool.{ltb-false, le-ltb, ltb-true, lt-ltb, eqb-true, ne_eqb}
@@ -14,7 +15,8 @@ use Rattle.nbt_core.specs.Reading.{mapped, run_at, signed_at, int_at, text_at, k
 use Rattle.nbt_core.specs.Value.{natural}
 use Rattle.nbt_core.specs.Spelling.{IsByte, IsSigned, IsInt, IsSize, IsText, IsRun}
 use Rattle.nbt_core.specs.Breaking.{IsShort, BreaksText, BreaksKind}
-use Rattle.nbt_core.proofs.Results.{bind_ok, bind_err, mapped_ok, mapped_err, chosen, failed, ok_is, err_is, err_never, ok_never}
+use Rattle.nbt_core.proofs.Results.{bind_ok, bind_err, mapped_ok, mapped_err, chosen, failed, ok_is, err_is}
+use Rattle.nbt_core.proofs.Results.{err_never, ok_never}
 use Rattle.nbt_core.proofs.Fronts.{Takes, takes_then, takes_as, takes_mapped, then_at, front_byte, regroup}
 
 -- ---- runs

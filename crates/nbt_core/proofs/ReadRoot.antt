@@ -22,7 +22,7 @@ module _ {X : Type 0} (view : X → Nbt) (bytes : List ℕ) where
   only_memory e t is given = absurd (err_never t e (sym given ∙ is))
 
   pub root_is_read : (r : Result X NbtFault) → GivesWhole view r (root_at bytes) → (t : Nbt)
-      → Root bytes t → IsAnswer view r t
+      → Root bytes t → IsAnswer OutOfMemory r (λ x. view x ≡ t)
   root_is_read (Ok x) given t root = ok_is (view x) t (sym given ∙ root_again bytes t root)
   root_is_read (Err e) given t root = only_memory e t (root_again bytes t root) given
 
@@ -40,6 +40,6 @@ module _ {X : Type 0} (view : X → Nbt) (bytes : List ℕ) where
   same_fault e f given is = inl (err_is e f (sym given ∙ is))
 
   pub fault_is_met : (r : Result X NbtFault) → GivesWhole view r (root_at bytes) → (fault : NbtFault)
-      → FaultOf bytes fault → IsRefusal r fault
+      → FaultOf bytes fault → IsRefusal OutOfMemory r fault
   fault_is_met (Ok x) given fault of = err_never (view x) fault (sym (root_breaks bytes fault of) ∙ given)
   fault_is_met (Err e) given fault of = same_fault e fault given (root_breaks bytes fault of)

@@ -1,5 +1,6 @@
 -- Lists and compounds: what is read is spelled so, and what is spelled so is read.
-use Rattle.std.proofs.Common.{◌≡◌, ℕ, zero, suc, ◌+◌, ◌-◌, ◌<◌, ◌≤◌, ℤ, cond, eqb, List, [], ◌∷◌, ◌++◌, length, Option, Some, None, Ok, Err, refl, ap, subst, ◌∙◌, append_assoc, arith, inl, inr}
+use Rattle.std.proofs.Common.{◌≡◌, ℕ, zero, suc, ◌+◌, ◌-◌, ◌<◌, ◌≤◌, ℤ, cond, eqb, List, [], ◌∷◌, ◌++◌, length}
+use Rattle.std.proofs.Common.{Option, Some, None, Ok, Err, refl, ap, subst, ◌∙◌, append_assoc, arith, inl, inr}
 use Rattle.std.proofs.lemmas.Bool.{eqb-true}
 use Rattle.std.proofs.lemmas.List.{length-append}
 use Rattle.nbt_core.specs.declared.fault.NbtFault.{NbtFault}
@@ -7,7 +8,8 @@ use Rattle.nbt_core.specs.declared.fault.NbtFault.TheVariants.{BadLength}
 use Rattle.nbt_core.specs.declared.kind.Kind.{Kind}
 use Rattle.nbt_core.specs.declared.kind.Kind.TheVariants as kinds
 use Rattle.nbt_core.specs.declared.kind.LeafKind.{LeafKind}
-use Rattle.nbt_core.specs.Value.{Nbt, leaf, list, compound, Items, no_items, item, Members, no_members, member, count_of, natural}
+use Rattle.nbt_core.specs.Value.{Nbt, leaf, list, compound, Items, no_items, item, Members, no_members, member}
+use Rattle.nbt_core.specs.Value.{count_of, natural}
 use Rattle.nbt_core.specs.Reading.{Reads, ◌>>=◌, mapped, text_at, kind_at, count_at}
 use Rattle.nbt_core.specs.LeafReading.{leaf_at}
 use Rattle.nbt_core.specs.TreeReading.{by_kind, items_at, members_at, list_at, compound_at, value_at}

@@ -1,9 +1,11 @@
 -- Which fault comes first in bytes that are no root: some front is well formed, and the next piece breaks.
 -- `end` is the length of the whole input, so a place is `end` less the bytes that are left there.
 -- The faults and their order are this project's own.
-use Rattle.std.specs.Prelude.{◌≡◌, ◌≢◌, ◌<◌, ◌-◌, ◌*◌, ◌⊎◌, ℕ, zero, suc, ℤ, pos, negsuc, List, [], length, Option, Some}
+use Rattle.std.specs.Prelude.{◌≡◌, ◌≢◌, ◌<◌, ◌-◌, ◌*◌, ◌⊎◌, ℕ, zero, suc, ℤ, pos, negsuc, List, [], length, Option}
+use Rattle.std.specs.Prelude.{Some}
 use Rattle.nbt_core.specs.declared.fault.NbtFault.{NbtFault}
-use Rattle.nbt_core.specs.declared.fault.NbtFault.TheVariants.{Compressed, Truncated, BadTag, NotCompound, BadLength, TooDeep}
+use Rattle.nbt_core.specs.declared.fault.NbtFault.TheVariants.{Compressed, Truncated, BadTag, NotCompound, BadLength}
+use Rattle.nbt_core.specs.declared.fault.NbtFault.TheVariants.{TooDeep}
 use Rattle.nbt_core.specs.declared.kind.Kind.{Kind}
 use Rattle.nbt_core.specs.declared.kind.Kind.TheVariants as kinds
 use Rattle.nbt_core.specs.declared.kind.LeafKind.{LeafKind}

@@ -1,3 +1,4 @@
+-- public clauses cite
 pub mod Value
 pub mod Code
 pub mod Weight
@@ -7,10 +8,11 @@ pub mod Ids
 pub mod Spelling
 pub mod Breaking
 pub mod Answer
+pub mod Parts
+pub mod Borrowed
+pub mod Texts
+-- private
 pub mod Reading
 pub mod LeafReading
 pub mod TreeReading
 pub mod Skipping
-pub mod Parts
-pub mod Borrowed
-pub mod Texts

@@ -1,6 +1,7 @@
 -- Reading from left to right, with the first fault that is met: the pieces that values are made of. `end` is
 -- the length of the whole input, so a place is `end` less the bytes that are left there.
-use Rattle.std.specs.Prelude.{◌≡◌, ℕ, suc, ◌-◌, ℤ, List, [], ◌∷◌, length, take, drop, Option, Some, None, Result, Ok, Err, nat_lt, if◌then◌else◌}
+use Rattle.std.specs.Prelude.{◌≡◌, ℕ, suc, ◌-◌, ℤ, List, [], ◌∷◌, length, take, drop, Option, Some, None, Result, Ok}
+use Rattle.std.specs.Prelude.{Err, nat_lt, if◌then◌else◌}
 use Rattle.byteorder.specs.Endian.{big_number}
 use Rattle.std.specs.Int.{Width, w32, cast_signed}
 use Rattle.nbt_core.specs.declared.fault.NbtFault.{NbtFault}

@@ -10,7 +10,8 @@ use Rattle.nbt_core.specs.declared.kind.LeafKind.{LeafKind}
 use Rattle.nbt_core.specs.declared.kind.LeafKind.TheVariants as leaves
 use Rattle.nbt_core.specs.Ids.{id_of, id_of_items}
 use Rattle.nbt_core.specs.Value.{Leaf, byte, short, int, long, float, double, byte_array, text, int_array, long_array}
-use Rattle.nbt_core.specs.Value.{Nbt, leaf, list, compound, Items, no_items, item, Members, no_members, member, count_of, natural}
+use Rattle.nbt_core.specs.Value.{Nbt, leaf, list, compound, Items, no_items, item, Members, no_members, member}
+use Rattle.nbt_core.specs.Value.{count_of, natural}
 
 -- bytes of which some front is P, and the rest Q
 infixr 5 ◌▷◌

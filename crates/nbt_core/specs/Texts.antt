@@ -1,7 +1,8 @@
 -- The text of each fault. It is this project's own.
 use Rattle.std.specs.Prelude.{ℕ, List, ◌++◌, codes, decimal}
 use Rattle.nbt_core.specs.declared.fault.NbtFault.{NbtFault}
-use Rattle.nbt_core.specs.declared.fault.NbtFault.TheVariants.{Compressed, Truncated, BadTag, NotCompound, BadLength, TooDeep, OutOfMemory}
+use Rattle.nbt_core.specs.declared.fault.NbtFault.TheVariants.{Compressed, Truncated, BadTag, NotCompound, BadLength}
+use Rattle.nbt_core.specs.declared.fault.NbtFault.TheVariants.{TooDeep, OutOfMemory}
 
 abbrev pub fault_text : NbtFault → List ℕ
 fault_text Compressed = codes "nbt: compressed"

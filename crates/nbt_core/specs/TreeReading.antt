@@ -1,5 +1,6 @@
 -- Reading lists and compounds, and a whole input.
-use Rattle.std.specs.Prelude.{ℕ, zero, suc, ◌-◌, List, [], ◌∷◌, length, Bool, false, Option, Some, None, Result, Ok, Err, ◌==◌, ◌&&◌, if◌then◌else◌}
+use Rattle.std.specs.Prelude.{ℕ, zero, suc, ◌-◌, List, [], ◌∷◌, length, Bool, false, Option, Some, None, Result, Ok}
+use Rattle.std.specs.Prelude.{Err, ◌==◌, ◌&&◌, if◌then◌else◌}
 use Rattle.nbt_core.specs.declared.fault.NbtFault.{NbtFault}
 use Rattle.nbt_core.specs.declared.fault.NbtFault.TheVariants.{Compressed, Truncated, NotCompound, BadLength, TooDeep}
 use Rattle.nbt_core.specs.declared.kind.Kind.{Kind}

@@ -1,6 +1,7 @@
 -- The value that a `Tag` stands for, apart from where it lies in memory.
 use Rattle.std.specs.Prelude.{ℕ, List, map}
-use Rattle.nbt_core.specs.Value.{byte, short, int, long, float, double, byte_array, text, int_array, long_array, Nbt, leaf, list, compound, items_of, members_of}
+use Rattle.nbt_core.specs.Value.{byte, short, int, long, float, double, byte_array, text, int_array, long_array, Nbt}
+use Rattle.nbt_core.specs.Value.{leaf, list, compound, items_of, members_of}
 use Rattle.nbt_core.specs.declared.tag.Tag.{Tag}
 use Rattle.nbt_core.specs.declared.tag.Tag.TheVariants as tags
 

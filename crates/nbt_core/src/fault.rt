@@ -22,7 +22,7 @@ pub enum NbtFault {
     BadLength { at: usize },
     /// A list or compound would have depth 513. `at` is its payload's first byte.
     TooDeep { at: usize },
-    /// A growth was refused.
+    /// Memory was refused.
     OutOfMemory,
 }
 

@@ -34,11 +34,11 @@ pub fn read_root(alloc: Global, bytes: &[u8]) -> Result<Tag, NbtFault>
     // What is read is the value of a root at the front of the bytes.
     ensures found { IfOk result (λ t. Root bytes.now (nbt t)) }
     // Such a root is read.
-    ensures only { (t : Nbt) → Root bytes.now t → IsAnswer nbt result t }
+    ensures only { (t : Nbt) → Root bytes.now t → IsAnswer NbtFault.OutOfMemory result (λ x. nbt x ≡ t) }
     // A fault is the first one in the bytes.
     ensures fault { IfErr result (λ e. e ≢ NbtFault.OutOfMemory → FaultOf bytes.now e) }
     // Such a fault is answered.
-    ensures refused { (e : NbtFault) → FaultOf bytes.now e → IsRefusal result e }
+    ensures refused { (e : NbtFault) → FaultOf bytes.now e → IsRefusal NbtFault.OutOfMemory result e }
     // Memory is wanted for bytes alone that begin with the id of a compound.
     ensures memory { IfErr result (λ e. e ≡ NbtFault.OutOfMemory → take 1 bytes.now ≡ 10 ∷ []) }
 {

@@ -1,4 +1,3 @@
-pub mod ListingLemmas
 pub mod NumberLemmas
 pub mod NodeLemmas
 pub mod JudgeLemmas

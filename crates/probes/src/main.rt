@@ -1,12 +1,19 @@
-//! Runs one part of the path from a structure to a plan, so that its time and its memory can be taken from outside.
+//! What scripts measure, and a run that the gate compares.
 //!
 //! `PART FILE [TIMES]`, where PART is `cave`, `light`, `reach`, `places`, `cells`, `coverage` or `split`, prints what
 //! the part counts, after doing it so many times; `plan FILE TURNS [RULE]` plans each region alone and prints for each
-//! its cells, its places, the size of the plan (or the range in which it lies) and the lines of its tree.
+//! its cells, its places, the size of the plan (or the range in which it lies) and the lines of its tree. `calls` makes
+//! each call that takes memory on the pillar from standard input. `stored FILE` reads the table of the examples from
+//! the file, takes the largest box through each step, and makes the calls.
 #![tactic(auto)]
 
+mod calls;
+mod facts;
+mod full;
 mod parts;
 mod regions;
+mod table;
+mod taking;
 
 use cave_model::{Rule, World};
 use std::env;
@@ -52,6 +59,13 @@ fn run(rt: &HostRuntime, part: &str, path: &str, number: u64, rule: &str) -> Res
     Ok(())
 }
 
+/// What the gate compares.
+fn stored(rt: &HostRuntime, path: &str) -> Result<(), Fail> {
+    table::run(rt, path)?;
+    full::run(rt)?;
+    calls::run(rt)
+}
+
 fn main(rt: HostRuntime) -> Result<(), Fail> {
     let words: Vec<String> = env::args(&rt)?.collect(rt.alloc())?;
     let Some(part) = words.get(1) else {
@@ -69,5 +83,9 @@ fn main(rt: HostRuntime) -> Result<(), Fail> {
         Some(rule) => rule.as_str(),
         None => "",
     };
-    run(&rt, part.as_str(), path, number, rule)
+    match part.as_str() {
+        "calls" => calls::run(&rt),
+        "stored" => stored(&rt, path),
+        part => run(&rt, part, path, number, rule),
+    }
 }

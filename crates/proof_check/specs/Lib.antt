@@ -1,5 +1,11 @@
+-- public clauses cite
 pub mod Accepted
 pub mod Refused
+pub mod Faults
+pub mod Verdict
+pub mod Texts
+pub mod Reading
+-- private
 pub mod Judged
 pub mod Tally
 pub mod Tests
@@ -8,9 +14,5 @@ pub mod Kept
 pub mod Homes
 pub mod Ends
 pub mod Heard
-pub mod Faults
-pub mod Verdict
-pub mod Texts
 pub mod Ending
 pub mod Tried
-pub mod Reading

@@ -33,14 +33,6 @@ abbrev pub IsFaultOfBytes : List ℕ → Option (List ℕ) → CheckFault → Ty
 IsFaultOfBytes structure table fault = (inner : CaveFault) × caves.IsFaultOfBytes structure table inner
     × (fault ≡ of_cave inner)
 
--- the verdict, unless memory ran out
-abbrev pub IsAnswer : Result Verdict CheckFault → Verdict → Type 0
-IsAnswer r verdict = MatchResult r (λ v. v ≡ verdict) (λ e. e ≡ faults.OutOfMemory)
-
--- the fault is answered, unless memory ran out
-abbrev pub IsRefusal : Result Verdict CheckFault → CheckFault → Type 0
-IsRefusal r fault = MatchResult r (λ _. ⊥) (λ e. (e ≡ fault) ⊎ (e ≡ faults.OutOfMemory))
-
 -- the fault is in the reader of the certificate, or memory ran out
 abbrev pub IsOfReading : CheckFault → Type 0
 IsOfReading fault = (fault ≡ faults.ReadFailed) ⊎ (fault ≡ faults.TooLong) ⊎ (fault ≡ faults.OutOfMemory)

@@ -1,9 +1,9 @@
 ghost use Rattle.std.specs.Prelude.{◌≡◌, ◌≢◌, ◌<◌, length, IfOk, IfErr, IfSome, MatchResult, option_copied};
+ghost use Rattle.nbt_core.specs.Answer.{IsAnswer, IsRefusal};
 ghost use Rattle.cave_model.specs.RuleOf.{rule_of};
 ghost use Rattle.proof_check.specs.Reading.{GivesAtMost};
 ghost use Rattle.proof_check.specs.Tried.{IsTheVerdict};
-ghost use Rattle.proof_check.specs.Verdict.{IsAnswer, IsFaultOfBytes, IsJudged, IsOfReading, IsReadAnswer};
-ghost use Rattle.proof_check.specs.Verdict.{IsReadRefusal, IsRefusal};
+ghost use Rattle.proof_check.specs.Verdict.{IsFaultOfBytes, IsJudged, IsOfReading, IsReadAnswer, IsReadRefusal};
 ghost use Rattle.proof_check.specs.declared.fault.CheckFault.{CheckFault};
 ghost use Rattle.proof_check.specs.declared.verdict.Verdict.{Verdict};
 
@@ -30,13 +30,13 @@ pub fn check(
         (IsJudged structure.now (option_copied table.entry) (rule_of rule) certificate.now) }
     // Such a verdict is answered.
     ensures only { (verdict : Verdict) → IsJudged structure.now (option_copied table.entry) (rule_of rule)
-        certificate.now verdict → IsAnswer result verdict }
+        certificate.now verdict → IsAnswer CheckFault.OutOfMemory result (λ x. x ≡ verdict) }
     // A fault is the first of the structure and the table.
     ensures fault { IfErr result (λ e. e ≢ CheckFault.OutOfMemory
         → IsFaultOfBytes structure.now (option_copied table.entry) e) }
     // Such a fault is answered.
     ensures refused { (e : CheckFault) → IsFaultOfBytes structure.now (option_copied table.entry) e
-        → IsRefusal result e }
+        → IsRefusal CheckFault.OutOfMemory result e }
 {
     let world = read_cave(alloc, structure, table, rule)?;
     let verdict = judge_slice(alloc, &world, certificate)?;

@@ -1,3 +1,4 @@
+-- public clauses cite
 pub mod Tree
 pub mod Good
 pub mod Certificate

@@ -6,7 +6,8 @@ use Rattle.nbt_core.specs.Spelling.{Root}
 use Rattle.nbt_core.specs.Value.{Nbt, field}
 use Rattle.nbt_core.specs.declared.fault.NbtFault.{NbtFault}
 use Rattle.nbt_core.specs.declared.fault.NbtFault.TheVariants as inner
-use Rattle.scan_core.specs.Answer.{IsAnswer, IsRefusal, TellsInRoom}
+use Rattle.scan_core.specs.Answer.{TellsInRoom}
+use Rattle.nbt_core.specs.Answer.{IsAnswer, IsRefusal}
 use Rattle.scan_core.specs.Box.{Point}
 use Rattle.scan_core.specs.Cells.{AreCellsOf}
 use Rattle.scan_core.specs.Faults.{size_fault, palette_fault, blocks_fault, fault_of, told_size, IsFaultOf}
@@ -92,7 +93,7 @@ clean_or o fault p q = absurd (cc)
 -- of a root that is the only one, no other structure is answered than the one that is told
 pub root_only : (bytes : List ℕ) (root : Nbt) (r : Result Structure ScanFault)
     → ((t : Nbt) → Root bytes t → root ≡ t) → TellsInRoom r (λ s. IsScanOf root s) (fault_of root) → (s : Structure)
-    → Scans bytes s → IsAnswer r s
+    → Scans bytes s → IsAnswer faults.OutOfMemory r (λ x. x ≡ s)
 root_only bytes root (Ok found) only told s (t, is, scan) =
     one_structure root found s told.0 (subst (λ (t : Nbt). IsScanOf t s) (sym (only t is)) scan)
 root_only bytes root (Err fault) only told s (t, is, scan) =
@@ -108,7 +109,8 @@ root_fault bytes root (Err fault) is told = λ other. ⊎_elim (λ e. inr (root,
 -- where bytes are a root and no other, the root's fault is answered
 pub root_refused : (bytes : List ℕ) (root : Nbt) (r : Result Structure ScanFault)
     → ((t : Nbt) → Root bytes t → root ≡ t) → ((e : NbtFault) → FaultOf bytes e → ⊥)
-    → TellsInRoom r (λ s. IsScanOf root s) (fault_of root) → (e : ScanFault) → IsFaultOf bytes e → IsRefusal r e
+    → TellsInRoom r (λ s. IsScanOf root s) (fault_of root) → (e : ScanFault) → IsFaultOf bytes e
+    → IsRefusal faults.OutOfMemory r e
 root_refused bytes root r only clean told e (inl (fault, breaks, is)) = absurd (clean fault breaks)
 root_refused bytes root (Ok found) only clean told e (inr (t, is, judged)) =
     clean_or (fault_of root) e told.1 (subst (λ (t : Nbt). fault_of t ≡ Some e) (sym (only t is)) judged)

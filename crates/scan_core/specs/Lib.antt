@@ -1,11 +1,13 @@
+-- public clauses cite
 pub mod Box
 pub mod Properties
 pub mod Scan
 pub mod Judging
 pub mod Faults
-pub mod Answer
 pub mod Mapping
+pub mod Texts
+-- private
+pub mod Answer
 pub mod Told
 pub mod Cells
 pub mod Named
-pub mod Texts

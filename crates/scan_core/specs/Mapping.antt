@@ -4,7 +4,7 @@ use Rattle.nbt_core.specs.declared.fault.NbtFault.TheVariants as inner
 use Rattle.scan_core.specs.declared.fault.ScanFault.{ScanFault}
 use Rattle.scan_core.specs.declared.fault.ScanFault.TheVariants.{Nbt, OutOfMemory}
 
--- a want of memory stays one, and any other fault is one of the bytes
+-- out of memory stays so, and any other fault is one of the bytes
 abbrev pub of_nbt : NbtFault → ScanFault
 of_nbt inner.OutOfMemory = OutOfMemory
 of_nbt fault = Nbt fault

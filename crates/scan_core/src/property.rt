@@ -1,9 +1,10 @@
 ghost use Rattle.std.specs.Prelude.{◌≡◌, reverse};
+ghost use Rattle.nbt_core.specs.Answer.{IsAnswer};
 ghost use Rattle.nbt_core.specs.Value.{members_of};
-ghost use Rattle.scan_core.specs.Answer.{GivesInRoom};
 ghost use Rattle.scan_core.specs.Named.{named_values};
 ghost use Rattle.scan_core.specs.Properties as texts;
 ghost use Rattle.scan_core.specs.Properties.{props_of, with_text};
+ghost use Rattle.scan_core.specs.declared.fault.ScanFault.{ScanFault};
 
 use crate::fault::ScanFault;
 use crate::value::text;
@@ -19,7 +20,7 @@ pub type Property = (Sequence<u8>, Sequence<u8>);
 
 /// The properties that a `Properties` tells, where there is one.
 pub fn properties(alloc: Global, found: Option<View<'_>>) -> Result<Sequence<Property>, ScanFault>
-    ensures { GivesInRoom result (λ props. props ≡ props_of found.entry) }
+    ensures { IsAnswer ScanFault.OutOfMemory result (λ props. props ≡ props_of found.entry) }
 {
     let Some(value) = found else {
         return Ok(Sequence::from_vec(Vec::new(alloc)));
@@ -35,7 +36,7 @@ pub fn properties(alloc: Global, found: Option<View<'_>>) -> Result<Sequence<Pro
 
 /// The entries, all at once.
 fn members<'a>(alloc: Global, mut entries: EntriesView<'a>) -> Result<Vec<Member<'a>>, ScanFault>
-    ensures { GivesInRoom result (λ members. named_values members.items ≡ entries.entry) }
+    ensures { IsAnswer ScanFault.OutOfMemory result (λ members. named_values members.items ≡ entries.entry) }
 {
     let mut members = Vec::new(alloc);
     while let Some(member) = entries.next() {
@@ -47,7 +48,7 @@ fn members<'a>(alloc: Global, mut entries: EntriesView<'a>) -> Result<Vec<Member
 /// The members that are the last of their name, where they are Strings, the last one first.
 fn last_texts(alloc: Global, members: &[Member<'_>]) -> Result<Vec<Property>, ScanFault>
     ensures { let told = members_of (named_values members.now) in
-        GivesInRoom result (λ props. reverse props.items ≡ texts.last_texts told) }
+        IsAnswer ScanFault.OutOfMemory result (λ props. reverse props.items ≡ texts.last_texts told) }
 {
     let mut props = Vec::new(alloc);
     let mut seen = BTreeSet::new(alloc);
@@ -68,7 +69,7 @@ fn push_text(
     props: &mut Vec<Property>,
 ) -> Result<(), ScanFault>
     ensures { let others = reverse props.old.items in
-        GivesInRoom result (λ _.
+        IsAnswer ScanFault.OutOfMemory result (λ _.
         reverse props.new.items ≡ with_text name.now value.now others) }
 {
     if let Some(text) = text(value) {
@@ -79,7 +80,7 @@ fn push_text(
 
 /// The same bytes.
 pub fn copy(alloc: Global, text: &[u8]) -> Result<Sequence<u8>, ScanFault>
-    ensures { GivesInRoom result (λ bytes. bytes ≡ text.now) }
+    ensures { IsAnswer ScanFault.OutOfMemory result (λ bytes. bytes ≡ text.now) }
 {
     Ok(Sequence::from_vec(Vec::from_slice(alloc, text)?))
 }

@@ -1,8 +1,9 @@
 ghost use Rattle.std.specs.Prelude.{◌≡◌, ◌≢◌, IfOk, IfErr};
+ghost use Rattle.nbt_core.specs.Answer.{IsAnswer, IsRefusal};
 ghost use Rattle.nbt_core.specs.Spelling.{Root};
 ghost use Rattle.nbt_core.specs.Value.{Nbt};
 ghost use Rattle.scan_core.specs.declared.fault.ScanFault.{ScanFault};
-ghost use Rattle.scan_core.specs.Answer.{IsAnswer, IsRefusal, TellsInRoom};
+ghost use Rattle.scan_core.specs.Answer.{TellsInRoom};
 ghost use Rattle.scan_core.specs.Faults.{IsFaultOf, fault_of};
 ghost use Rattle.scan_core.specs.Scan.{IsScanOf, Scans, Structure};
 
@@ -21,11 +22,11 @@ pub fn read_scan(alloc: Global, bytes: &[u8]) -> Result<Scan, ScanFault>
     // What is read is what the root at the front of the bytes tells.
     ensures found { IfOk result (λ s. Scans bytes.now s) }
     // Such a structure is read.
-    ensures only { (s : Structure) → Scans bytes.now s → IsAnswer result s }
+    ensures only { (s : Structure) → Scans bytes.now s → IsAnswer ScanFault.OutOfMemory result (λ x. x ≡ s) }
     // A fault is the first one.
     ensures fault { IfErr result (λ e. e ≢ ScanFault.OutOfMemory → IsFaultOf bytes.now e) }
     // Such a fault is answered.
-    ensures refused { (e : ScanFault) → IsFaultOf bytes.now e → IsRefusal result e }
+    ensures refused { (e : ScanFault) → IsFaultOf bytes.now e → IsRefusal ScanFault.OutOfMemory result e }
     // Memory is wanted for bytes alone that begin with a root.
     ensures memory { IfErr result (λ e. e ≡ ScanFault.OutOfMemory → (root : Nbt) × Root bytes.now root) }
 {

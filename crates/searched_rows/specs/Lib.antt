@@ -1,1 +1,2 @@
+-- private
 pub mod Made

@@ -8,7 +8,8 @@ use Rattle.cave_runs.specs.declared.fault.RunFault.{RunFault}
 use Rattle.cave_runs.specs.declared.fault.RunFault.TheVariants.{ReadFailed, TooLong, WriteFailed, Scan, Table, Build}
 use Rattle.cave_runs.specs.declared.fault.RunFault.TheVariants.{Unlightable, NoThread, OutOfMemory}
 
--- 1 for refused input, 3 where a cell can't be lit, 6 where reading or writing failed, 7 for want of memory or threads
+-- 1 for refused input, 3 where a cell can't be lit, 6 where reading or writing failed, 7 where memory or threads were
+-- refused
 abbrev pub status : RunFault → ℕ
 status ReadFailed = 6
 status (TooLong input) = 1

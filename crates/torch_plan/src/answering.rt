@@ -248,10 +248,10 @@ fn answered<X: Threads + Wait + Sync, S: System, G: Gate, W: Write>(
 }
 
 /// Does what the words of a command line ask for, of which the first is the program's name, and answers the exit
-/// status: 0 done, or help that was asked for; 1 refused input; 2 a mistake in usage; 3 a cell that no torch lights; 4 a
-/// certificate that is rejected; 5 a plan whose turns were spent; 6 reading or writing failed; 7 memory or threads
-/// refused (this project's own). What is asked for is written to the output, help by the system. The gate is told of a plan
-/// while it goes on.
+/// status: 0 done, or help that was asked for; 1 refused input; 2 a mistake in usage; 3 a cell that no torch lights;
+/// 4 a certificate that is rejected; 5 a plan whose turns were spent; 6 reading or writing failed; 7 memory or threads
+/// refused (this project's own). What is asked for is written to the output, help by the system. The gate is told of
+/// a plan while it goes on.
 pub fn answer<X: Threads + Wait + Sync, S: System, G: Gate, W: Write>(
     threads: &X,
     alloc: Global,
@@ -260,7 +260,7 @@ pub fn answer<X: Threads + Wait + Sync, S: System, G: Gate, W: Write>(
     words: &[String],
     output: &mut W,
 ) -> u8
-    // A refused input, a mistake in usage, and want of memory or threads leave the output as it was.
+    // A refused input, a mistake in usage, and refused memory or threads leave the output as it was.
     ensures silent { IsRefused result → Keeps (W.contents output.old) (W.contents output.new) }
 {
     match request_of(alloc, words) {

@@ -119,7 +119,7 @@ fn plan_command<'a>(alloc: Global) -> Result<Command<'a>, AllocError> {
     Command::new(alloc, "plan")
         .about("Print the fewest torches that leave no such cell dark, layer by layer")
         .after_help(
-            "Example: torchplan plan cave.nbt --proof cave.proof\nIt prints `torches 2`, `dark 88`, a line `T x y z floor` for each torch (or the wall it hangs on), and the layers.",
+            "Example: torchplan plan cave.nbt --proof cave.proof\nIt prints `torches 2`, `dark 88`, torches, layers.",
         )
         .arg(file(alloc))?
         .arg(headroom(alloc))?

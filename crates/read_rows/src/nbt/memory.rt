@@ -1,4 +1,4 @@
-//! Every growth may be refused; the answer is then OutOfMemory and no other. These tests hold also
+//! Memory may be refused each time; the answer is then OutOfMemory and no other. These tests hold also
 //! where `rt try --test --fail-alloc N` refuses one.
 use nbt_core::{NbtFault, read_root};
 

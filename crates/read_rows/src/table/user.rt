@@ -121,7 +121,7 @@ opacity = 4
 }
 
 #[test]
-fn a_joker_serves_what_no_other_row_fits(rt: HostRuntime) -> Result<(), Fail> {
+fn a_wildcard_serves_what_no_other_row_fits(rt: HostRuntime) -> Result<(), Fail> {
     let alloc = rt.alloc();
     let text = r#"
 [[row]]

@@ -3,7 +3,7 @@ use Rattle.std.proofs.lemmas.Bool.{true≢false}
 use Rattle.scan_core.specs.Box as grid
 use Rattle.cave_model.specs.Torches.{IsPlace}
 use Rattle.cave_model.proofs.ListingLemmas.{lists_none, lists_skip, lists_push, lists_all, lists_inside}
-use Rattle.cover_rows.proofs.PlaceLemmas.{place_inside}
+use Rattle.cave_model.proofs.PlaceLemmas.{place_inside}
 use Rattle.cover_rows.proofs.places.legal_places.Goals.{then-is_place+in_ok-push, else-is_place}
 use Rattle.cover_rows.proofs.places.legal_places.Goals as goal
 

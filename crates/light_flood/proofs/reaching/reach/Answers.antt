@@ -10,13 +10,13 @@ use Rattle.light_flood.proofs.reaching.reach.Goals as goal
 
 pub returns : goal.returns
 returns c = λ cell.
-    (let same : reached c.from_map.result cell ≡ unwrap_or (get nat_cmp c.spread.new.store.levels cell) 0 =
+    (let same : reached c.from_map.result cell ≡ unwrap_or (get nat_cmp c.spread.new.self.store.levels cell) 0 =
     c.from_map.ensures cell ∙ ap (λ m. unwrap_or (get nat_cmp m cell) 0) c.into_levels.ensures in
     subst (IsReachOf c.args.world.now c.args.cell c.args.emission cell) (sym same)
     (settled_reach c.args.world.now c.args.cell c.args.emission
     (λ other. unwrap_or (get nat_cmp c.new-store.result.levels other) 0)
-    (λ other. unwrap_or (get nat_cmp c.seed.new.store.levels other) 0)
-    (λ other. unwrap_or (get nat_cmp c.spread.new.store.levels other) 0) c.requires.in_box
+    (λ other. unwrap_or (get nat_cmp c.seed.new.self.store.levels other) 0)
+    (λ other. unwrap_or (get nat_cmp c.spread.new.self.store.levels other) 0) c.requires.in_box
     (λ other. ap (λ (entries : List (ℕ × ℕ)). unwrap_or (lookup (is_at (nat_cmp other)) entries) 0)
     c.new-store.ensures.none)
     c.in_ok-seed.ensures.raised c.in_ok-spread.ensures.settled cell))

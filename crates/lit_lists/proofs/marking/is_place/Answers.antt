@@ -1,6 +1,6 @@
 use Rattle.std.proofs.Common.{ap, sym, ◌∙◌}
 use Rattle.std.specs.Prelude.{is_some}
-use Rattle.lit_lists.proofs.PlaceLemmas.{some_place, place_some}
+use Rattle.cave_model.proofs.PlaceLemmas.{some_place, place_some}
 use Rattle.lit_lists.proofs.marking.is_place.Goals as goal
 
 pub returns : goal.returns

@@ -1,7 +1,7 @@
 use Rattle.std.proofs.Common.{◌≡◌, arith}
 use Rattle.scan_core.specs.Box as grid
 use Rattle.cave_model.specs.Torches.{IsPlace}
-use Rattle.lit_lists.proofs.PlaceLemmas.{place_inside}
+use Rattle.cave_model.proofs.PlaceLemmas.{place_inside}
 use Rattle.lit_lists.proofs.MarkLemmas.{marking_push, marking_all}
 use Rattle.lit_lists.proofs.marking.place_marks.Goals as goal
 

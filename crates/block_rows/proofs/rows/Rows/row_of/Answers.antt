@@ -1,8 +1,8 @@
 use Rattle.std.proofs.Common.{option_copied, refl, sym, ap, ◌∙◌}
 use Rattle.block_rows.specs.declared.row.Row.{Row}
 use Rattle.block_rows.specs.Class.{IsSoundClass}
-use Rattle.block_rows.specs.Rows.{Table, fits, fits_as_joker}
-use Rattle.block_rows.proofs.LookUpLemmas.{row_of-user, row_of-shipped, row_of-joker, found_in, found_all}
+use Rattle.block_rows.specs.Rows.{Table, fits, fits_as_wildcard}
+use Rattle.block_rows.proofs.LookUpLemmas.{row_of-user, row_of-shipped, row_of-wildcard, found_in, found_all}
 use Rattle.block_rows.proofs.LookUpLemmas.{copied_none, copied_some}
 use Rattle.block_rows.proofs.rows.Rows.row_of.Goals as goal
 
@@ -25,9 +25,9 @@ pub returns-clause-row : goal.returns-clause-row
 returns-clause-row c =
     let rows = c.deref.ensures.value ∙ ap (λ (table : Table). table.user) c.self.view_is in
     let later = c.deref-2.ensures.value ∙ ap (λ (table : Table). table.shipped) c.self.view_is in
-    let jokers = c.deref-3.ensures.value ∙ ap (λ (table : Table). table.user) c.self.view_is in
-    sym (found_in (fits_as_joker c.args.state.now) jokers c.first_joker.ensures refl)
-    ∙ row_of-joker c.args.self.now c.args.state.now
+    let wildcards = c.deref-3.ensures.value ∙ ap (λ (table : Table). table.user) c.self.view_is in
+    sym (found_in (fits_as_wildcard c.args.state.now) wildcards c.first_wildcard.ensures refl)
+    ∙ row_of-wildcard c.args.self.now c.args.state.now
     (found_in (fits c.args.state.now) rows c.first_by_name.ensures
     (copied_none c.first_by_name.result c.in_default.not-Some))
     (found_in (fits c.args.state.now) later c.first_by_name-2.ensures
@@ -49,7 +49,7 @@ returns-in-Some-first_by_name-clause-sound c =
 
 pub returns-clause-sound : goal.returns-clause-sound
 returns-clause-sound c =
-    copied_some (λ (row : Row). IsSoundClass row.class) c.first_joker.result λ row e.
-    found_all (λ (row : Row). IsSoundClass row.class) (fits_as_joker c.args.state.now) c.self.inside.user.items row
+    copied_some (λ (row : Row). IsSoundClass row.class) c.first_wildcard.result λ row e.
+    found_all (λ (row : Row). IsSoundClass row.class) (fits_as_wildcard c.args.state.now) c.self.inside.user.items row
     c.self.invariant.user_sound
-    (found_in (fits_as_joker c.args.state.now) c.deref-3.ensures.value c.first_joker.ensures e)
+    (found_in (fits_as_wildcard c.args.state.now) c.deref-3.ensures.value c.first_wildcard.ensures e)
