@@ -7,7 +7,7 @@ use lib.ListN.{get_elem?}
 use Rattle.atomic_table.specs.Table.{Splits, Joins, Final, Seen}
 use Rattle.atomic_table.proofs.Lists.{at_set, at_snoc, at_longer, set_else}
 use Rattle.beacon.specs.declared.known.Known.{Known}
-use Rattle.beacon.specs.Marks.{AtLeast, one_more_out, newcomer, together, nobody}
+use Rattle.beacon.specs.Marks.{AtLeast, after_split, newcomer, together, nobody}
 use Rattle.beacon.specs.Rule.{one_if_unspent, unspent, IsBelow, Fits, AllFit, IsTold}
 use Rattle.beacon.proofs.SeatLemmas.{set_at, unspent_set, unspent_snoc, unspent_two}
 use Rattle.beacon.proofs.MarkLemmas.{at_least_lesser, lesser_left, lesser_right, told_set}
@@ -19,10 +19,10 @@ off e = true≢false (sym e)
 
 -- the first seat may be split, and the rule stays
 pub splits : (id : ℕ) (v : Known) → v.first ≡ true → v.spent ≡ false
-    → Splits Rule id v (one_more_out v) (newcomer v)
+    → Splits Rule id v (after_split v) (newcomer v)
 splits id v first live s h at =
     let word = h.word in
-    let w : Known = one_more_out v in
+    let w : Known = after_split v in
     let seats : List Known = set s.views id w in
     let all : List Known = seats ++ newcomer v ∷ [] in
     let mine = h.fit id v at in

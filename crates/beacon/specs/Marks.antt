@@ -45,8 +45,8 @@ told_too seat size = record {
 }
 
 -- after a seat was split off
-abbrev pub one_more_out : Known → Known
-one_more_out seat =
+abbrev pub after_split : Known → Known
+after_split seat =
     record { first = seat.first; spent = seat.spent; seen = seat.seen; told = seat.told; out = seat.out + 1 }
 
 -- what the seat that was split off knows

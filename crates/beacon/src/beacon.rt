@@ -1,6 +1,6 @@
 //! The shared word.
 ghost use Rattle.std.specs.Prelude.{◌≡◌, ◌≤◌, true, Some, IfOk};
-ghost use Rattle.beacon.specs.Marks.{at_first, Looked, told_too, one_more_out, newcomer, together};
+ghost use Rattle.beacon.specs.Marks.{at_first, Looked, told_too, after_split, newcomer, together};
 
 use crate::known::Known;
 use crate::rule::{Least, Looks, Seats, Tells};
@@ -60,7 +60,7 @@ impl Beacon {
     pub fn split(&self, seat: &mut Seat) -> Seat
         requires { (seat.old.beacon ≡ self.now) × (seat.old.knows.first ≡ true) }
         ensures same { (seat.new.beacon ≡ seat.old.beacon) × (result.beacon ≡ seat.old.beacon) }
-        ensures marks { (seat.new.knows ≡ one_more_out seat.old.knows) × (result.knows ≡ newcomer seat.old.knows) }
+        ensures marks { (seat.new.knows ≡ after_split seat.old.knows) × (result.knows ≡ newcomer seat.old.knows) }
     {
         Seat {
             seat: self.table.shared.split_seat::<Seats>(&mut seat.seat),

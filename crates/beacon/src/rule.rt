@@ -38,9 +38,9 @@ impl Play<u8, Known> for Tells {
 pub(crate) struct Seats;
 
 impl Split<Known> for Seats {
-    ghost use Rattle.beacon.specs.Marks.{one_more_out, newcomer};
+    ghost use Rattle.beacon.specs.Marks.{after_split, newcomer};
 
-    ghost left = { one_more_out };
+    ghost left = { after_split };
 
     ghost right = { newcomer };
 }

@@ -6,35 +6,35 @@ use Rattle.std.proofs.lemmas.List.Elements.{All-head, All-tail}
 use Rattle.std.proofs.lemmas.List.Folds.{find-append}
 use Rattle.scan_core.specs.declared.state.BlockState.{BlockState}
 use Rattle.block_rows.specs.declared.row.Row.{Row}
-use Rattle.block_rows.specs.Rows.{Table, row_of, fits, fits_as_wildcard}
+use Rattle.block_rows.specs.Rows.{Table, row_for, fits, fits_as_wildcard}
 
 -- the user's rows come first, then those shipped, then the user's wildcards
-pub row_of-parts : (table : Table) (state : BlockState)
-    → row_of table state ≡ option_or (option_or (find (fits state) table.user) (find (fits state) table.shipped))
+pub row_for-parts : (table : Table) (state : BlockState)
+    → row_for table state ≡ option_or (option_or (find (fits state) table.user) (find (fits state) table.shipped))
     (find (fits_as_wildcard state) table.user)
-row_of-parts table state = ap (λ (o : Option Row). option_or o (find (fits_as_wildcard state) table.user))
+row_for-parts table state = ap (λ (o : Option Row). option_or o (find (fits_as_wildcard state) table.user))
     (find-append (fits state) table.user table.shipped)
 
 -- a row of the user's that fits is the one
-pub row_of-user : (table : Table) (state : BlockState) (row : Row) → find (fits state) table.user ≡ Some row
-    → Some row ≡ row_of table state
-row_of-user table state row e =
-    sym (row_of-parts table state
+pub row_for-user : (table : Table) (state : BlockState) (row : Row) → find (fits state) table.user ≡ Some row
+    → Some row ≡ row_for table state
+row_for-user table state row e =
+    sym (row_for-parts table state
     ∙ ap (λ (o : Option Row). option_or (option_or o (find (fits state) table.shipped))
     (find (fits_as_wildcard state) table.user)) e)
 
 -- where none does, a shipped one that fits is
-pub row_of-shipped : (table : Table) (state : BlockState) (row : Row) → find (fits state) table.user ≡ None
-    → find (fits state) table.shipped ≡ Some row → Some row ≡ row_of table state
-row_of-shipped table state row e f = sym (row_of-parts table state
+pub row_for-shipped : (table : Table) (state : BlockState) (row : Row) → find (fits state) table.user ≡ None
+    → find (fits state) table.shipped ≡ Some row → Some row ≡ row_for table state
+row_for-shipped table state row e f = sym (row_for-parts table state
     ∙ ap (λ (o : Option Row). option_or (option_or o (find (fits state) table.shipped))
     (find (fits_as_wildcard state) table.user)) e
     ∙ ap (λ (o : Option Row). option_or o (find (fits_as_wildcard state) table.user)) f)
 
 -- where none does either, a wildcard is
-pub row_of-wildcard : (table : Table) (state : BlockState) → find (fits state) table.user ≡ None
-    → find (fits state) table.shipped ≡ None → find (fits_as_wildcard state) table.user ≡ row_of table state
-row_of-wildcard table state e f = sym (row_of-parts table state
+pub row_for-wildcard : (table : Table) (state : BlockState) → find (fits state) table.user ≡ None
+    → find (fits state) table.shipped ≡ None → find (fits_as_wildcard state) table.user ≡ row_for table state
+row_for-wildcard table state e f = sym (row_for-parts table state
     ∙ ap (λ (o : Option Row). option_or (option_or o (find (fits state) table.shipped))
     (find (fits_as_wildcard state) table.user)) e
     ∙ ap (λ (o : Option Row). option_or o (find (fits_as_wildcard state) table.user)) f)

@@ -13,7 +13,7 @@ use Rattle.block_rows.specs.declared.fault.RowsFault.TheVariants.{Toml}
 use Rattle.block_rows.specs.Judging.{document_fault}
 use Rattle.block_rows.specs.Rows.{Table}
 use Rattle.block_rows.specs.Shipped.{shipped_rows}
-use Rattle.block_rows.specs.UserTable.{IsDocument, IsDocumentFault, IsFaultOf, IsTableOf, elements_of, rows_of}
+use Rattle.block_rows.specs.UserTable.{IsDocument, IsDocumentFault, IsRowsFaultOf, IsTableOf, elements_of, rows_of}
 use Rattle.block_rows.proofs.FaultLemmas.{fault_or_rows, found_fault, no_fault_found, one_document_fault}
 
 -- equal options that are there have equal contents
@@ -27,7 +27,7 @@ one_document text a b one other = same_document a b (sym one.means ∙ other.mea
 -- a document tells a table or has a fault
 of_document : (text : List ℕ) (document : Members) (found : Option RowsFault) → IsDocument text document
     → document_fault document ≡ found
-    → ((table : Table) × IsTableOf text table) ⊎ ((fault : RowsFault) × IsFaultOf text fault)
+    → ((table : Table) × IsTableOf text table) ⊎ ((fault : RowsFault) × IsRowsFaultOf text fault)
 of_document text document (Some fault) is e = inr (fault, inr (document, is, found_fault document fault e))
 of_document text document None is e =
     let none = no_fault_found document e in
@@ -43,7 +43,7 @@ of_document text document None is e =
 
 -- UTF-8 that may be a document tells a table or has a fault
 of_utf8 : (text : List ℕ) (parsed : Option Members) → IsUtf8 text → parse_document text ≡ parsed
-    → ((table : Table) × IsTableOf text table) ⊎ ((fault : RowsFault) × IsFaultOf text fault)
+    → ((table : Table) × IsTableOf text table) ⊎ ((fault : RowsFault) × IsRowsFaultOf text fault)
 of_utf8 text (Some document) utf8 e =
     of_document text document (document_fault document) (record { utf8 = utf8; means = e }) refl
 of_utf8 text None utf8 e = inr (Toml, inl (no_document, refl))
@@ -56,18 +56,18 @@ of_utf8 text None utf8 e = inr (Toml, inl (no_document, refl))
 
 -- a text tells a table or has a fault, whether it is UTF-8 or not
 by_utf8 : (text : List ℕ) (b : Bool) → is_utf8 text ≡ b
-    → ((table : Table) × IsTableOf text table) ⊎ ((fault : RowsFault) × IsFaultOf text fault)
+    → ((table : Table) × IsTableOf text table) ⊎ ((fault : RowsFault) × IsRowsFaultOf text fault)
 by_utf8 text true e = of_utf8 text (parse_document text) (IsUtf8-from_is_utf8 text e) refl
 by_utf8 text false e = inr (Toml, inl (λ document is. true≢false (sym (is_utf8-from_IsUtf8 text is.utf8) ∙ e), refl))
 
 -- all texts tell a table or have a fault
 pub table_or_fault : (text : List ℕ)
-    → ((table : Table) × IsTableOf text table) ⊎ ((fault : RowsFault) × IsFaultOf text fault)
+    → ((table : Table) × IsTableOf text table) ⊎ ((fault : RowsFault) × IsRowsFaultOf text fault)
 table_or_fault text = by_utf8 text (is_utf8 text) refl
 
 -- a text that tells a table has no fault
 pub table_has_no_fault : (text : List ℕ) (table : Table) (fault : RowsFault)
-    → IsTableOf text table → IsFaultOf text fault → ⊥
+    → IsTableOf text table → IsRowsFaultOf text fault → ⊥
 table_has_no_fault text table fault is (inl none) = none.0 is.document is.read
 table_has_no_fault text table fault is (inr found) =
     let same = one_document text is.document found.0 is.read found.1 in
@@ -87,7 +87,7 @@ one_table text a b one other =
     same_table a.user b.user a.shipped b.shipped user (one.shipped ∙ sym other.shipped)
 
 -- a text has one fault
-pub one_fault : (text : List ℕ) → (a b : RowsFault) → IsFaultOf text a → IsFaultOf text b → a ≡ b
+pub one_fault : (text : List ℕ) → (a b : RowsFault) → IsRowsFaultOf text a → IsRowsFaultOf text b → a ≡ b
 one_fault text a b (inl one) (inl other) = one.1 ∙ sym other.1
 one_fault text a b (inl one) (inr other) = absurd (one.0 other.0 other.1)
 one_fault text a b (inr one) (inl other) = absurd (other.0 one.0 one.1)

@@ -13,7 +13,7 @@ use Rattle.block_rows.specs.Class.{IsSoundClass, gives_way_as_air}
 use Rattle.block_rows.specs.Columns.{has_only, in_column, small, level_of, name_in, when_in, opacity_in, emission_in}
 use Rattle.block_rows.specs.Columns.{flag_in, class_in, row_in}
 use Rattle.block_rows.specs.Rows.{AreSoundRows}
-use Rattle.block_rows.specs.UserTable.{row_columns, has_flags, row_fault, IsWhole, fault_at, elements_of, TellsRows}
+use Rattle.block_rows.specs.UserTable.{row_columns, has_flags, row_fault, IsWholeRow, fault_at, elements_of, TellsRows}
 use Rattle.block_rows.specs.UserTable.{rows_of}
 use Rattle.block_rows.proofs.ClassLemmas.{both_true, sound_class}
 
@@ -105,7 +105,7 @@ neither true b e = absurd (cc)
 neither false b e = (refl, e)
 
 -- a row with no fault is whole
-pub whole : (ms : Members) → row_fault ms ≡ None → IsWhole ms (row_in ms)
+pub whole : (ms : Members) → row_fault ms ≡ None → IsWholeRow ms (row_in ms)
 whole ms e =
     let is = faultless ms e in
     let numbers = neither (is_none (opacity_in ms)) (is_none (emission_in ms)) is.numbers in

@@ -32,8 +32,8 @@ abbrev pub fits_as_wildcard : BlockState → Row → Bool
 fits_as_wildcard state row = is_wildcard row && conditions_hold state row
 
 -- the first row that fits by its name, else the first of the user's that fits whatever the name
-abbrev pub row_of : Table → BlockState → Option Row
-row_of table state =
+abbrev pub row_for : Table → BlockState → Option Row
+row_for table state =
     option_or (find (fits state) (table.user ++ table.shipped)) (find (fits_as_wildcard state) table.user)
 
 -- each of the rows has a sound class

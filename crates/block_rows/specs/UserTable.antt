@@ -50,7 +50,7 @@ row_fault ms = first_met ((not (has_only row_columns ms), UnknownKey)
     ∷ [])
 
 -- each column of the members tells what the row has
-pub record IsWhole (ms : Members) (row : Row) : Type 0 where
+pub record IsWholeRow (ms : Members) (row : Row) : Type 0 where
   pub named : name_in ms ≡ Some row.name
   pub asks : when_in ms ≡ Some row.when
   pub opaque : opacity_in ms ≡ Some row.class.opacity
@@ -115,6 +115,6 @@ pub record IsTableOf (text : List ℕ) (table : Table) : Type 0 where
   pub shipped : table.shipped ≡ shipped_rows
 
 -- the first fault of a text
-abbrev pub IsFaultOf : List ℕ → RowsFault → Type 0
-IsFaultOf text fault = (((document : Members) → ¬ IsDocument text document) × (fault ≡ Toml))
+abbrev pub IsRowsFaultOf : List ℕ → RowsFault → Type 0
+IsRowsFaultOf text fault = (((document : Members) → ¬ IsDocument text document) × (fault ≡ Toml))
     ⊎ ((document : Members) × IsDocument text document × IsDocumentFault document fault)

@@ -4,7 +4,7 @@ ghost use Rattle.toml.specs.Data.{Members};
 ghost use Rattle.block_rows.specs.Columns.{row_in};
 ghost use Rattle.block_rows.specs.Rows.{Table};
 ghost use Rattle.block_rows.specs.Shipped.{AreDistinctRows, shipped_rows};
-ghost use Rattle.block_rows.specs.UserTable.{IsFaultOf, IsTableOf, IsWhole, row_fault};
+ghost use Rattle.block_rows.specs.UserTable.{IsRowsFaultOf, IsTableOf, IsWholeRow, row_fault};
 ghost use Rattle.block_rows.specs.declared.fault.RowsFault.{RowsFault};
 
 /// Two shipped rows of one name differ in the properties that they ask for.
@@ -14,19 +14,19 @@ pub fn shipped_names_are_distinct()
 
 /// In a row without a fault each column tells what the row has: nothing is guessed where a value is told wrongly.
 pub fn faultless_rows_are_whole()
-    ensures { (ms : Members) → row_fault ms ≡ None → IsWhole ms (row_in ms) }
+    ensures { (ms : Members) → row_fault ms ≡ None → IsWholeRow ms (row_in ms) }
 {}
 
 /// All texts tell a table or have a fault.
 pub fn table_or_fault()
     ensures { (text : List ℕ)
-        → ((table : Table) × IsTableOf text table) ⊎ ((fault : RowsFault) × IsFaultOf text fault) }
+        → ((table : Table) × IsTableOf text table) ⊎ ((fault : RowsFault) × IsRowsFaultOf text fault) }
 {}
 
 /// A text that tells a table has no fault.
 pub fn table_has_no_fault()
     ensures { (text : List ℕ) (table : Table) (fault : RowsFault)
-        → IsTableOf text table → IsFaultOf text fault → ⊥ }
+        → IsTableOf text table → IsRowsFaultOf text fault → ⊥ }
 {}
 
 /// A text tells one table at most.
@@ -36,5 +36,5 @@ pub fn one_table()
 
 /// A text has one fault at most.
 pub fn one_table_fault()
-    ensures { (text : List ℕ) → (a b : RowsFault) → IsFaultOf text a → IsFaultOf text b → a ≡ b }
+    ensures { (text : List ℕ) → (a b : RowsFault) → IsRowsFaultOf text a → IsRowsFaultOf text b → a ≡ b }
 {}

@@ -1,9 +1,9 @@
 ghost use Rattle.std.specs.Prelude.{◌≡◌, ◌≢◌, [], IfErr, IfOk, IfSome, option_copied};
 ghost use Rattle.nbt_core.specs.Answer.{IsAnswer, IsRefusal};
 ghost use Rattle.block_rows.specs.Class.{IsSoundClass};
-ghost use Rattle.block_rows.specs.Rows.{Table, row_of};
+ghost use Rattle.block_rows.specs.Rows.{Table, row_for};
 ghost use Rattle.block_rows.specs.Shipped.{shipped_rows};
-ghost use Rattle.block_rows.specs.UserTable.{IsFaultOf, IsTableOf};
+ghost use Rattle.block_rows.specs.UserTable.{IsRowsFaultOf, IsTableOf};
 ghost use Rattle.block_rows.specs.declared.fault.RowsFault.{RowsFault};
 
 use crate::fault::RowsFault;
@@ -56,9 +56,9 @@ impl Rows {
         ensures only { (table : Table) → IsTableOf text.now table
             → IsAnswer RowsFault.OutOfMemory result (λ rows. rows ≡ table) }
         // A fault is the first one.
-        ensures fault { IfErr result (λ e. e ≢ RowsFault.OutOfMemory → IsFaultOf text.now e) }
+        ensures fault { IfErr result (λ e. e ≢ RowsFault.OutOfMemory → IsRowsFaultOf text.now e) }
         // Such a fault is answered.
-        ensures refused { (e : RowsFault) → IsFaultOf text.now e → IsRefusal RowsFault.OutOfMemory result e }
+        ensures refused { (e : RowsFault) → IsRowsFaultOf text.now e → IsRefusal RowsFault.OutOfMemory result e }
     {
         let document = document(alloc, text)?;
         let user = document_rows(alloc, &document)?;
@@ -72,7 +72,7 @@ impl Rows {
     /// It takes no memory, and time in proportion to the number of rows: each row's name is compared first, and
     /// what it asks for only where the names are equal.
     pub fn row_of(&self, state: &BlockState) -> Option<&Row>
-        ensures row { option_copied result ≡ row_of self.now state.now }
+        ensures row { option_copied result ≡ row_for self.now state.now }
         ensures sound { IfSome result (λ row. IsSoundClass row.now.class) }
     {
         if let Some(row) = first_by_name(&self.user, state) {

@@ -14,7 +14,7 @@ use Rattle.block_rows.specs.Rows.{Table}
 use Rattle.cave_model.specs.Building.{AreClassesOf, class_by}
 use Rattle.cave_model.specs.Rule.{Rule, IsRule, is_need}
 use Rattle.cave_model.specs.Cave.{Cave, class_at, IsWorld}
-use Rattle.cave_model.specs.World.{row_at, IsCaveOf, IsClassOf, IsUnknownBlock}
+use Rattle.cave_model.specs.World.{palette_row, IsCaveOf, IsClassOf, IsUnknownBlock}
 use Rattle.cave_model.specs.declared.fault.BuildFault.{BuildFault}
 use Rattle.cave_model.specs.declared.fault.BuildFault.TheVariants.{UnknownBlock, OutOfMemory}
 use Rattle.cave_model.proofs.StateLemmas.{known_at, contains_at}
@@ -124,7 +124,7 @@ one_class : (rows : Table) (palette : List BlockState) (o : Option ℕ) (a b : C
     → IsClassOf rows palette o b → a ≡ b
 one_class rows palette None a b p q = p ∙ sym q
 one_class rows palette (Some index) a b p q = p.2 ∙ ap (λ (row : Row). row.class)
-    (some_row p.0 q.0 (row_at rows palette index) p.1 q.1) ∙ sym q.2
+    (some_row p.0 q.0 (palette_row rows palette index) p.1 q.1) ∙ sym q.2
 
 -- caves with equal size, classes and rule are equal
 same_cave : (a b : Cave) → a.size ≡ b.size → a.classes ≡ b.classes → a.rule ≡ b.rule → a ≡ b
@@ -152,7 +152,7 @@ no_unknown scan rows rule cave e whole is (index, u, f) =
     (Some index) u.used.1 ∙ u.used.2 in
     let class = subst (λ (o : Option ℕ). IsClassOf rows scan.palette o (class_at cave u.used.0)) at
     (is.classed u.used.0 (subst (λ (n : ℕ). u.used.0 < n) whole u.used.1)) in
-    row_missing class.0 (row_at rows scan.palette index) u.rowless class.1
+    row_missing class.0 (palette_row rows scan.palette index) u.rowless class.1
 
 -- a fault that is none of memory's own names an unknown block; so where there is a cave, memory ran out
 pub only_memory : (scan : Structure) (rows : Table) (rule : Rule) (cave : Cave) (e : BuildFault)

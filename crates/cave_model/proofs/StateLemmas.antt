@@ -11,8 +11,8 @@ use Rattle.scan_core.specs.declared.state.BlockState.{BlockState}
 use Rattle.block_rows.specs.declared.class.Class.{Class}
 use Rattle.block_rows.specs.declared.row.Row.{Row}
 use Rattle.block_rows.specs.Class.{IsSoundClass, void}
-use Rattle.block_rows.specs.Rows.{Table, row_of}
-use Rattle.cave_model.specs.World.{row_at, IsClassOf, IsUnknown, IsUnknownBlock}
+use Rattle.block_rows.specs.Rows.{Table, row_for}
+use Rattle.cave_model.specs.World.{palette_row, IsClassOf, IsUnknown, IsUnknownBlock}
 use Rattle.cave_model.specs.declared.fault.BuildFault.{BuildFault}
 use Rattle.cave_model.specs.declared.fault.BuildFault.TheVariants.{UnknownBlock}
 use Rattle.cave_model.specs.Building.{AreUsed, AreClassesOf}
@@ -121,10 +121,11 @@ classes_push cells palette rows states classes class sound is a = record {
 }
 
 -- the row of a state that the palette has
-pub row_at-get_or : (rows : Table) (palette : List BlockState) (index : ℕ) (state : BlockState) → index < length palette
-    → state ≡ get_or palette index state → row_at rows palette index ≡ row_of rows state
-row_at-get_or rows palette index state lt e = ap (option_and_then (row_of rows))
-    (slice_get-get_or palette index state lt) ∙ ap (row_of rows) (sym e)
+pub palette_row-get_or : (rows : Table) (palette : List BlockState) (index : ℕ) (state : BlockState)
+    → index < length palette
+    → state ≡ get_or palette index state → palette_row rows palette index ≡ row_for rows state
+palette_row-get_or rows palette index state lt e = ap (option_and_then (row_for rows))
+    (slice_get-get_or palette index state lt) ∙ ap (row_for rows) (sym e)
 
 -- an option isn't both none and there
 none_some : (row : Row) (o : Option Row) → o ≡ None → o ≡ Some row → ⊥
@@ -133,33 +134,34 @@ none_some row o e f = absurd (cc)
 -- a state without a row, where each one before it that the cells name has a row
 pub unknown_here : (scan : Structure) (rows : Table) (index : ℕ) (classes : List Class)
     → AreClassesOf scan.cells scan.palette rows index classes → Contains scan.cells (Some index)
-    → row_at rows scan.palette index ≡ None → IsUnknown scan rows index
+    → palette_row rows scan.palette index ≡ None → IsUnknown scan rows index
 unknown_here scan rows index classes a c e = record {
   used = c;
   rowless = e;
   first = λ other used rowless. elim (cases_lt other index) [
     | inl lt ↦ (let is = a.classed other lt used in
-        absurd (none_some is.0 (row_at rows scan.palette other) rowless is.1))
+        absurd (none_some is.0 (palette_row rows scan.palette other) rowless is.1))
     | inr le ↦ le
   ];
 }
 
 -- the class of the row that is found is that of the state
 pub found_class : (rows : Table) (palette : List BlockState) (index : ℕ) (state : BlockState) (row : Row)
-    (class : Class) → index < length palette → state ≡ get_or palette index state → Some row ≡ row_of rows state
+    (class : Class) → index < length palette → state ≡ get_or palette index state → Some row ≡ row_for rows state
     → class ≡ row.class → IsClassOf rows palette (Some index) class
-found_class rows palette index state row class lt e f g = (row, row_at-get_or rows palette index state lt e ∙ sym f, g)
+found_class rows palette index state row class lt e f g =
+    (row, palette_row-get_or rows palette index state lt e ∙ sym f, g)
 
 -- the fault of such a state
 pub fault_here : (scan : Structure) (rows : Table) (index : ℕ) (classes : List Class) (state : BlockState)
     (fault : BuildFault) → AreClassesOf scan.cells scan.palette rows index classes → Contains scan.cells (Some index)
-    → index < length scan.palette → state ≡ get_or scan.palette index state → None ≡ row_of rows state
+    → index < length scan.palette → state ≡ get_or scan.palette index state → None ≡ row_for rows state
     → fault ≡ UnknownBlock index state.name → IsUnknownBlock scan rows fault
 fault_here scan rows index classes state fault a c lt e none is =
     let named : state ≡ get_or scan.palette index (record { name = []; props = [] }) = e
     ∙ get_or_default scan.palette index state (record { name = []; props = [] }) lt in (
       index,
-      unknown_here scan rows index classes a c (row_at-get_or rows scan.palette index state lt e ∙ sym none),
+      unknown_here scan rows index classes a c (palette_row-get_or rows scan.palette index state lt e ∙ sym none),
       is
           ∙ ap (λ (s : BlockState). UnknownBlock index s.name) named,
     )

@@ -23,7 +23,7 @@ IsTableFor (Some text) rows = user.IsTableOf text rows
 -- why the user's table is refused
 abbrev pub IsTableFault : Option (List ℕ) → RowsFault → Type 0
 IsTableFault None fault = ⊥
-IsTableFault (Some text) fault = user.IsFaultOf text fault
+IsTableFault (Some text) fault = user.IsRowsFaultOf text fault
 
 -- the cave that the bytes of a structure tell, by the table's rows and this rule
 pub record IsCaveOfBytes (bytes : List ℕ) (table : Option (List ℕ)) (rule : Rule) (cave : Cave) : Type 0 where

@@ -6,7 +6,7 @@ use Rattle.scan_core.specs.Scan.{Structure}
 use Rattle.scan_core.specs.declared.state.BlockState.{BlockState}
 use Rattle.block_rows.specs.declared.class.Class.{Class}
 use Rattle.block_rows.specs.Class.{void}
-use Rattle.block_rows.specs.Rows.{Table, row_of}
+use Rattle.block_rows.specs.Rows.{Table, row_for}
 use Rattle.block_rows.specs.declared.row.Row.{Row}
 use Rattle.cave_model.specs.Rule.{Rule}
 use Rattle.cave_model.specs.Cave.{Cave, class_at}
@@ -14,13 +14,14 @@ use Rattle.cave_model.specs.declared.fault.BuildFault.{BuildFault}
 use Rattle.cave_model.specs.declared.fault.BuildFault.TheVariants.{UnknownBlock}
 
 -- the row of an index into the palette
-abbrev pub row_at : Table → List BlockState → ℕ → Option Row
-row_at rows palette index = option_and_then (row_of rows) (slice_get palette index)
+abbrev pub palette_row : Table → List BlockState → ℕ → Option Row
+palette_row rows palette index = option_and_then (row_for rows) (slice_get palette index)
 
 -- the class of a cell that names this index, or of one that names none
 abbrev pub IsClassOf : Table → List BlockState → Option ℕ → Class → Type 0
 IsClassOf rows palette None class = class ≡ void
-IsClassOf rows palette (Some index) class = (row : Row) × (row_at rows palette index ≡ Some row) × (class ≡ row.class)
+IsClassOf rows palette (Some index) class = (row : Row) × (palette_row rows palette index ≡ Some row)
+    × (class ≡ row.class)
 
 -- the cave has the structure's box, and for each cell the class of its state
 pub record IsCaveOf (scan : Structure) (rows : Table) (rule : Rule) (cave : Cave) : Type 0 where
@@ -33,8 +34,9 @@ pub record IsCaveOf (scan : Structure) (rows : Table) (rule : Rule) (cave : Cave
 -- the least index that a cell names and no row fits
 pub record IsUnknown (scan : Structure) (rows : Table) (index : ℕ) : Type 0 where
   pub used : Contains scan.cells (Some index)
-  pub rowless : row_at rows scan.palette index ≡ None
-  pub first : (other : ℕ) → Contains scan.cells (Some other) → row_at rows scan.palette other ≡ None → index ≤ other
+  pub rowless : palette_row rows scan.palette index ≡ None
+  pub first : (other : ℕ) → Contains scan.cells (Some other) → palette_row rows scan.palette other ≡ None
+      → index ≤ other
 
 -- the name of a block state of the palette
 abbrev pub name_at : Structure → ℕ → List ℕ

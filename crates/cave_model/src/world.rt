@@ -60,7 +60,7 @@ impl World {
     }
 
     /// The number of cells of the box.
-    pub fn cell_count(&self) -> Cell
+    pub fn cell_count(&self) -> u32
         ensures count { result ≡ grid.cell_count self.now.size }
         ensures sound { IsSound self.now }
     {

@@ -16,7 +16,7 @@ use Rattle.cave_regions.specs.Cover.{Covering, IsCover, IsCoverOfRegion}
 use Rattle.proof_tree.specs.Planned.{Plan}
 use Rattle.search_core.specs.Planned.{IsBest, IsStopped}
 use Rattle.plan_laws.specs.Bounded.{Bounded, all_torches, total_floor}
-use Rattle.cave_plan.specs.Course.{Course, course, IsBounded, IsProved, AreProved, IsCourse, GoesOn}
+use Rattle.cave_plan.specs.Course.{Course, course, IsBounded, IsProved, AreProvedPlans, IsCourse, GoesOn}
 
 -- what holds of a value holds of all of a list of it alone
 one : {X : Type 0} (P : X → Type 0) (x : X) → P x → All P (x ∷ [])
@@ -67,7 +67,7 @@ pub part_more : (regions : List Instance) (turns : Option ℕ) (old : Course) (p
     (stopped : Bool) (plans : List Plan)
     → IsCourse regions turns old → IsBounded part
     → (old.floor + part.floor ≤ length (old.torches ++ part.torches) → floor ≡ old.floor + part.floor)
-    → (stopped ≡ false → AreProved (regions ++ part.region ∷ []) (old.torches ++ part.torches) plans)
+    → (stopped ≡ false → AreProvedPlans (regions ++ part.region ∷ []) (old.torches ++ part.torches) plans)
     → (stopped ≡ true → IsSome turns)
     → IsCourse (regions ++ part.region ∷ []) turns (course (old.torches ++ part.torches) floor stopped plans)
 part_more regions turns old part floor stopped plans c is sum proved limited =
@@ -109,8 +109,8 @@ best_bounded region cover tree best kept = record {
 
 -- one more proved region
 proved_more : (regions : List Instance) (torches : List ℕ) (plans : List Plan) (plan : Plan)
-    → AreProved regions torches plans → IsProved plan
-    → AreProved (regions ++ plan.region ∷ []) (torches ++ plan.torches) (plans ++ plan ∷ [])
+    → AreProvedPlans regions torches plans → IsProved plan
+    → AreProvedPlans (regions ++ plan.region ∷ []) (torches ++ plan.torches) (plans ++ plan ∷ [])
 proved_more regions torches plans plan are is = record {
   of_them = map-append (λ (p : Plan). p.region) plans (plan ∷ []) ∙ ap (λ (l : List Instance). l
       ++ plan.region ∷ []) are.of_them;

@@ -30,7 +30,7 @@ pub record IsProved (plan : Plan) : Type 0 where
   pub good : Good (of_instance plan.region) plan.region.cells [] [] (length plan.torches) plan.tree
 
 -- each of the regions is proved, with just these torches
-pub record AreProved (regions : List Instance) (torches : List ℕ) (plans : List Plan) : Type 0 where
+pub record AreProvedPlans (regions : List Instance) (torches : List ℕ) (plans : List Plan) : Type 0 where
   pub of_them : map (λ plan. plan.region) plans ≡ regions
   pub each : All IsProved plans
   pub whole : flat_map (λ plan. plan.torches) plans ≡ torches
@@ -42,7 +42,7 @@ pub record IsCourse (regions : List Instance) (turns : Option ℕ) (c : Course) 
   pub each : All IsBounded parts
   pub whole : all_torches parts ≡ c.torches
   pub total : total_floor parts ≡ c.floor
-  pub proved : c.stopped ≡ false → AreProved regions c.torches c.plans
+  pub proved : c.stopped ≡ false → AreProvedPlans regions c.torches c.plans
   pub limited : c.stopped ≡ true → IsSome turns
 
 -- one region more is planned

@@ -6,7 +6,7 @@ use Rattle.std.proofs.lemmas.Bool.{cases_lt}
 use Rattle.bit_rows.specs.Bits.{Has, IsWith, IsNext, HasNoneFrom}
 use Rattle.set_cover.specs.Instance.{Instance, LightsAt, row_of, words_for}
 use Rattle.set_cover.proofs.OrderLemmas.{element_at, element_of}
-use Rattle.cave_regions.specs.Restricting.{IsClosed, Copies, HasRoom, AreCopied, AreRanks, AreEmpty}
+use Rattle.cave_regions.specs.Restricting.{IsSelfContained, Copies, HasRoom, AreCopied, AreRanks, AreEmpty}
 
 -- ---- one row
 
@@ -88,7 +88,7 @@ pub row_room : (rows width row : ℕ) → row < rows → 64 * (row * width) + 64
 row_room rows width row lt = (let more : width * (row + 1) ≤ width * rows = mul-le-mul_left width (omega arith) in
     omega arith)
 
-module _ (instance : Instance) (own placed ranks : List ℕ) (closed : IsClosed instance own placed)
+module _ (instance : Instance) (own placed ranks : List ℕ) (closed : IsSelfContained instance own placed)
     (ranked : AreRanks instance own ranks) where
   -- a lit cell is one of these, by its rank
   rank_of : (row cell : ℕ) → row < length placed → LightsAt instance (slice_index placed row) cell

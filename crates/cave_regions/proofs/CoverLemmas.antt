@@ -14,7 +14,7 @@ use Rattle.cover_rows.specs.Coverage.{IsProblemOf}
 use Rattle.cover_rows.proofs.CoverLemmas as problems
 use Rattle.set_cover.specs.Instance.{Instance, LightsIn}
 use Rattle.bit_rows.proofs.ListLemmas.{none_in}
-use Rattle.cave_regions.specs.Cover.{Covering, IsCover, places_of, regions_of}
+use Rattle.cave_regions.specs.Cover.{Covering, IsCover, places_of, regions_in}
 use Rattle.cave_regions.specs.Splitting.{AreRegionsOf, IsPartOf, cells_of_each}
 use Rattle.cave_regions.proofs.FlatLemmas.{in_all, in_one, distinct_all}
 use Rattle.cave_regions.proofs.CaveLemmas.{place_of}
@@ -33,23 +33,23 @@ record CoverAt (problem : Instance) (covers : List Covering) (k : ℕ) : Type 0 
   pub cover : Covering
   pub covers_it : IsCover cover
   pub part : IsPartOf problem cover.region
-  pub cells : slice_index_or (cells_of_each (regions_of covers)) k [] ≡ cover.region.cells
+  pub cells : slice_index_or (cells_of_each (regions_in covers)) k [] ≡ cover.region.cells
   pub places : slice_index_or (places_of_each covers) k [] ≡ cover.places
 
 -- each of the covers covers its region
 cover_at : (problem : Instance) (covers : List Covering) (k : ℕ) → k < length covers → All IsCover covers
-    → All (IsPartOf problem) (regions_of covers) → CoverAt problem covers k
+    → All (IsPartOf problem) (regions_in covers) → CoverAt problem covers k
 cover_at problem [] k h covering parts = absurd (omega arith)
 cover_at problem (c ∷ cs) zero h covering parts = record {
   cover = c;
   covers_it = All-head IsCover c cs covering;
-  part = All-head (IsPartOf problem) c.region (regions_of cs) parts;
+  part = All-head (IsPartOf problem) c.region (regions_in cs) parts;
   cells = refl;
   places = refl;
 }
 cover_at problem (c ∷ cs) (suc k) h covering parts =
     let rest = cover_at problem cs k (omega arith) (All-tail IsCover c cs covering)
-    (All-tail (IsPartOf problem) c.region (regions_of cs) parts) in
+    (All-tail (IsPartOf problem) c.region (regions_in cs) parts) in
     record {
       cover = rest.cover;
       covers_it = rest.covers_it;
@@ -66,7 +66,7 @@ inside_places (c ∷ cs) zero x has = omega arith
 inside_places (c ∷ cs) (suc k) x has = (let lt = inside_places cs k x has in omega arith)
 
 -- a list that has a cell is that of one of the covers
-inside_cells : (covers : List Covering) (k x : ℕ) → Contains (slice_index_or (cells_of_each (regions_of covers)) k []) x
+inside_cells : (covers : List Covering) (k x : ℕ) → Contains (slice_index_or (cells_of_each (regions_in covers)) k []) x
     → k < length covers
 inside_cells [] k x has = none_in x has
 inside_cells (c ∷ cs) zero x has = omega arith
@@ -82,13 +82,13 @@ distinct_moved xs ys moved once = AllPairs-from_IsDistinct unsigned_Decides ys
     (IsDistinct-IsPermutation _ flips xs ys moved (IsDistinct-from_AllPairs unsigned_Decides xs once))
 
 module _ (cave : Cave) (problem : Instance) (covers : List Covering) (is : IsProblemOf cave problem)
-    (split : AreRegionsOf problem (regions_of covers)) (covering : All IsCover covers) where
+    (split : AreRegionsOf problem (regions_in covers)) (covering : All IsCover covers) where
   at : (k : ℕ) → k < length covers → CoverAt problem covers k
   at k h = cover_at problem covers k h covering split.each
 
   -- a place of a cover lights a cell of its region
   lights_one : (k place : ℕ) → Contains (slice_index_or (places_of_each covers) k []) place
-      → (cell : ℕ) × Contains (slice_index_or (cells_of_each (regions_of covers)) k []) cell
+      → (cell : ℕ) × Contains (slice_index_or (cells_of_each (regions_in covers)) k []) cell
       × LightsIn problem place cell
   lights_one k place has =
       let c = at k (inside_places covers k place has) in
@@ -121,7 +121,7 @@ module _ (cave : Cave) (problem : Instance) (covers : List Covering) (is : IsPro
   covered : (cell : ℕ) → Contains problem.cells cell
       → (place : ℕ) × Contains (places_of covers) place × LightsIn problem place cell
   covered cell has =
-      let k = in_one (cells_of_each (regions_of covers)) cell ((split.parts.exact cell).1 has) in
+      let k = in_one (cells_of_each (regions_in covers)) cell ((split.parts.exact cell).1 has) in
       let c = at k.0 (inside_cells covers k.0 cell k.1) in
       let by = c.covers_it.covers cell (subst (λ (l : List ℕ). Contains l cell) c.cells k.1) in
       let there = in_all (places_of_each covers)
@@ -133,7 +133,7 @@ module _ (cave : Cave) (problem : Instance) (covers : List Covering) (is : IsPro
 
 -- torches hung at covers of all regions are safe
 pub covers_are_safe : (cave : Cave) (problem : Instance) (covers : List Covering) (places : List ℕ) → IsSound cave
-    → IsProblemOf cave problem → AreRegionsOf problem (regions_of covers) → All IsCover covers
+    → IsProblemOf cave problem → AreRegionsOf problem (regions_in covers) → All IsCover covers
     → IsPermutation (places_of covers) places → IsSafe cave (hung cave places)
 covers_are_safe cave problem covers places sound is split covering moved =
     problems.cover_is_safe cave problem places sound is

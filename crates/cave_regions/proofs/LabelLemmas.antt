@@ -4,11 +4,11 @@ use Rattle.std.proofs.lemmas.List.Elements.{Contains-get_or}
 use Rattle.cave_model.specs.Listing.{Lists}
 use Rattle.set_cover.specs.Instance.{Instance, IsInstance, LightsAt}
 use Rattle.set_cover.proofs.OrderLemmas.{element_at, element_of, ascends, stands_once}
-use Rattle.cave_regions.specs.Grouping.{IsCellOf, IsPlaceOf}
+use Rattle.cave_regions.specs.Grouping.{IsCellOf, IsPlaceOfLabel}
 use Rattle.cave_regions.specs.Joining.{AreLabels}
-use Rattle.cave_regions.specs.Restricting.{AreIndices, IsClosed, IsRestriction}
-use Rattle.cave_regions.specs.Splitting.{AreJoined, IsPartOf, IsOnePiece}
-use Rattle.cave_regions.specs.Splitting.AreJoined.{here, onward}
+use Rattle.cave_regions.specs.Restricting.{AreIndices, IsSelfContained, IsRestriction}
+use Rattle.cave_regions.specs.Splitting.{AreChained, IsPartOf, IsOnePiece}
+use Rattle.cave_regions.specs.Splitting.AreChained.{here, onward}
 use Rattle.cave_regions.specs.Trees.{HasLabel, IsRegionOf, IsLabel}
 use Rattle.cave_regions.proofs.PartLemmas.{part_of, from_own, to_region, cell_at}
 use Rattle.cave_regions.proofs.TreeLemmas.{joined_on, joined_back}
@@ -31,14 +31,14 @@ is_label instance labels label cell are is = record {
 
 module _ (instance : Instance) (labels own placed : List ℕ) (label : ℕ) (is : IsInstance instance)
     (are : AreLabels instance labels)
-    (cells : Lists (IsCellOf labels label) own) (places : Lists (IsPlaceOf instance labels label) placed) where
+    (cells : Lists (IsCellOf labels label) own) (places : Lists (IsPlaceOfLabel instance labels label) placed) where
   -- the cells of a label and the places that light them are closed
-  pub closed_label : 0 < length own → IsClosed instance own placed
+  pub closed_label : 0 < length own → IsSelfContained instance own placed
   closed_label filled = record {
     filled = filled;
     cells = indices (IsCellOf labels label) own instance.cells cells
         (λ k kind. (let inside = kind.inside in omega (arith, are.whole)));
-    places = indices (IsPlaceOf instance labels label) placed instance.places places (λ k kind. kind.inside);
+    places = indices (IsPlaceOfLabel instance labels label) placed instance.places places (λ k kind. kind.inside);
     lighting = λ place has. (let kind = (places.exact place).0 has in (kind.cell, kind.lit));
     to_own = λ place cell has lit.
         (let kind = (places.exact place).0 has in
@@ -52,7 +52,7 @@ module _ (instance : Instance) (labels own placed : List ℕ) (label : ℕ) (is 
         (places.exact place).1 (record { inside = h; cell = cell; lit = lit; there = kind.there }));
   }
 
-  module _ (region : Instance) (closed : IsClosed instance own placed)
+  module _ (region : Instance) (closed : IsSelfContained instance own placed)
       (made : IsRestriction instance own placed region) where
     part : IsPartOf instance region
     part = part_of instance region own placed is closed made
@@ -80,8 +80,8 @@ module _ (instance : Instance) (labels own placed : List ℕ) (label : ℕ) (is 
         omega (arith, element_at own label has, kind.there)
 
     -- what is joined with a cell of the region is of the region
-    stays : {a b : ℕ} → AreJoined instance a b → Contains region.cells a
-        → Contains region.cells b × AreJoined region a b
+    stays : {a b : ℕ} → AreChained instance a b → Contains region.cells a
+        → Contains region.cells b × AreChained region a b
     stays here has = (has, here)
     stays (onward {before = b} p cell l) has =
         let before = stays p has in
@@ -108,13 +108,13 @@ module _ (instance : Instance) (labels own placed : List ℕ) (label : ℕ) (is 
     one_piece a b in_a in_b =
         let x = labelled a in_a in
         let y = labelled b in_b in
-        let to_label : AreJoined instance a (slice_index instance.cells label) =
-        subst (λ (c : ℕ). AreJoined instance c (slice_index instance.cells label)) x.there
-        (subst (λ (l : ℕ). AreJoined instance (slice_index instance.cells x.index) (slice_index instance.cells l))
+        let to_label : AreChained instance a (slice_index instance.cells label) =
+        subst (λ (c : ℕ). AreChained instance c (slice_index instance.cells label)) x.there
+        (subst (λ (l : ℕ). AreChained instance (slice_index instance.cells x.index) (slice_index instance.cells l))
         x.labelled (are.joined x.index x.inside)) in
-        let also : AreJoined instance b (slice_index instance.cells label) =
-        subst (λ (c : ℕ). AreJoined instance c (slice_index instance.cells label)) y.there
-        (subst (λ (l : ℕ). AreJoined instance (slice_index instance.cells y.index) (slice_index instance.cells l))
+        let also : AreChained instance b (slice_index instance.cells label) =
+        subst (λ (c : ℕ). AreChained instance c (slice_index instance.cells label)) y.there
+        (subst (λ (l : ℕ). AreChained instance (slice_index instance.cells y.index) (slice_index instance.cells l))
         y.labelled (are.joined y.index y.inside)) in
         (stays (joined_on to_label (joined_back also)) in_a).1
 

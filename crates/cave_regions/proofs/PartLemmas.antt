@@ -2,12 +2,12 @@
 use Rattle.std.proofs.Common.{◌≡◌, ℕ, ◌<◌, List, length, slice_index, Contains, refl, sym, ap, subst, ◌∙◌, arith}
 use Rattle.set_cover.specs.Instance.{Instance, IsInstance, LightsIn, LightsAt}
 use Rattle.set_cover.proofs.OrderLemmas.{element_at, element_of, stands_once}
-use Rattle.cave_regions.specs.Restricting.{IsClosed, IsRestriction}
+use Rattle.cave_regions.specs.Restricting.{IsSelfContained, IsRestriction}
 use Rattle.cave_regions.specs.Splitting.{IsPartOf}
 use Rattle.cave_regions.proofs.RestrictLemmas.{chosen_at, chosen_count}
 
 module _ (instance region : Instance) (own placed : List ℕ) (is : IsInstance instance)
-    (closed : IsClosed instance own placed) (made : IsRestriction instance own placed region) where
+    (closed : IsSelfContained instance own placed) (made : IsRestriction instance own placed region) where
   -- a restriction has as many cells as were chosen
   pub cell_count : length region.cells ≡ length own
   cell_count = ap length made.cells ∙ chosen_count instance.cells own

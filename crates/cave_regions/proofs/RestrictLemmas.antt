@@ -10,7 +10,7 @@ use Rattle.set_cover.specs.Instance.{Instance, IsInstance, LightsAt, words_for}
 use Rattle.set_cover.proofs.OrderLemmas.{element_at, element_of, rises, few_below}
 use Rattle.set_cover.proofs.RowLemmas.{row_has}
 use Rattle.cave_regions.specs.Region.{IsRegion}
-use Rattle.cave_regions.specs.Restricting.{AreIndices, IsClosed, AreCopied, IsRestriction}
+use Rattle.cave_regions.specs.Restricting.{AreIndices, IsSelfContained, AreCopied, IsRestriction}
 
 -- what stands at an index of the chosen items
 pub chosen_at : (items indices : List ℕ) (k : ℕ) → k < length indices
@@ -32,7 +32,7 @@ chosen_ascend items indices up are k h =
     omega (arith, chosen_at items indices k (omega arith), chosen_at items indices (k + 1) lt)
 
 module _ (instance region : Instance) (own placed : List ℕ) (is : IsInstance instance)
-    (closed : IsClosed instance own placed)
+    (closed : IsSelfContained instance own placed)
     (cells : region.cells ≡ map (slice_index instance.cells) own)
     (places : region.places ≡ map (slice_index instance.places) placed)
     (wide : region.width ≡ words_for (length own))

@@ -7,21 +7,21 @@ use Rattle.std.proofs.lemmas.Bool.Decides.{nat_tests}
 use Rattle.std.proofs.lemmas.List.{get_or_push, get_or_append_left}
 use Rattle.bit_rows.specs.Bits.{IsNext, HasNoneFrom}
 use Rattle.set_cover.specs.Instance.{Instance, IsInstance, LightsAt, LightsIn, row_of}
-use Rattle.cave_regions.specs.Splitting.{AreLinked, AreJoined}
-use Rattle.cave_regions.specs.Splitting.AreJoined.{here, onward}
-use Rattle.cave_regions.specs.Joining.{IsForest, IsRoot, Finds, merged, Joins, AreJoinedBy, IsCoarser, IsOneTree}
+use Rattle.cave_regions.specs.Splitting.{AreLinked, AreChained}
+use Rattle.cave_regions.specs.Splitting.AreChained.{here, onward}
+use Rattle.cave_regions.specs.Joining.{IsForest, AreRooted, Finds, merged, Joins, AreJoinedBy, IsCoarser, IsOneTree}
 use Rattle.cave_regions.specs.Joining.{JoinsRow, AreLabels, AreAlone, AreRoots}
 
 -- ---- joined cells
 
 -- what is joined to a joined cell is joined
-pub joined_on : {instance : Instance} {a b c : ℕ} → AreJoined instance a b → AreJoined instance b c
-    → AreJoined instance a c
+pub joined_on : {instance : Instance} {a b c : ℕ} → AreChained instance a b → AreChained instance b c
+    → AreChained instance a c
 joined_on p here = p
 joined_on p (onward q cell l) = onward (joined_on p q) cell l
 
 -- joining goes both ways
-pub joined_back : {instance : Instance} {a b : ℕ} → AreJoined instance a b → AreJoined instance b a
+pub joined_back : {instance : Instance} {a b : ℕ} → AreChained instance a b → AreChained instance b a
 joined_back here = here
 joined_back (onward {before = b} p cell l) = joined_on (onward here b (l.0, l.2, l.1)) (joined_back p)
 
@@ -32,7 +32,7 @@ pub record Finding (old : List ℕ) (cell at : ℕ) (new : List ℕ) : Type 0 wh
   pub forest : IsForest new
   pub low : at ≤ cell
   pub inside : cell < length old
-  pub kept : (rep : ℕ → ℕ) → IsRoot rep old → IsRoot rep new × (rep cell ≡ rep at)
+  pub kept : (rep : ℕ → ℕ) → AreRooted rep old → AreRooted rep new × (rep cell ≡ rep at)
 
 -- before the first step a cell stands at itself
 pub finding_none : (old : List ℕ) (cell : ℕ) → cell < length old → IsForest old → Finding old cell cell old
@@ -40,8 +40,8 @@ finding_none old cell h forest =
     record { whole = refl; forest = forest; low = omega arith; inside = h; kept = λ rep is. (is, refl) }
 
 -- a parent may be replaced by its own parent
-halved : (new : List ℕ) (at : ℕ) (rep : ℕ → ℕ) → at < length new → IsForest new → IsRoot rep new
-    → IsRoot rep (set new at (slice_index new (slice_index new at)))
+halved : (new : List ℕ) (at : ℕ) (rep : ℕ → ℕ) → at < length new → IsForest new → AreRooted rep new
+    → AreRooted rep (set new at (slice_index new (slice_index new at)))
 halved new at rep h forest is = record {
   same = λ c lt. (elim (cases_eq c at) [
     | inl e ↦ subst (λ (d : ℕ). rep (slice_index next d) ≡ rep d) (sym e)
@@ -160,9 +160,9 @@ merged_one rep one two = of_one ∙ sym of_two
     ]
 
 -- hanging the greater root below the smaller joins their trees
-merge_roots : (mid : List ℕ) (rep : ℕ → ℕ) (one two : ℕ) → IsForest mid → IsRoot rep mid → rep (rep one) ≡ rep one
+merge_roots : (mid : List ℕ) (rep : ℕ → ℕ) (one two : ℕ) → IsForest mid → AreRooted rep mid → rep (rep one) ≡ rep one
     → rep (rep two) ≡ rep two → max (rep one) (rep two) < length mid
-    → IsRoot (merged rep one two) (set mid (max (rep one) (rep two)) (min (rep one) (rep two)))
+    → AreRooted (merged rep one two) (set mid (max (rep one) (rep two)) (min (rep one) (rep two)))
 merge_roots mid rep one two forest is top_one top_two h = record {
   same = λ c lt. (elim (cases_eq c high) [
     | inl e ↦ subst (λ (d : ℕ). merged rep one two (slice_index next d) ≡ merged rep one two d) (sym e)
@@ -236,7 +236,7 @@ joins old mid last one two first second h k f g = record {
       let root_two : rep second ≡ second = b.0.top second (omega (arith, g.low, g.whole, f.whole)) g.top in
       let made = merge_roots last rep one two g.forest b.0 (ap rep a.1 ∙ root_one ∙ sym a.1)
       (ap rep b.1 ∙ root_two ∙ sym b.1) (omega (arith, a.1, b.1, f.low, g.low, g.whole, f.whole)) in
-      subst (λ (l : List ℕ). IsRoot (merged rep one two) l)
+      subst (λ (l : List ℕ). AreRooted (merged rep one two) l)
       (ap (λ (n : ℕ). set last (max n (rep two)) (min n (rep two))) a.1
       ∙ ap (λ (n : ℕ). set last (max first n) (min first n)) b.1) made);
 }
@@ -264,8 +264,8 @@ pub record JoiningRow (instance : Instance) (place first from : ℕ) (old new : 
   pub whole : length new ≡ length old
   pub forest : IsForest new
   pub lit : LightsAt instance place first
-  pub trees : (rep : ℕ → ℕ) → IsRoot rep old → AreJoinedBy instance rep
-      → (now : ℕ → ℕ) × IsRoot now new × AreJoinedBy instance now × IsCoarser rep now
+  pub trees : (rep : ℕ → ℕ) → AreRooted rep old → AreJoinedBy instance rep
+      → (now : ℕ → ℕ) × AreRooted now new × AreJoinedBy instance now × IsCoarser rep now
       × ((a : ℕ) → a < from → LightsAt instance place a → now a ≡ now first)
 
 -- with the first cell of a row found, none is joined yet
@@ -314,40 +314,40 @@ row_next instance place first from bit old new next is h at s joins = record {
 
     still : (now : ℕ → ℕ) → AreJoinedBy instance now → AreJoinedBy instance (merged now first bit)
     still now joined c inside = elim (cases_eq (now c) (max (now first) (now bit))) [
-      | inl e ↦ subst (λ (r : ℕ). AreJoined instance (slice_index instance.cells c) (slice_index instance.cells r))
+      | inl e ↦ subst (λ (r : ℕ). AreChained instance (slice_index instance.cells c) (slice_index instance.cells r))
           (sym (merged_high now first bit c e))
-          (joined_on (subst (λ (r : ℕ). AreJoined instance (slice_index instance.cells c)
+          (joined_on (subst (λ (r : ℕ). AreChained instance (slice_index instance.cells c)
           (slice_index instance.cells r)) e (joined c inside)) crossing)
-      | inr ne ↦ subst (λ (r : ℕ). AreJoined instance (slice_index instance.cells c) (slice_index instance.cells r))
+      | inr ne ↦ subst (λ (r : ℕ). AreChained instance (slice_index instance.cells c) (slice_index instance.cells r))
           (sym (merged_other now first bit c ne)) (joined c inside)
     ]
       where
-        to_first : AreJoined instance (slice_index instance.cells first) (slice_index instance.cells (now first))
+        to_first : AreChained instance (slice_index instance.cells first) (slice_index instance.cells (now first))
         to_first = joined first (is.of_cells place first h s.lit)
 
-        to_bit : AreJoined instance (slice_index instance.cells bit) (slice_index instance.cells (now bit))
+        to_bit : AreChained instance (slice_index instance.cells bit) (slice_index instance.cells (now bit))
         to_bit = joined bit (is.of_cells place bit h at.there)
 
-        linked : AreJoined instance (slice_index instance.cells first) (slice_index instance.cells bit)
+        linked : AreChained instance (slice_index instance.cells first) (slice_index instance.cells bit)
         linked = onward here (slice_index instance.cells bit) (link instance place first bit is h s.lit at.there)
 
-        over : AreJoined instance (slice_index instance.cells (now first)) (slice_index instance.cells (now bit))
+        over : AreChained instance (slice_index instance.cells (now first)) (slice_index instance.cells (now bit))
         over = joined_on (joined_back to_first) (joined_on linked to_bit)
 
-        crossing : AreJoined instance (slice_index instance.cells (max (now first) (now bit)))
+        crossing : AreChained instance (slice_index instance.cells (max (now first) (now bit)))
             (slice_index instance.cells (min (now first) (now bit)))
         crossing = elim (cases_lt (now first) (now bit)) [
           | inl lt ↦ (let high : now bit ≡ max (now first) (now bit) = omega arith in
               let low : now first ≡ min (now first) (now bit) = omega arith in
-              subst (λ (m : ℕ). AreJoined instance (slice_index instance.cells m)
+              subst (λ (m : ℕ). AreChained instance (slice_index instance.cells m)
               (slice_index instance.cells (min (now first) (now bit)))) high
-              (subst (λ (m : ℕ). AreJoined instance (slice_index instance.cells (now bit))
+              (subst (λ (m : ℕ). AreChained instance (slice_index instance.cells (now bit))
               (slice_index instance.cells m)) low (joined_back over)))
           | inr le ↦ (let high : now first ≡ max (now first) (now bit) = omega arith in
               let low : now bit ≡ min (now first) (now bit) = omega arith in
-              subst (λ (m : ℕ). AreJoined instance (slice_index instance.cells m)
+              subst (λ (m : ℕ). AreChained instance (slice_index instance.cells m)
               (slice_index instance.cells (min (now first) (now bit)))) high
-              (subst (λ (m : ℕ). AreJoined instance (slice_index instance.cells (now first))
+              (subst (λ (m : ℕ). AreChained instance (slice_index instance.cells (now first))
               (slice_index instance.cells m)) low over))
         ]
 
@@ -390,7 +390,7 @@ pub record Joined (instance : Instance) (place : ℕ) (parents : List ℕ) : Typ
   pub whole : length parents ≡ length instance.cells
   pub forest : IsForest parents
   pub rep : ℕ → ℕ
-  pub roots : IsRoot rep parents
+  pub roots : AreRooted rep parents
   pub joined : AreJoinedBy instance rep
   pub linked : (p : ℕ) → p < place → IsOneTree instance p rep
 
@@ -431,8 +431,8 @@ pub record RootsTo (old : List ℕ) (cell : ℕ) (new labels : List ℕ) : Type 
   pub whole : length new ≡ length old
   pub counted : length labels ≡ cell
   pub forest : IsForest new
-  pub kept : (rep : ℕ → ℕ) → IsRoot rep old → IsRoot rep new
-  pub each : (rep : ℕ → ℕ) → IsRoot rep old → (c : ℕ) → c < cell
+  pub kept : (rep : ℕ → ℕ) → AreRooted rep old → AreRooted rep new
+  pub each : (rep : ℕ → ℕ) → AreRooted rep old → (c : ℕ) → c < cell
       → (slice_index labels c ≡ rep c) × (rep (rep c) ≡ rep c)
 
 -- before the first cell there are no labels
@@ -479,7 +479,7 @@ labels_are instance parents labels count is all s roots = record {
   whole = roots.whole ∙ s.whole;
   linked = λ place h a b lit_a lit_b. (label a (of_cell place a h lit_a)).0
       ∙ s.linked place (omega arith) a b lit_a lit_b ∙ sym (label b (of_cell place b h lit_b)).0;
-  joined = λ c h. subst (λ (r : ℕ). AreJoined instance (slice_index instance.cells c) (slice_index instance.cells r))
+  joined = λ c h. subst (λ (r : ℕ). AreChained instance (slice_index instance.cells c) (slice_index instance.cells r))
       (sym (label c (omega (arith, s.whole))).0) (s.joined c h);
   low = λ c h. (let inside : c < length parents = omega (arith, roots.whole) in
       omega (arith, (label c inside).0, s.roots.low c inside));

@@ -29,7 +29,7 @@ pub record IsCellOf (labels : List ℕ) (label cell : ℕ) : Type 0 where
   pub there : slice_index labels cell ≡ label
 
 -- the place lights a cell with the label
-pub record IsPlaceOf (instance : Instance) (labels : List ℕ) (label place : ℕ) : Type 0 where
+pub record IsPlaceOfLabel (instance : Instance) (labels : List ℕ) (label place : ℕ) : Type 0 where
   pub inside : place < length instance.places
   pub cell : ℕ
   pub lit : LightsAt instance place cell

@@ -2,13 +2,13 @@
 -- project's own.
 use Rattle.std.specs.Prelude.{◌≡◌, ◌<◌, ◌≤◌, ◌^◌, ℕ, List, length, slice_index, min, max, nat_eq, if◌then◌else◌}
 use Rattle.set_cover.specs.Instance.{Instance, IsInstance, LightsAt}
-use Rattle.cave_regions.specs.Splitting.{AreJoined}
+use Rattle.cave_regions.specs.Splitting.{AreChained}
 
 abbrev pub IsForest : List ℕ → Type 0
 IsForest parents = (cell : ℕ) → cell < length parents → slice_index parents cell ≤ cell
 
 -- each cell is represented by the root of its tree
-pub record IsRoot (rep : ℕ → ℕ) (parents : List ℕ) : Type 0 where
+pub record AreRooted (rep : ℕ → ℕ) (parents : List ℕ) : Type 0 where
   pub same : (cell : ℕ) → cell < length parents → rep (slice_index parents cell) ≡ rep cell
   pub top : (cell : ℕ) → cell < length parents → slice_index parents cell ≡ cell → rep cell ≡ cell
   pub low : (cell : ℕ) → cell < length parents → rep cell ≤ cell
@@ -19,7 +19,7 @@ pub record Finds (old : List ℕ) (cell found : ℕ) (new : List ℕ) : Type 0 w
   pub forest : IsForest new
   pub low : found ≤ cell
   pub top : slice_index new found ≡ found
-  pub kept : (rep : ℕ → ℕ) → IsRoot rep old → IsRoot rep new × (rep cell ≡ found)
+  pub kept : (rep : ℕ → ℕ) → AreRooted rep old → AreRooted rep new × (rep cell ≡ found)
 
 -- the roots after the trees of two cells were joined
 abbrev pub merged : (ℕ → ℕ) → ℕ → ℕ → ℕ → ℕ
@@ -29,12 +29,12 @@ merged rep one two cell = if nat_eq (rep cell) (max (rep one) (rep two)) then mi
 pub record Joins (old : List ℕ) (one two : ℕ) (new : List ℕ) : Type 0 where
   pub whole : length new ≡ length old
   pub forest : IsForest new
-  pub joined : (rep : ℕ → ℕ) → IsRoot rep old → IsRoot (merged rep one two) new
+  pub joined : (rep : ℕ → ℕ) → AreRooted rep old → AreRooted (merged rep one two) new
 
 -- each cell is joined with its root
 abbrev pub AreJoinedBy : Instance → (ℕ → ℕ) → Type 0
 AreJoinedBy instance rep = (cell : ℕ) → cell < length instance.cells
-    → AreJoined instance (slice_index instance.cells cell) (slice_index instance.cells (rep cell))
+    → AreChained instance (slice_index instance.cells cell) (slice_index instance.cells (rep cell))
 
 -- cells that had one root still have one
 abbrev pub IsCoarser : (ℕ → ℕ) → (ℕ → ℕ) → Type 0
@@ -47,7 +47,7 @@ IsOneTree instance place rep = (a b : ℕ) → LightsAt instance place a → Lig
 -- new roots, for which the cells that a place lights have one
 pub record HasTrees (instance : Instance) (place : ℕ) (old : ℕ → ℕ) (parents : List ℕ) : Type 0 where
   pub rep : ℕ → ℕ
-  pub roots : IsRoot rep parents
+  pub roots : AreRooted rep parents
   pub joined : AreJoinedBy instance rep
   pub coarser : IsCoarser old rep
   pub one : IsOneTree instance place rep
@@ -63,7 +63,7 @@ pub record AreParents (instance : Instance) (parents : List ℕ) : Type 0 where
 pub record JoinsRow (instance : Instance) (place : ℕ) (old new : List ℕ) : Type 0 where
   pub whole : length new ≡ length old
   pub forest : IsForest new
-  pub trees : (rep : ℕ → ℕ) → IsRoot rep old → AreJoinedBy instance rep → HasTrees instance place rep new
+  pub trees : (rep : ℕ → ℕ) → AreRooted rep old → AreJoinedBy instance rep → HasTrees instance place rep new
 
 -- for each cell the least cell that it is joined with
 pub record AreLabels (instance : Instance) (labels : List ℕ) : Type 0 where
@@ -81,5 +81,5 @@ pub record AreAlone (count : ℕ) (parents : List ℕ) : Type 0 where
 -- the root of each cell
 pub record AreRoots (parents labels : List ℕ) : Type 0 where
   pub whole : length labels ≡ length parents
-  pub each : (rep : ℕ → ℕ) → IsRoot rep parents → (cell : ℕ) → cell < length parents
+  pub each : (rep : ℕ → ℕ) → AreRooted rep parents → (cell : ℕ) → cell < length parents
       → (slice_index labels cell ≡ rep cell) × (rep (rep cell) ≡ rep cell)

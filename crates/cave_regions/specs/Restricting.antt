@@ -11,7 +11,7 @@ pub record AreIndices (indices items : List ℕ) : Type 0 where
   pub inside : All (λ index. index < length items) indices
 
 -- cells and places of which no place lights another cell and no cell is lit by another place
-pub record IsClosed (instance : Instance) (own placed : List ℕ) : Type 0 where
+pub record IsSelfContained (instance : Instance) (own placed : List ℕ) : Type 0 where
   pub filled : 0 < length own
   pub cells : AreIndices own instance.cells
   pub places : AreIndices placed instance.places

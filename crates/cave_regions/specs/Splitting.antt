@@ -10,10 +10,10 @@ abbrev pub AreLinked : Instance → ℕ → ℕ → Type 0
 AreLinked instance a b = (place : ℕ) × LightsIn instance place a × LightsIn instance place b
 
 -- a row of cells from one to the other, in which one place lights each and the next
-pub data AreJoined (instance : Instance) (from : ℕ) : ℕ → Type 0 where
-  here : AreJoined instance from from
-  onward : {before : ℕ} → AreJoined instance from before → (cell : ℕ) → AreLinked instance before cell
-      → AreJoined instance from cell
+pub data AreChained (instance : Instance) (from : ℕ) : ℕ → Type 0 where
+  here : AreChained instance from from
+  onward : {before : ℕ} → AreChained instance from before → (cell : ℕ) → AreLinked instance before cell
+      → AreChained instance from cell
 
 -- the region has of the problem's light all that falls on its cells, and nothing else
 pub record IsPartOf (problem region : Instance) : Type 0 where
@@ -30,7 +30,7 @@ least_cell region = slice_index region.cells 0
 
 -- any two cells of a region are joined
 abbrev pub IsOnePiece : Instance → Type 0
-IsOnePiece region = (a b : ℕ) → Contains region.cells a → Contains region.cells b → AreJoined region a b
+IsOnePiece region = (a b : ℕ) → Contains region.cells a → Contains region.cells b → AreChained region a b
 
 -- the regions of a problem, by their least cells
 pub record AreRegionsOf (problem : Instance) (regions : List Instance) : Type 0 where
@@ -40,6 +40,6 @@ pub record AreRegionsOf (problem : Instance) (regions : List Instance) : Type 0 
   pub ordered : IsStrictlyIncreasing (map least_cell regions)
 
 -- the one region of all cells, and none where there is no cell
-abbrev pub IsWhole : Instance → Option Instance → Type 0
-IsWhole problem found = MatchOption found (problem.cells ≡ []) (λ region. (region.cells ≡ problem.cells)
+abbrev pub IsWholeRegion : Instance → Option Instance → Type 0
+IsWholeRegion problem found = MatchOption found (problem.cells ≡ []) (λ region. (region.cells ≡ problem.cells)
     × IsPartOf problem region)

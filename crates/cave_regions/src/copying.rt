@@ -1,7 +1,7 @@
 //! Copying rows, with other indices for their cells.
 ghost use Rattle.std.specs.Prelude.{◌<◌, ◌≤◌, ◌^◌, length};
 ghost use Rattle.set_cover.specs.Instance.{words_for};
-ghost use Rattle.cave_regions.specs.Restricting.{AreCopied, AreEmpty, AreRanks, Copies, HasRoom, IsClosed};
+ghost use Rattle.cave_regions.specs.Restricting.{AreCopied, AreEmpty, AreRanks, Copies, HasRoom, IsSelfContained};
 
 use bit_rows::{add, next};
 use set_cover::Instance;
@@ -22,7 +22,7 @@ fn copy_row(words: &mut [u64], base: usize, row: &[u64], ranks: &[u32])
 
 /// Copies the rows of the places with these indices, for the cells with those.
 pub fn copy_rows(words: &mut [u64], instance: &Instance, ranks: &[u32], own: &[u32], placed: &[u32])
-    requires closed { IsClosed instance.now own.now placed.now }
+    requires closed { IsSelfContained instance.now own.now placed.now }
     requires ranks { AreRanks instance.now own.now ranks.now }
     requires words { AreEmpty (length placed.now) (length own.now) words.old }
     ensures { AreCopied instance.now own.now placed.now (words_for (length own.now)) (length placed.now) words.new }

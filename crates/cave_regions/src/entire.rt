@@ -3,7 +3,7 @@ ghost use Rattle.std.specs.Prelude.{◌≡◌, ◌<◌, ◌≤◌, ◌^◌, leng
 ghost use Rattle.cave_model.specs.Listing.{Lists};
 ghost use Rattle.set_cover.specs.Instance.{IsInstance};
 ghost use Rattle.cave_regions.specs.Restricting.{IsLighting};
-ghost use Rattle.cave_regions.specs.Splitting.{IsPartOf, IsWhole};
+ghost use Rattle.cave_regions.specs.Splitting.{IsPartOf, IsWholeRegion};
 
 use crate::joining::{alone, count_of};
 use crate::region::Region;
@@ -16,7 +16,7 @@ use std::alloc::Global;
 
 /// The one region of all cells of a problem, and None where it has no cell.
 pub fn whole(alloc: Global, problem: &Problem) -> Result<Option<Region>, OutOfMemory>
-    ensures { IfOk result (λ found. IsWhole problem.now found) }
+    ensures { IfOk result (λ found. IsWholeRegion problem.now found) }
 {
     let instance = problem.instance();
     if instance.cells().is_empty() {

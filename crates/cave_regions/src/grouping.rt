@@ -1,7 +1,7 @@
 //! Cells and places by the label of their region.
 ghost use Rattle.std.specs.Prelude.{◌<◌, ◌≤◌, ◌^◌, length, All, IfOk};
 ghost use Rattle.set_cover.specs.Instance.{IsInstance};
-ghost use Rattle.cave_regions.specs.Grouping.{AreGroups, IsCellOf, IsPlaceOf};
+ghost use Rattle.cave_regions.specs.Grouping.{AreGroups, IsCellOf, IsPlaceOfLabel};
 ghost use Rattle.cave_regions.specs.Joining.{AreLabels};
 
 use crate::buckets::Buckets;
@@ -28,7 +28,7 @@ pub fn cells_by(alloc: Global, labels: &[u32]) -> Result<Buckets, OutOfMemory>
 pub fn places_by(alloc: Global, instance: &Instance, labels: &[u32]) -> Result<Buckets, OutOfMemory>
     requires labels { AreLabels instance.now labels.now }
     requires few { length labels.now ≤ 2 ^ 32 }
-    ensures { IfOk result (AreGroups (IsPlaceOf instance.now labels.now) (length labels.now)) }
+    ensures { IfOk result (AreGroups (IsPlaceOfLabel instance.now labels.now) (length labels.now)) }
 {
     let mut buckets = Buckets::new(alloc, labels.len())?;
     for place in 0..count_of(instance.places()) {

@@ -6,7 +6,7 @@ ghost use Rattle.cave_model.specs.Plan.{IsSafe, hung};
 ghost use Rattle.cave_model.specs.Regions.{AreRegions};
 ghost use Rattle.cover_rows.specs.Coverage.{IsProblemOf};
 ghost use Rattle.set_cover.specs.Instance.{Instance, of_instance};
-ghost use Rattle.cave_regions.specs.Cover.{Covering, IsCover, places_of, regions_of};
+ghost use Rattle.cave_regions.specs.Cover.{Covering, IsCover, places_of, regions_in};
 ghost use Rattle.cave_regions.specs.Splitting.{AreRegionsOf, cells_of_each};
 
 /// The regions of a cave's problem are regions of the cave, and each has of the cave's light what falls on its cells.
@@ -22,6 +22,6 @@ pub fn regions_of_cave()
 /// torches.
 pub fn covers_are_safe()
     ensures { (cave : Cave) (problem : Instance) (covers : List Covering) (places : List ℕ) → IsSound cave
-        → IsProblemOf cave problem → AreRegionsOf problem (regions_of covers) → All IsCover covers
+        → IsProblemOf cave problem → AreRegionsOf problem (regions_in covers) → All IsCover covers
         → IsPermutation (places_of covers) places → IsSafe cave (hung cave places) }
 {}

@@ -1,7 +1,7 @@
 //! A part of an instance as a region of its own.
 ghost use Rattle.std.specs.Prelude.{◌≡◌, ◌<◌, length, map, slice_index, All, IfOk};
 ghost use Rattle.set_cover.specs.Instance.{words_for};
-ghost use Rattle.cave_regions.specs.Restricting.{AreCopied, AreRanks, IsClosed, IsRestriction};
+ghost use Rattle.cave_regions.specs.Restricting.{AreCopied, AreRanks, IsSelfContained, IsRestriction};
 
 use crate::copying::copy_rows;
 use crate::region::Region;
@@ -31,7 +31,7 @@ fn rows_of(
     own: &[u32],
     placed: &[u32],
 ) -> Result<Vec<u64>, OutOfMemory>
-    requires closed { IsClosed instance.now own.now placed.now }
+    requires closed { IsSelfContained instance.now own.now placed.now }
     requires ranks { AreRanks instance.now own.now ranks.now }
     ensures { IfOk result (λ v.
         AreCopied instance.now own.now placed.now (words_for (length own.now)) (length placed.now) v.items) }
@@ -49,7 +49,7 @@ pub fn restrict(
     own: &[u32],
     placed: &[u32],
 ) -> Result<Region, OutOfMemory>
-    requires closed { IsClosed instance.now own.now placed.now }
+    requires closed { IsSelfContained instance.now own.now placed.now }
     requires ranks { length ranks.old ≡ length instance.now.cells }
     ensures { IfOk result (λ r. IsRestriction instance.now own.now placed.now r) }
 {

@@ -12,7 +12,7 @@ use Rattle.proof_check.specs.declared.fault.CheckFault.{CheckFault}
 use Rattle.proof_check.specs.declared.fault.CheckFault.TheVariants as check
 use Rattle.proof_check.specs.declared.verdict.Verdict.{Verdict}
 use Rattle.cave_runs.specs.CheckRuns.{IsExcuse, IsSaid, SaysIt, IsNoVerdict}
-use Rattle.cave_runs.specs.Faults.{of_cave, of_check}
+use Rattle.cave_runs.specs.Faults.{run_fault_of, of_check}
 use Rattle.cave_runs.specs.Limits.{structure_limit, proof_limit}
 use Rattle.cave_runs.specs.Runs.{IsFaultOfBytes, IsOfInput}
 use Rattle.cave_runs.specs.declared.fault.Input.{Input}
@@ -60,7 +60,7 @@ said_err e f r is same verdict answer = rw is (subst IsExcuse (sym same) (check_
 
 -- ---- faults
 
-of_both : (e : CheckFault) (inner : CaveFault) → e ≡ check_faults.of_cave inner → of_check e ≡ of_cave inner
+of_both : (e : CheckFault) (inner : CaveFault) → e ≡ check_faults.check_fault_of inner → of_check e ≡ run_fault_of inner
 of_both e (cave.Scan f) is = ap of_check is
 of_both e (cave.Table f) is = ap of_check is
 of_both e (cave.Build f) is = ap of_check is
@@ -99,19 +99,20 @@ pub unsaid : (bytes : List ℕ) (table : Option (List ℕ)) (e : CheckFault)
     → ((f : CheckFault) → verdicts.IsFaultOfBytes bytes table f → (e ≡ f) ⊎ IsOfReading e)
     → (due : RunFault) → IsFaultOfBytes bytes table due → (of_check e ≡ due) ⊎ (of_check e ≡ faults.ReadFailed)
     ⊎ (of_check e ≡ faults.TooLong ProofInput) ⊎ (of_check e ≡ faults.OutOfMemory)
-unsaid bytes table e refused due (inner, is, same) = elim (refused (check_faults.of_cave inner) (inner, is, refl)) [
-  | inl e ↦ inl (ap of_check e ∙ of_both (check_faults.of_cave inner) inner refl ∙ sym same)
-  | inr r ↦ inr (elim r [
-    | inl failed ↦ inl (ap of_check failed)
-    | inr r ↦ inr (elim r [
-      | inl long ↦ inl (ap of_check long)
-      | inr none ↦ inr (ap of_check none)
-    ])
-  ])
-]
+unsaid bytes table e refused due (inner, is, same) = elim
+    (refused (check_faults.check_fault_of inner) (inner, is, refl)) [
+      | inl e ↦ inl (ap of_check e ∙ of_both (check_faults.check_fault_of inner) inner refl ∙ sym same)
+      | inr r ↦ inr (elim r [
+        | inl failed ↦ inl (ap of_check failed)
+        | inr r ↦ inr (elim r [
+          | inl long ↦ inl (ap of_check long)
+          | inr none ↦ inr (ap of_check none)
+        ])
+      ])
+    ]
 
 -- where there is a verdict, no fault is due
 pub none_due : (bytes : List ℕ) (table : Option (List ℕ))
     → ((f : CheckFault) → verdicts.IsFaultOfBytes bytes table f → ⊥) → (due : RunFault)
     → IsFaultOfBytes bytes table due → ⊥
-none_due bytes table clean due (inner, is, same) = clean (check_faults.of_cave inner) (inner, is, refl)
+none_due bytes table clean due (inner, is, same) = clean (check_faults.check_fault_of inner) (inner, is, refl)

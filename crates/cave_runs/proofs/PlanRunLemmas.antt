@@ -24,10 +24,10 @@ use Rattle.cave_plan.specs.Faults.{NamesUnlightable}
 use Rattle.cave_plan.specs.Outline.{IsPlanned, IsStoppedAt}
 use Rattle.cave_plan.specs.declared.fault.PlanFault.{PlanFault}
 use Rattle.cave_plan.specs.declared.fault.PlanFault.TheVariants as plan
-use Rattle.cave_runs.specs.Faults.{of_cave, of_write}
+use Rattle.cave_runs.specs.Faults.{run_fault_of, of_write}
 use Rattle.cave_runs.specs.Limits.{structure_limit}
-use Rattle.cave_runs.specs.PlanRuns.{WritesBest, WritesFloor, EndsIn, Plans, Begins, BeginsPlan, Leaves}
-use Rattle.cave_runs.specs.PlanRuns.{LeavesIn, LeavesProved, IsUnlit, IsNoPlan, IsNoPlanOfInput}
+use Rattle.cave_runs.specs.PlanRuns.{WritesBest, WritesFloor, EndsIn, Plans, BeginsTexts, BeginsPlan, Leaves}
+use Rattle.cave_runs.specs.PlanRuns.{LeavesIn, LeavesProved, NamesUnlit, IsNoPlan, IsNoPlanOfInput}
 use Rattle.cave_runs.proofs.RunLemmas.{cave_refused, cave_clean}
 use Rattle.cave_runs.specs.declared.fault.RunFault.{RunFault}
 use Rattle.cave_runs.specs.declared.fault.RunFault.TheVariants as faults
@@ -85,7 +85,7 @@ pub certificate_failed : (fault : WriteFault) (cave : Cave) (text : List ℕ) (p
 certificate_failed fault cave text plans same proof_old proof_new is part = record
     { each = λ turns. by fault (begun turns) }
   where
-    begun : (turns : Option ℕ) → Begins cave turns same same proof_old proof_new
+    begun : (turns : Option ℕ) → BeginsTexts cave turns same same proof_old proof_new
     begun turns = record {
       text = text;
       proof = certificate_text cave plans;
@@ -95,7 +95,7 @@ certificate_failed fault cave text plans same proof_old proof_new is part = reco
       proved = part;
     }
 
-    by : (fault : WriteFault) {turns : Option ℕ} → Begins cave turns same same proof_old proof_new
+    by : (fault : WriteFault) {turns : Option ℕ} → BeginsTexts cave turns same same proof_old proof_new
         → LeavesIn (of_write fault) cave turns same same proof_old proof_new
     by writing.WriteFailed b = b
     by writing.OutOfMemory b = (Keeps-refl same, b)
@@ -141,7 +141,7 @@ pub leaves : (fault : RunFault) (known : Option (List ℕ)) (bytes : List ℕ) (
     → Leaves fault known table rule turns old new proof_old proof_new
 leaves fault known bytes table rule turns cave old new proof_old proof_new same told left = by fault left
   where
-    begins : (k : Option (List ℕ)) → IfSome k (λ b. bytes ≡ b) → Begins cave turns old new proof_old proof_new
+    begins : (k : Option (List ℕ)) → IfSome k (λ b. bytes ≡ b) → BeginsTexts cave turns old new proof_old proof_new
         → IfSome k (λ b. BeginsPlan b table rule turns old new proof_old proof_new)
     begins None e b = tt
     begins (Some k) e b = record {
@@ -199,7 +199,7 @@ no_plan_unwritten bytes table rule fault told failed = elim
       | inr u ↦ (let both = sym failed ∙ u.2.named in absurd (apart _ _ _ both))
     ]
   where
-    of_cave_unwritten : (f : CaveFault) → faults.WriteFailed ≡ of_cave f → ⊥
+    of_cave_unwritten : (f : CaveFault) → faults.WriteFailed ≡ run_fault_of f → ⊥
     of_cave_unwritten (cave_faults.Scan f) e = cc
     of_cave_unwritten (cave_faults.Table f) e = cc
     of_cave_unwritten (cave_faults.Build f) e = cc
@@ -237,7 +237,7 @@ no_plan_refused (Some b) bytes table rule Met same within met =
 pub unlit_named : (cave : Cave) (cell : ℕ) (size result : List ℕ) → point size ≡ cave.size
     → point result ≡ coordinates (point size) cell
     → NamesUnlightable cave (plan.Unlightable cell)
-    → IsUnlit cave (faults.Unlightable (point result).x (point result).y (point result).z)
+    → NamesUnlit cave (faults.Unlightable (point result).x (point result).y (point result).z)
 unlit_named cave cell size result sized at (other, is, least, same) =
     let e : cell ≡ other = inside same in
     record {
@@ -252,12 +252,12 @@ unlit_named cave cell size result sized at (other, is, least, same) =
     inside e = cc
 
 -- the least such cell is one
-pub unlit_fault : (cave : Cave) (due : RunFault) → (u : IsUnlit cave due)
+pub unlit_fault : (cave : Cave) (due : RunFault) → (u : NamesUnlit cave due)
     → NamesUnlightable cave (plan.Unlightable u.cell)
 unlit_fault cave due u = (u.cell, u.unlightable, u.least, refl)
 
 pub unlit_same : (cave : Cave) (cell : ℕ) (size result : List ℕ) (due : RunFault) → point size ≡ cave.size
-    → point result ≡ coordinates (point size) cell → (u : IsUnlit cave due) → cell ≡ u.cell
+    → point result ≡ coordinates (point size) cell → (u : NamesUnlit cave due) → cell ≡ u.cell
     → faults.Unlightable (point result).x (point result).y (point result).z ≡ due
 unlit_same cave cell size result due sized at u e =
     ap (λ (p : Point). faults.Unlightable p.x p.y p.z)
@@ -278,17 +278,17 @@ no_thread_unlit fault cell is (inr e) = (let both : plan.NoThread ≡ plan.OutOf
 pub cave_unplanned : (bytes : List ℕ) (table : Option (List ℕ)) (rule : Rule) (e : CaveFault)
     → ((f : CaveFault) → caves.IsFaultOfBytes bytes table f → (e ≡ f) ⊎ (e ≡ cave_faults.OutOfMemory))
     → ((cave : Cave) → IsCaveOfBytes bytes table rule cave → e ≡ cave_faults.OutOfMemory)
-    → (due : RunFault) → IsNoPlan bytes table rule due → (of_cave e ≡ due) ⊎ (of_cave e ≡ faults.OutOfMemory)
+    → (due : RunFault) → IsNoPlan bytes table rule due → (run_fault_of e ≡ due) ⊎ (run_fault_of e ≡ faults.OutOfMemory)
 cave_unplanned bytes table rule e refused only due (inl fault) = cave_refused bytes table e refused due fault
-cave_unplanned bytes table rule e refused only due (inr (cave, told, unlit)) = inr (ap of_cave (only cave told))
+cave_unplanned bytes table rule e refused only due (inr (cave, told, unlit)) = inr (ap run_fault_of (only cave told))
 
 -- where there is a cave, only what is unlit in it is a fault
 pub unplanned_here : (bytes : List ℕ) (table : Option (List ℕ)) (rule : Rule) (world : Cave)
     → ((f : CaveFault) → caves.IsFaultOfBytes bytes table f → ⊥)
     → ((cave : Cave) → IsCaveOfBytes bytes table rule cave → world ≡ cave)
-    → (due : RunFault) → IsNoPlan bytes table rule due → IsUnlit world due
+    → (due : RunFault) → IsNoPlan bytes table rule due → NamesUnlit world due
 unplanned_here bytes table rule world clean only due (inl fault) = absurd (cave_clean bytes table clean due fault)
-unplanned_here bytes table rule world clean only due (inr (cave, told, unlit)) = subst (λ (w : Cave). IsUnlit w due)
+unplanned_here bytes table rule world clean only due (inr (cave, told, unlit)) = subst (λ (w : Cave). NamesUnlit w due)
     (sym (only cave told)) unlit
 
 -- ---- the last write

@@ -7,7 +7,7 @@ use Rattle.cave_model.specs.Rule.{Rule}
 use Rattle.cave_model.specs.declared.cave_fault.CaveFault.{CaveFault}
 use Rattle.cave_model.specs.declared.cave_fault.CaveFault.TheVariants as cave
 use Rattle.proof_tree.specs.Writing.{AppendsFront}
-use Rattle.cave_runs.specs.Faults.{of_cave}
+use Rattle.cave_runs.specs.Faults.{run_fault_of}
 use Rattle.cave_runs.specs.Runs.{IsFaultOfBytes, IsFaultOfInput, IsRefusedRun, IsDarkTextOf, BeginsDark}
 use Rattle.cave_runs.specs.Limits.{structure_limit}
 use Rattle.cave_runs.specs.declared.fault.RunFault.{RunFault}
@@ -15,8 +15,8 @@ use Rattle.cave_runs.specs.declared.fault.RunFault.TheVariants as faults
 
 -- a fault of the cave is one of the bytes
 pub cave_fault : (bytes : List ℕ) (table : Option (List ℕ)) (e : CaveFault)
-    → (e ≢ cave.OutOfMemory → caves.IsFaultOfBytes bytes table e) → of_cave e ≢ faults.OutOfMemory
-    → IsFaultOfBytes bytes table (of_cave e)
+    → (e ≢ cave.OutOfMemory → caves.IsFaultOfBytes bytes table e) → run_fault_of e ≢ faults.OutOfMemory
+    → IsFaultOfBytes bytes table (run_fault_of e)
 cave_fault bytes table cave.OutOfMemory told other = absurd (other refl)
 cave_fault bytes table (cave.Scan f) told other = (cave.Scan f, told (λ same. cc), refl)
 cave_fault bytes table (cave.Table f) told other = (cave.Table f, told (λ same. cc), refl)
@@ -25,10 +25,10 @@ cave_fault bytes table (cave.Build f) told other = (cave.Build f, told (λ same.
 -- where the cave is refused, a fault that is due is answered, or memory was refused
 pub cave_refused : (bytes : List ℕ) (table : Option (List ℕ)) (e : CaveFault)
     → ((f : CaveFault) → caves.IsFaultOfBytes bytes table f → (e ≡ f) ⊎ (e ≡ cave.OutOfMemory))
-    → (due : RunFault) → IsFaultOfBytes bytes table due → (of_cave e ≡ due) ⊎ (of_cave e ≡ faults.OutOfMemory)
+    → (due : RunFault) → IsFaultOfBytes bytes table due → (run_fault_of e ≡ due) ⊎ (run_fault_of e ≡ faults.OutOfMemory)
 cave_refused bytes table e refused due (inner, is, same) = elim (refused inner is) [
-  | inl e ↦ inl (ap of_cave e ∙ sym same)
-  | inr none ↦ inr (ap of_cave none)
+  | inl e ↦ inl (ap run_fault_of e ∙ sym same)
+  | inr none ↦ inr (ap run_fault_of none)
 ]
 
 -- where there is a cave, no fault is due

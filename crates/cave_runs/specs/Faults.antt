@@ -10,11 +10,11 @@ use Rattle.cave_runs.specs.declared.fault.RunFault.{RunFault}
 use Rattle.cave_runs.specs.declared.fault.RunFault.TheVariants.{ReadFailed, TooLong, WriteFailed, Scan, Table, Build}
 use Rattle.cave_runs.specs.declared.fault.RunFault.TheVariants.{OutOfMemory}
 
-abbrev pub of_cave : CaveFault → RunFault
-of_cave (cave.Scan fault) = Scan fault
-of_cave (cave.Table fault) = Table fault
-of_cave (cave.Build fault) = Build fault
-of_cave cave.OutOfMemory = OutOfMemory
+abbrev pub run_fault_of : CaveFault → RunFault
+run_fault_of (cave.Scan fault) = Scan fault
+run_fault_of (cave.Table fault) = Table fault
+run_fault_of (cave.Build fault) = Build fault
+run_fault_of cave.OutOfMemory = OutOfMemory
 
 abbrev pub of_write : WriteFault → RunFault
 of_write writing.WriteFailed = WriteFailed

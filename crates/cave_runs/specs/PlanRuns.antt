@@ -69,7 +69,7 @@ AreTextsOf cave turns text proof = ((plans : List Plan) × IsPlanned cave text p
     ⊎ (IsStoppedAt cave turns text × (proof ≡ []))
 
 -- of each a beginning was written, or all of it
-pub record Begins (cave : Cave) (turns : Option ℕ) (old new proof_old proof_new : Option (List ℕ)) : Type 0 where
+pub record BeginsTexts (cave : Cave) (turns : Option ℕ) (old new proof_old proof_new : Option (List ℕ)) : Type 0 where
   pub text : List ℕ
   pub proof : List ℕ
   pub are : AreTextsOf cave turns text proof
@@ -80,7 +80,7 @@ pub record BeginsPlan (bytes : List ℕ) (table : Option (List ℕ)) (rule : Rul
     (old new proof_old proof_new : Option (List ℕ)) : Type 0 where
   pub cave : Cave
   pub told : IsCaveOfBytes bytes table rule cave
-  pub begins : Begins cave turns old new proof_old proof_new
+  pub begins : BeginsTexts cave turns old new proof_old proof_new
 
 -- a failed write leaves a beginning of each; refused memory one of the certificate alone; any other fault nothing
 abbrev pub Leaves : RunFault → Option (List ℕ) → Option (List ℕ) → Rule → Option ℕ → Option (List ℕ)
@@ -96,9 +96,9 @@ Leaves other known table rule turns old new proof_old proof_new = Keeps old new 
 -- what a fault of writing leaves of this cave's plan
 abbrev pub LeavesIn : RunFault → Cave → Option ℕ → Option (List ℕ) → Option (List ℕ) → Option (List ℕ)
     → Option (List ℕ) → Type 0
-LeavesIn faults.WriteFailed cave turns old new proof_old proof_new = Begins cave turns old new proof_old proof_new
+LeavesIn faults.WriteFailed cave turns old new proof_old proof_new = BeginsTexts cave turns old new proof_old proof_new
 LeavesIn faults.OutOfMemory cave turns old new proof_old proof_new = Keeps old new
-    × Begins cave turns old new proof_old proof_new
+    × BeginsTexts cave turns old new proof_old proof_new
 LeavesIn other cave turns old new proof_old proof_new = ⊥
 
 -- the same whatever the turns are
@@ -108,7 +108,7 @@ pub record LeavesProved (fault : RunFault) (cave : Cave) (old new proof_old proo
 -- ---- why there is no plan
 
 -- the fault names the least dark cell that no place lights
-pub record IsUnlit (cave : Cave) (fault : RunFault) : Type 0 where
+pub record NamesUnlit (cave : Cave) (fault : RunFault) : Type 0 where
   pub cell : ℕ
   pub unlightable : IsUnlightable cave cell
   pub least : (other : ℕ) → IsUnlightable cave other → cell ≤ other
@@ -118,7 +118,7 @@ pub record IsUnlit (cave : Cave) (fault : RunFault) : Type 0 where
 -- the bytes tell no cave, or one that can't be lit
 abbrev pub IsNoPlan : List ℕ → Option (List ℕ) → Rule → RunFault → Type 0
 IsNoPlan bytes table rule fault = IsFaultOfBytes bytes table fault
-    ⊎ ((cave : Cave) × IsCaveOfBytes bytes table rule cave × IsUnlit cave fault)
+    ⊎ ((cave : Cave) × IsCaveOfBytes bytes table rule cave × NamesUnlit cave fault)
 
 -- the input is too long, or has no plan
 abbrev pub IsNoPlanOfInput : List ℕ → Option (List ℕ) → Rule → RunFault → Type 0
@@ -126,6 +126,6 @@ IsNoPlanOfInput bytes table rule fault = ((structure_limit < length bytes) × (f
     ⊎ ((length bytes ≤ structure_limit) × IsNoPlan bytes table rule fault)
 
 -- the cave of the bytes, with its outline
-abbrev pub Tells : List ℕ → Option (List ℕ) → Rule → Option ℕ → Cave → List ℕ → Bool → List Plan → Type 0
-Tells bytes table rule turns cave text stopped plans = IsCaveOfBytes bytes table rule cave
+abbrev pub TellsPlans : List ℕ → Option (List ℕ) → Rule → Option ℕ → Cave → List ℕ → Bool → List Plan → Type 0
+TellsPlans bytes table rule turns cave text stopped plans = IsCaveOfBytes bytes table rule cave
     × IsOutlineOf cave turns text stopped plans

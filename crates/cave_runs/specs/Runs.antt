@@ -8,7 +8,7 @@ use Rattle.cave_model.specs.declared.cave_fault.CaveFault.{CaveFault}
 use Rattle.std.specs.Io.KnownBytes.{Appends}
 use Rattle.proof_tree.specs.Writing.{AppendsFront}
 use Rattle.cave_runs.specs.DarkText.{IsDarkText}
-use Rattle.cave_runs.specs.Faults.{of_cave}
+use Rattle.cave_runs.specs.Faults.{run_fault_of}
 use Rattle.cave_runs.specs.Limits.{structure_limit}
 use Rattle.cave_runs.specs.declared.fault.Input.TheVariants.{StructureInput}
 use Rattle.cave_runs.specs.declared.fault.RunFault.{RunFault}
@@ -21,7 +21,7 @@ IsDarkTextOf bytes table rule text = (cave : Cave) × IsCaveOfBytes bytes table 
 -- why the bytes tell no cave, as a run answers it
 abbrev pub IsFaultOfBytes : List ℕ → Option (List ℕ) → RunFault → Type 0
 IsFaultOfBytes bytes table fault = (inner : CaveFault) × caves.IsFaultOfBytes bytes table inner
-    × (fault ≡ of_cave inner)
+    × (fault ≡ run_fault_of inner)
 
 -- why an input is refused: it is too long, or tells no cave
 abbrev pub IsFaultOfInput : List ℕ → Option (List ℕ) → RunFault → Type 0

@@ -1,5 +1,5 @@
 ghost use Rattle.std.specs.Prelude.{◌≡◌};
-ghost use Rattle.cave_runs.specs.Faults.{of_cave, of_check, of_write};
+ghost use Rattle.cave_runs.specs.Faults.{run_fault_of, of_check, of_write};
 ghost use Rattle.cave_runs.specs.declared.fault.RunFault.TheVariants.{OutOfMemory};
 
 use block_rows::RowsFault;
@@ -58,7 +58,7 @@ impl fmt::Display for Input {
 }
 
 impl From<CaveFault> for RunFault {
-    ghost from_gives = { λ e r. r ≡ of_cave e };
+    ghost from_gives = { λ e r. r ≡ run_fault_of e };
 
     fn from(fault: CaveFault) -> RunFault {
         match fault {

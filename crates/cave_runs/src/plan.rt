@@ -5,8 +5,8 @@ ghost use Rattle.cave_model.specs.RuleOf.{rule_of};
 ghost use Rattle.cave_plan.specs.Outline.{IsOutlineOf, IsPlanned};
 ghost use Rattle.proof_tree.specs.PlanOf.{plans_of};
 ghost use Rattle.cave_runs.specs.Limits.{structure_limit};
-ghost use Rattle.cave_runs.specs.PlanRuns.{EndsIn, IsNoPlan, IsNoPlanOfInput, IsUnlit, Leaves};
-ghost use Rattle.cave_runs.specs.PlanRuns.{LeavesIn, LeavesProved, Plans, Tells, WritesBest};
+ghost use Rattle.cave_runs.specs.PlanRuns.{EndsIn, IsNoPlan, IsNoPlanOfInput, NamesUnlit, Leaves};
+ghost use Rattle.cave_runs.specs.PlanRuns.{LeavesIn, LeavesProved, Plans, TellsPlans, WritesBest};
 ghost use Rattle.cave_runs.specs.Reading.{GivesAtMost};
 ghost use Rattle.cave_runs.specs.Runs.{IsOfInput, IsRefusedRun};
 ghost use Rattle.cave_runs.specs.declared.fault.RunFault.{RunFault};
@@ -52,9 +52,9 @@ fn outline_of<X: Threads + Wait + Sync, G: Gate>(
 ) -> Result<Outline, RunFault>
     ensures found { IfOk result (λ o.
         IsOutlineOf world.now turns (string_bytes o.text) o.stopped (plans_of o.parts.items)) }
-    ensures fault { IfErr result (λ e. e ≢ RunFault.OutOfMemory → e ≢ RunFault.NoThread → IsUnlit world.now e) }
+    ensures fault { IfErr result (λ e. e ≢ RunFault.OutOfMemory → e ≢ RunFault.NoThread → NamesUnlit world.now e) }
     ensures threads { IfErr result (λ e. e ≡ RunFault.NoThread → 1 < crew.now.workers.number) }
-    ensures refused { (e : RunFault) → IsUnlit world.now e → IsRefusal RunFault.OutOfMemory result e }
+    ensures refused { (e : RunFault) → NamesUnlit world.now e → IsRefusal RunFault.OutOfMemory result e }
 {
     match plan_cave(alloc, world, crew, turns) {
         Ok(outline) => Ok(outline),
@@ -75,7 +75,7 @@ fn planned<X: Threads + Wait + Sync, G: Gate>(
     opts: &PlanOpts,
     crew: &Crew<'_, X, G>,
 ) -> Result<(World, Outline), RunFault>
-    ensures found { IfOk result (λ p. Tells bytes.now (option_copied table.entry) (rule_of opts.now.rule)
+    ensures found { IfOk result (λ p. TellsPlans bytes.now (option_copied table.entry) (rule_of opts.now.rule)
         opts.now.turns p.0 (string_bytes p.1.text) p.1.stopped (plans_of p.1.parts.items)) }
     ensures fault { IfErr result (λ e. e ≢ RunFault.OutOfMemory → e ≢ RunFault.NoThread
         → IsNoPlan bytes.now (option_copied table.entry) (rule_of opts.now.rule) e) }

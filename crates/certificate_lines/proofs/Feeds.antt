@@ -7,7 +7,7 @@ use Rattle.std.proofs.lemmas.List.Elements.{All-head, All-tail}
 use Rattle.proof_rules.specs.Text.{ended}
 use Rattle.certificate_lines.specs.Cuts.{AreClean, HasNoFeed, IsCutLine}
 use Rattle.certificate_lines.specs.Numbers.{IsSmall, numbers_text}
-use Rattle.certificate_lines.specs.Sound.{IsSound}
+use Rattle.certificate_lines.specs.Sound.{IsSoundStage}
 use Rattle.certificate_lines.specs.Steps.{Takes, Leads, Says}
 use Rattle.certificate_lines.proofs.Digits.{AreDigits, digits_of}
 use Rattle.certificate_lines.proofs.Walk.{sound_after}
@@ -86,7 +86,7 @@ clean_says : (word text : List ℕ) (Means : List ℕ → Stage → Type 0) (nex
 clean_says word text Means next w small s = subst HasNoFeed (sym s.1)
     (clean_append word (numbers_text s.0) (clean_word word w) (clean_numbers s.0 (small.each s.0 next s.2)))
 
-pub clean_takes : (s next : Stage) (text : List ℕ) → IsSound s → Takes s text next → HasNoFeed text
+pub clean_takes : (s next : Stage) (text : List ℕ) → IsSoundStage s → Takes s text next → HasNoFeed text
 clean_takes stage.Start next text h t = clean_says (codes "torchproof") text _ next refl start_small t
 clean_takes (stage.Box second) next text h t = clean_says (codes "box") text _ next refl (box_small second) t
 clean_takes (stage.Headroom second count) next text h t = clean_says (codes "headroom") text _ next refl
@@ -110,7 +110,7 @@ clean_takes (stage.Node second count to_come pending) next text h (inr (inr t)) 
     clean_says (codes "E") text _ next refl (bar_small second count to_come pending h.0) t
 clean_takes stage.Done next text h t = absurd t
 
-pub clean_leads : (lines : List (List ℕ)) (s u : Stage) → IsSound s → Leads lines s u → AreClean lines
+pub clean_leads : (lines : List (List ℕ)) (s u : Stage) → IsSoundStage s → Leads lines s u → AreClean lines
 clean_leads [] s u h l = tt
 clean_leads (text ∷ lines) s u h (next, t, rest) =
     (clean_takes s next text h t, clean_leads lines next u (sound_after s next text h t) rest)

@@ -4,7 +4,7 @@ use Rattle.std.specs.Prelude.{Bool, true, false, Option, Some, None, nat_eq, if�
 use Rattle.std.proofs.lemmas.Bool.{eqb-true, eq-eqb, true≢false}
 use Rattle.certificate_lines.specs.Decides.{IsLineOf, IsNoLineOf, IsNone, Decides}
 use Rattle.certificate_lines.specs.Steps.{Takes, Says, RegionMeans, LeafMeans}
-use Rattle.certificate_lines.specs.Sound.{IsSound}
+use Rattle.certificate_lines.specs.Sound.{IsSoundStage}
 use Rattle.certificate_lines.specs.Kinds.{word_of, kind_at, node_kind, region_kind, MeansAt}
 use Rattle.certificate_lines.proofs.Lift.{AreSmall, lift, lift_none, at_end, at_region, at_leaf, at_branch, at_bar}
 use Rattle.certificate_lines.proofs.Lift.{start_small, box_small, headroom_small, need_small, regions_small}
@@ -126,7 +126,7 @@ leaf_means second count to_come pending numbers r kind.Bar no_branch no_bar h = 
 leaf_means second count to_come pending numbers r kind.End no_branch no_bar h = h
 
 -- the numbers of any line that fits are small
-kind_small : (s : Stage) (text : List ℕ) → IsSound s → AreSmall (MeansAt s (kind_at s text))
+kind_small : (s : Stage) (text : List ℕ) → IsSoundStage s → AreSmall (MeansAt s (kind_at s text))
 kind_small stage.Start text i = start_small
 kind_small (stage.Box second) text i = box_small second
 kind_small (stage.Headroom second count) text i = headroom_small second count
@@ -140,7 +140,7 @@ kind_small (stage.Node second count to_come pending) text i = node_small second 
 kind_small stage.Done text i = record { each = λ ns next m. absurd m; few = λ ns next m. absurd m }
 
 -- a line of the kind that may come fits where its numbers mean something
-pub line_fits : (s : Stage) (k : Kind) (text numbers : List ℕ) (r : Option Stage) → IsSound s → k ≡ kind_at s text
+pub line_fits : (s : Stage) (k : Kind) (text numbers : List ℕ) (r : Option Stage) → IsSoundStage s → k ≡ kind_at s text
     → IsLineOf text (word_of k) numbers → Decides r (MeansAt s k numbers) → Decides r (Takes s text)
 line_fits s k text numbers r sound is l h =
     let small = kind_small s text sound in
@@ -149,7 +149,7 @@ line_fits s k text numbers r sound is l h =
     (subst (λ (j : Kind). AreSmall (MeansAt s j)) (sym is) small) l h))
 
 -- a line that isn't of that kind doesn't fit
-pub line_fits_not : (s : Stage) (k : Kind) (text : List ℕ) → IsSound s → k ≡ kind_at s text
+pub line_fits_not : (s : Stage) (k : Kind) (text : List ℕ) → IsSoundStage s → k ≡ kind_at s text
     → IsNoLineOf text (word_of k) → IsNone (Takes s text)
 line_fits_not s k text sound is l =
     let small = kind_small s text sound in

@@ -4,7 +4,7 @@ use Rattle.std.specs.Prelude.{codes, decimal}
 use Rattle.std.proofs.lemmas.Fmt.{length-decimal-le}
 use Rattle.std.proofs.lemmas.List.Elements.{All-head, All-tail}
 use Rattle.certificate_lines.specs.Numbers.{IsSmall, numbers_text, longest_line}
-use Rattle.certificate_lines.specs.Sound.{IsSound}
+use Rattle.certificate_lines.specs.Sound.{IsSoundStage}
 use Rattle.certificate_lines.specs.Steps.{Takes, Says}
 use Rattle.certificate_lines.proofs.Lift.{AreSmall, start_small, box_small, headroom_small, need_small, regions_small}
 use Rattle.certificate_lines.proofs.Lift.{end_small, region_small, dark_small, torches_small, leaf_small}
@@ -34,7 +34,7 @@ short_says word text Means next small w s = omega (
   small.few s.0 next s.2,
 )
 
-pub short_line : (s next : Stage) (text : List ℕ) → IsSound s → Takes s text next → length text ≤ longest_line
+pub short_line : (s next : Stage) (text : List ℕ) → IsSoundStage s → Takes s text next → length text ≤ longest_line
 short_line stage.Start next text h t = short_says (codes "torchproof") text _ next start_small (omega arith) t
 short_line (stage.Box second) next text h t = short_says (codes "box") text _ next (box_small second) (omega arith) t
 short_line (stage.Headroom second count) next text h t = short_says (codes "headroom") text _ next

@@ -10,7 +10,7 @@ use Rattle.certificate_lines.specs.Moves.{Fits, FitsNot}
 use Rattle.certificate_lines.specs.Said.{Said, said, AreSaid}
 use Rattle.certificate_lines.specs.Steps.{Takes}
 use Rattle.certificate_lines.specs.Walked.{Walked}
-use Rattle.certificate_lines.specs.Held.{Kept, Going, Stuck, Overlong, HoldsOr, Holds, TakesLine, EndsPiece, Tells}
+use Rattle.certificate_lines.specs.Held.{HeldText, Going, Stuck, Overlong, HoldsOr, Holds, TakesLine, EndsPiece, Tells}
 use Rattle.certificate_lines.specs.Keeping.{IsKeptOn, IsOverlong}
 use Rattle.certificate_lines.proofs.Feeds.{clean_append}
 use Rattle.certificate_lines.proofs.Misfit.{walk_start, start_before, walk_more, more_before, misfit, overlong}
@@ -71,22 +71,22 @@ overlong_more bytes more number t = record {
   counted = t.counted;
 }
 
-found_stays : (bytes piece : List ℕ) (all : List Said) (kept : Kept) (found : Option ℕ) → found ≢ None
+found_stays : (bytes piece : List ℕ) (all : List Said) (kept : HeldText) (found : Option ℕ) → found ≢ None
     → HoldsOr bytes all kept found → HoldsOr (bytes ++ piece) all kept found
 found_stays bytes piece all kept None some h = absurd (some refl)
 found_stays bytes piece all kept (Some number) some (inl t) = inl (stuck_more bytes piece number t)
 found_stays bytes piece all kept (Some number) some (inr t) = inr (overlong_more bytes piece number t)
 
-pub ends_found : (piece : List ℕ) (kept : Kept) → kept.misfit ≢ None → EndsPiece piece kept kept
+pub ends_found : (piece : List ℕ) (kept : HeldText) → kept.misfit ≢ None → EndsPiece piece kept kept
 ends_found piece kept some = record { each = λ bytes all h. found_stays bytes piece all kept kept.misfit some h }
 
 -- ---- a piece, where all went well so far
 
-pub going : (bytes : List ℕ) (all : List Said) (kept : Kept) → kept.misfit ≡ None → Holds bytes all kept
+pub going : (bytes : List ℕ) (all : List Said) (kept : HeldText) → kept.misfit ≡ None → Holds bytes all kept
     → Going bytes all kept.stage kept.taken kept.last
 going bytes all kept e h = subst (HoldsOr bytes all kept) e h
 
-holds_by : (bytes : List ℕ) (all : List Said) (kept : Kept) (found : Option ℕ) → kept.misfit ≡ found
+holds_by : (bytes : List ℕ) (all : List Said) (kept : HeldText) (found : Option ℕ) → kept.misfit ≡ found
     → HoldsOr bytes all kept found → Holds bytes all kept
 holds_by bytes all kept found e h = subst (HoldsOr bytes all kept) (sym e) h
 
@@ -104,7 +104,7 @@ going_on bytes text all s now_s taken now_taken last now_last g clean es et el =
     (subst (λ (n : ℕ). Going (bytes ++ text) all s n now_last) (sym et)
     (subst (λ (l : List ℕ). Going (bytes ++ text) all s taken l) (sym el) here))
 
-pub ends_kept : (piece : List ℕ) (old new : Kept) → old.misfit ≡ None → HasNoFeed piece → IsKeptOn piece old new
+pub ends_kept : (piece : List ℕ) (old new : HeldText) → old.misfit ≡ None → HasNoFeed piece → IsKeptOn piece old new
     → EndsPiece piece old new
 ends_kept piece old new none clean k = record {
   each = λ bytes all h. holds_by (bytes ++ piece) all new None (k.misfit ∙ none)
@@ -112,7 +112,7 @@ ends_kept piece old new none clean k = record {
       clean k.stage k.taken k.last);
 }
 
-pub ends_overlong : (piece text after : List ℕ) (old new : Kept) → old.misfit ≡ None → piece ≡ text ++ after
+pub ends_overlong : (piece text after : List ℕ) (old new : HeldText) → old.misfit ≡ None → piece ≡ text ++ after
     → HasNoFeed text → IsOverlong text old new → EndsPiece piece old new
 ends_overlong piece text after old new none parts clean o = record {
   each = λ bytes all h.
@@ -132,7 +132,7 @@ ends_overlong piece text after old new none parts clean o = record {
 }
 
 -- a piece in which no line ends
-pub ends_on : (piece : List ℕ) (old new : Kept) (kept : Bool) → old.misfit ≡ None → HasNoFeed piece
+pub ends_on : (piece : List ℕ) (old new : HeldText) (kept : Bool) → old.misfit ≡ None → HasNoFeed piece
     → MatchBool kept (IsKeptOn piece old new) (IsOverlong piece old new) → EndsPiece piece old new
 ends_on piece old new true none clean k = ends_kept piece old new none clean k
 ends_on piece old new false none clean o = ends_overlong piece piece [] old new none (sym (append-nil piece)) clean o
@@ -146,7 +146,7 @@ cut_whole last piece text after line clean cut is = record {
   clean = subst HasNoFeed (sym is) (clean_append last text clean cut.clean);
 }
 
-pub ends_stuck : (piece text after line : List ℕ) (old mid new : Kept) (s : Stage) (taken : ℕ) → old.misfit ≡ None
+pub ends_stuck : (piece text after line : List ℕ) (old mid new : HeldText) (s : Stage) (taken : ℕ) → old.misfit ≡ None
     → IsCutLine piece text after → IsKeptOn text old mid → line ≡ mid.last → FitsNot line mid.stage s mid.taken taken
     → new.misfit ≡ Some (taken + 1) → EndsPiece piece old new
 ends_stuck piece text after line old mid new s taken none cut k is n e = record {
@@ -168,7 +168,7 @@ ends_stuck piece text after line old mid new s taken none cut k is n e = record 
       }));
 }
 
-pub takes_line : (piece text after line : List ℕ) (k : Kind) (old mid new : Kept) → old.misfit ≡ None
+pub takes_line : (piece text after line : List ℕ) (k : Kind) (old mid new : HeldText) → old.misfit ≡ None
     → IsCutLine piece text after → IsKeptOn text old mid → line ≡ mid.last
     → Fits line k new.numbers mid.stage new.stage mid.taken new.taken → new.misfit ≡ mid.misfit → new.last ≡ []
     → TakesLine piece after k old new
@@ -224,12 +224,12 @@ told_misfit bytes number (inl t) = misfit bytes t.s t.taken t.rest t.text t.afte
 told_misfit bytes number (inr t) = overlong bytes t.s t.taken t.rest t.front t.after number
     t.walked t.parts t.clean t.long t.counted
 
-pub tells_found : (kept : Kept) (found : Option ℕ) → found ≢ None → kept.misfit ≡ found → Tells kept found
+pub tells_found : (kept : HeldText) (found : Option ℕ) → found ≢ None → kept.misfit ≡ found → Tells kept found
 tells_found kept None some e = absurd (some refl)
 tells_found kept (Some number) some e =
     record { each = λ bytes all h. told_misfit bytes number (subst (HoldsOr bytes all kept) e h) }
 
-pub tells_missing : (kept : Kept) (number : ℕ) → kept.misfit ≡ None → (kept.last ≡ [] → kept.stage ≡ stage.Done → ⊥)
+pub tells_missing : (kept : HeldText) (number : ℕ) → kept.misfit ≡ None → (kept.last ≡ [] → kept.stage ≡ stage.Done → ⊥)
     → number ≡ kept.taken + 1 → Tells kept (Some number)
 tells_missing kept number e f n =
     record {
@@ -238,7 +238,7 @@ tells_missing kept number e f n =
           unended bytes kept.stage kept.taken kept.last number g.walked g.clean f n);
     }
 
-pub tells_whole : (kept : Kept) → kept.misfit ≡ None → kept.last ≡ [] → kept.stage ≡ stage.Done → Tells kept None
+pub tells_whole : (kept : HeldText) → kept.misfit ≡ None → kept.last ≡ [] → kept.stage ≡ stage.Done → Tells kept None
 tells_whole kept e f d = record {
   each = λ bytes all h.
       let g = going bytes all kept e h in

@@ -10,7 +10,7 @@ use Rattle.proof_rules.specs.Text.{line, forest_lines, section_lines}
 use Rattle.proof_rules.specs.Certificate.{Section, AreListed, AreTreesIn, HasNoBar, HaveNoBar, IsSectionIn}
 use Rattle.certificate_lines.proofs.Complete.{leads_trees, leads_sections}
 use Rattle.certificate_lines.specs.Steps.{Takes, Leads, after_node, after_headroom}
-use Rattle.certificate_lines.specs.Sound.{IsSound, pending_of}
+use Rattle.certificate_lines.specs.Sound.{IsSoundStage, pending_of}
 use Rattle.certificate_lines.proofs.Lift.{and_both}
 use Rattle.certificate_lines.specs.declared.stage.Stage.{Stage}
 use Rattle.certificate_lines.specs.declared.stage.Stage.TheVariants as stage
@@ -30,36 +30,38 @@ pub count_small : (x y z : ℕ) → IsTrue (nat_le x 128 && nat_le y 128 && nat_
 count_small x y z h = leb-true (x * y * z) 262144
     (and_both (nat_le x 128 && nat_le y 128 && nat_le z 128) (nat_le (x * y * z) 262144) h).1
 
-sound_headroom : (second : Bool) (count : ℕ) → count ≤ 262144 → IsSound (after_headroom second count)
+sound_headroom : (second : Bool) (count : ℕ) → count ≤ 262144 → IsSoundStage (after_headroom second count)
 sound_headroom true count h = h
 sound_headroom false count h = h
 
 sound_node : (second : Bool) (count to_come pending : ℕ) → count ≤ 262144 → to_come < count
-    → IsSound (after_node second count to_come pending)
+    → IsSoundStage (after_node second count to_come pending)
 sound_node second count to_come zero h i = (h, omega arith)
 sound_node second count to_come (suc p) h i = (h, i, omega arith)
 
-pub sound_after : (s next : Stage) (text : List ℕ) → IsSound s → Takes s text next → IsSound next
+pub sound_after : (s next : Stage) (text : List ℕ) → IsSoundStage s → Takes s text next → IsSoundStage next
 sound_after stage.Start next text h (ns, e, m) = elim m [
-  | inl m ↦ subst IsSound (sym m.1) tt
-  | inr m ↦ subst IsSound (sym m.1) tt
+  | inl m ↦ subst IsSoundStage (sym m.1) tt
+  | inr m ↦ subst IsSoundStage (sym m.1) tt
 ]
-sound_after (stage.Box second) next text h (ns, e, m) = subst IsSound (sym m.3) (count_small m.0.x m.0.y m.0.z m.2)
-sound_after (stage.Headroom second count) next text h (ns, e, m) = subst IsSound (sym m.1)
+sound_after (stage.Box second) next text h (ns, e, m) = subst IsSoundStage (sym m.3) (count_small m.0.x m.0.y m.0.z m.2)
+sound_after (stage.Headroom second count) next text h (ns, e, m) = subst IsSoundStage (sym m.1)
     (sound_headroom second count h)
-sound_after (stage.Need count) next text h (ns, e, m) = subst IsSound (sym m.1) h
-sound_after (stage.Regions second count) next text h (ns, e, m) = subst IsSound (sym m.3) (h, m.2)
-sound_after (stage.Region second count to_come) next text h (inl (ns, e, m)) = subst IsSound (sym m.2) tt
-sound_after (stage.Region second count to_come) next text h (inr (ns, e, m)) = subst IsSound (sym m.9)
+sound_after (stage.Need count) next text h (ns, e, m) = subst IsSoundStage (sym m.1) h
+sound_after (stage.Regions second count) next text h (ns, e, m) = subst IsSoundStage (sym m.3) (h, m.2)
+sound_after (stage.Region second count to_come) next text h (inl (ns, e, m)) = subst IsSoundStage (sym m.2) tt
+sound_after (stage.Region second count to_come) next text h (inr (ns, e, m)) = subst IsSoundStage (sym m.9)
     (h.0, omega (arith, h.1, m.3), m.5, m.6, m.7, m.8)
-sound_after (stage.Dark second count to_come n t) next text h (ns, e, m) = subst IsSound (sym m.2) (h.0, h.1, h.4, h.5)
-sound_after (stage.Torches second count to_come t) next text h (ns, e, m) = subst IsSound (sym m.2)
+sound_after (stage.Dark second count to_come n t) next text h (ns, e, m) = subst IsSoundStage (sym m.2)
+    (h.0, h.1, h.4, h.5)
+sound_after (stage.Torches second count to_come t) next text h (ns, e, m) = subst IsSoundStage (sym m.2)
     (h.0, h.1, omega arith)
-sound_after (stage.Node second count to_come pending) next text h (inl (ns, e, m)) = subst IsSound (sym m.5)
+sound_after (stage.Node second count to_come pending) next text h (inl (ns, e, m)) = subst IsSoundStage (sym m.5)
     (sound_node second count to_come m.0 h.0 h.1)
-sound_after (stage.Node second count to_come pending) next text h (inr (inl (ns, e, m))) = subst IsSound (sym m.7)
+sound_after (stage.Node second count to_come pending) next text h (inr (inl (ns, e, m))) = subst IsSoundStage (sym m.7)
     (sound_node second count to_come (m.2 + m.0) h.0 h.1)
-sound_after (stage.Node second count to_come pending) next text h (inr (inr (ns, e, m))) = subst IsSound (sym m.8) h
+sound_after (stage.Node second count to_come pending) next text h (inr (inr (ns, e, m))) = subst IsSoundStage
+    (sym m.8) h
 sound_after stage.Done next text h m = absurd m
 
 -- ---- some lines lead on from each sound stage to the end
@@ -200,7 +202,7 @@ from_box second =
       (stage.Headroom second (cell_count size), (0 ∷ 0 ∷ 0 ∷ [], refl, (size, refl, refl, refl)), r.1),
     )
 
-pub leads_on : (s : Stage) → IsSound s → (lines : List (List ℕ)) × Leads lines s stage.Done
+pub leads_on : (s : Stage) → IsSoundStage s → (lines : List (List ℕ)) × Leads lines s stage.Done
 leads_on stage.Start h =
     let r = from_box false in
     (line (codes "torchproof") (1 ∷ []) ∷ r.0, (stage.Box false, (1 ∷ [], refl, inl (refl, refl)), r.1))
@@ -225,7 +227,7 @@ pending_headroom : (second : Bool) (count : ℕ) → pending_of (after_headroom 
 pending_headroom true count = refl
 pending_headroom false count = refl
 
-pub pending_after : (s next : Stage) (text : List ℕ) → IsSound s → Takes s text next
+pub pending_after : (s next : Stage) (text : List ℕ) → IsSoundStage s → Takes s text next
     → pending_of next ≤ pending_of s + 262144
 pending_after stage.Start next text h (ns, e, m) = elim m [
   | inl m ↦ omega (arith, ap pending_of m.1)

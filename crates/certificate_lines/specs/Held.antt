@@ -13,7 +13,7 @@ use Rattle.certificate_lines.specs.declared.stage.Stage.{Stage}
 
 -- what is kept of a text: what the next line has to be, how many lines were taken, the beginning of the next one,
 -- the first line that doesn't fit, and the numbers of the last line that was taken
-pub record Kept : Type 0 where
+pub record HeldText : Type 0 where
   pub stage : Stage
   pub taken : ℕ
   pub last : List ℕ
@@ -51,16 +51,16 @@ pub record Overlong (bytes : List ℕ) (number : ℕ) : Type 0 where
   pub long : longest_line < length front
   pub counted : number ≡ taken + 1
 
-abbrev pub HoldsOr : List ℕ → List Said → Kept → Option ℕ → Type 0
+abbrev pub HoldsOr : List ℕ → List Said → HeldText → Option ℕ → Type 0
 HoldsOr bytes all kept None = Going bytes all kept.stage kept.taken kept.last
 HoldsOr bytes all kept (Some number) = Stuck bytes number ⊎ Overlong bytes number
 
 -- this is kept of the bytes, whose lines say that
-abbrev pub Holds : List ℕ → List Said → Kept → Type 0
+abbrev pub Holds : List ℕ → List Said → HeldText → Type 0
 Holds bytes all kept = HoldsOr bytes all kept kept.misfit
 
 -- a line that ends in the piece was taken, and this is what comes after it
-pub record TakesLine (piece after : List ℕ) (k : Kind) (old new : Kept) : Type 0 where
+pub record TakesLine (piece after : List ℕ) (k : Kind) (old new : HeldText) : Type 0 where
   pub front : List ℕ
   pub parts : piece ≡ front ++ after
   pub some : 0 < length front
@@ -70,11 +70,11 @@ pub record TakesLine (piece after : List ℕ) (k : Kind) (old new : Kept) : Type
   pub counted : new.taken ≡ old.taken + 1
 
 -- no line was taken, and the piece is done
-pub record EndsPiece (piece : List ℕ) (old new : Kept) : Type 0 where
+pub record EndsPiece (piece : List ℕ) (old new : HeldText) : Type 0 where
   pub each : (bytes : List ℕ) (all : List Said) → Holds bytes all old → Holds (bytes ++ piece) all new
 
 -- with room for so many bytes more
-pub record HasRoom (kept : Kept) (more : ℕ) : Type 0 where
+pub record HasRoom (kept : HeldText) (more : ℕ) : Type 0 where
   pub bytes : List ℕ
   pub all : List Said
   pub holds : Holds bytes all kept
@@ -87,6 +87,6 @@ pub record IsWhole (bytes : List ℕ) (all : List Said) : Type 0 where
   pub says : (other : Certificate) → IsTextOf bytes other → all ≡ said_of other
 
 -- at the end: what the bytes are, and what they say
-pub record Tells (kept : Kept) (result : Option ℕ) : Type 0 where
+pub record Tells (kept : HeldText) (result : Option ℕ) : Type 0 where
   pub each : (bytes : List ℕ) (all : List Said) → Holds bytes all kept → MatchOption result
       (IsWhole bytes all) (λ line. IsFirstMisfit bytes line)

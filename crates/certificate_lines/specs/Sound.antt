@@ -3,18 +3,18 @@ use Rattle.std.specs.Prelude.{ℕ, ◌<◌, ◌≤◌}
 use Rattle.certificate_lines.specs.declared.stage.Stage.{Stage}
 use Rattle.certificate_lines.specs.declared.stage.Stage.TheVariants as stage
 
-abbrev pub IsSound : Stage → Type 0
-IsSound stage.Start = Unit {0}
-IsSound (stage.Box second) = Unit {0}
-IsSound (stage.Headroom second count) = count ≤ 262144
-IsSound (stage.Need count) = count ≤ 262144
-IsSound (stage.Regions second count) = count ≤ 262144
-IsSound (stage.Region second count to_come) = (count ≤ 262144) × (to_come ≤ count)
-IsSound (stage.Dark second count to_come n t) = (count ≤ 262144) × (to_come < count) × (0 < n) × (n ≤ count)
+abbrev pub IsSoundStage : Stage → Type 0
+IsSoundStage stage.Start = Unit {0}
+IsSoundStage (stage.Box second) = Unit {0}
+IsSoundStage (stage.Headroom second count) = count ≤ 262144
+IsSoundStage (stage.Need count) = count ≤ 262144
+IsSoundStage (stage.Regions second count) = count ≤ 262144
+IsSoundStage (stage.Region second count to_come) = (count ≤ 262144) × (to_come ≤ count)
+IsSoundStage (stage.Dark second count to_come n t) = (count ≤ 262144) × (to_come < count) × (0 < n) × (n ≤ count)
     × (0 < t) × (t ≤ count)
-IsSound (stage.Torches second count to_come t) = (count ≤ 262144) × (to_come < count) × (0 < t) × (t ≤ count)
-IsSound (stage.Node second count to_come pending) = (count ≤ 262144) × (to_come < count) × (0 < pending)
-IsSound stage.Done = Unit {0}
+IsSoundStage (stage.Torches second count to_come t) = (count ≤ 262144) × (to_come < count) × (0 < t) × (t ≤ count)
+IsSoundStage (stage.Node second count to_come pending) = (count ≤ 262144) × (to_come < count) × (0 < pending)
+IsSoundStage stage.Done = Unit {0}
 
 -- how many trees are still to come
 abbrev pub pending_of : Stage → ℕ

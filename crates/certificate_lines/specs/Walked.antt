@@ -3,7 +3,7 @@ use Rattle.std.specs.Prelude.{◌≡◌, ℕ, ◌+◌, ◌*◌, ◌≤◌, List,
 use Rattle.proof_rules.specs.Text.{ended}
 use Rattle.certificate_lines.specs.Cuts.{AreClean}
 use Rattle.certificate_lines.specs.Steps.{Leads}
-use Rattle.certificate_lines.specs.Sound.{IsSound, pending_of}
+use Rattle.certificate_lines.specs.Sound.{IsSoundStage, pending_of}
 use Rattle.certificate_lines.specs.declared.stage.Stage.{Stage}
 use Rattle.certificate_lines.specs.declared.stage.Stage.TheVariants as stage
 
@@ -15,6 +15,6 @@ pub record Walked (bytes : List ℕ) (s : Stage) (taken : ℕ) (rest : List ℕ)
   pub counted : taken ≡ length before
   pub leads : Leads before stage.Start s
   pub only : (other : Stage) → Leads before stage.Start other → other ≡ s
-  pub sound : IsSound s
+  pub sound : IsSoundStage s
   pub few : pending_of s ≤ 262144 * taken
   pub within : taken + length rest ≤ length bytes

@@ -1,5 +1,5 @@
 ghost use Rattle.std.specs.Prelude.{◌≡◌, ◌≤◌, ◌<◌, ◌+◌, ◌*◌, ◌-◌, ◌^◌, IfOk, MatchOption, IsTrue, ◌↔◌};
-ghost use Rattle.certificate_lines.specs.Sound.{IsSound, pending_of};
+ghost use Rattle.certificate_lines.specs.Sound.{IsSoundStage, pending_of};
 ghost use Rattle.certificate_lines.specs.Moves.{Fits, FitsNot};
 ghost use Rattle.certificate_lines.specs.declared.stage.Stage.TheVariants as stages;
 
@@ -34,7 +34,7 @@ impl Lines {
 
     /// Takes the next line, without its line feed, if it fits: what kind of line it is.
     pub fn take(&mut self, text: &[u8]) -> Result<Option<Kind>, AllocError>
-        requires sound { IsSound self.old.stage }
+        requires sound { IsSoundStage self.old.stage }
         requires few { pending_of self.old.stage + 262144 < 2 ^ 128 }
         requires room { self.old.taken + 1 < 2 ^ 64 }
         ensures { IfOk result (λ r. MatchOption r

@@ -1,5 +1,5 @@
 ghost use Rattle.std.specs.Prelude.{◌≡◌, ◌<◌, ◌+◌, ◌^◌, [], length, IfOk, MatchBool, MatchOption, IsTrue, ◌↔◌, None};
-ghost use Rattle.certificate_lines.specs.Held.{EndsPiece, HasRoom, Holds, Kept, TakesLine, Tells};
+ghost use Rattle.certificate_lines.specs.Held.{EndsPiece, HasRoom, Holds, HeldText, TakesLine, Tells};
 ghost use Rattle.certificate_lines.specs.Keeping.{IsOverlong, IsKeptOn};
 
 use crate::cut::cut_line;
@@ -24,7 +24,7 @@ pub struct Pieces {
 impl Model for Pieces {
     ghost use Rattle.certificate_lines.specs.Held as held;
 
-    ghost Value = { held.Kept };
+    ghost Value = { held.HeldText };
 
     ghost view = { λ p. record {
       stage = p.lines.stage;

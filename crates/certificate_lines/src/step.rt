@@ -1,6 +1,6 @@
 ghost use Rattle.std.specs.Prelude.{◌≡◌, ◌≤◌, ◌<◌, ◌+◌, ◌^◌, IfOk, IfSome};
 ghost use Rattle.certificate_lines.specs.Steps.{Takes};
-ghost use Rattle.certificate_lines.specs.Sound.{IsSound, pending_of};
+ghost use Rattle.certificate_lines.specs.Sound.{IsSoundStage, pending_of};
 ghost use Rattle.certificate_lines.specs.Decides.{Decides, IsLineOf};
 ghost use Rattle.certificate_lines.specs.Kinds as kinds;
 
@@ -21,7 +21,7 @@ pub fn next_stage(
     text: &[u8],
     numbers: &mut Vec<u32>,
 ) -> Result<Option<Stage>, AllocError>
-    requires sound { IsSound stage }
+    requires sound { IsSoundStage stage }
     requires room { pending_of stage + 262144 < 2 ^ 128 }
     requires kind { kind ≡ kinds.kind_at stage text.now }
     ensures decides { IfOk result (λ r. Decides r (Takes stage text.now)) }
@@ -35,7 +35,7 @@ pub fn next_stage(
 
 /// What stage the numbers of such a line lead to.
 fn after(stage: Stage, kind: Kind, numbers: &[u32]) -> Option<Stage>
-    requires sound { IsSound stage }
+    requires sound { IsSoundStage stage }
     requires room { pending_of stage + 262144 < 2 ^ 128 }
     ensures { Decides result (kinds.MeansAt stage kind numbers.now) }
 {

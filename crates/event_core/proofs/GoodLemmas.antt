@@ -9,7 +9,7 @@ use Rattle.proof_rules.specs.Tree.{Tree, Forest, leaf, branch, bar, none, more}
 use Rattle.proof_rules.specs.Good.{Good, AreGood}
 use Rattle.proof_rules.proofs.LessLemmas.{good_at_less}
 use Rattle.event_core.specs.State.{State, Part, Status, opened, closed, HasPart}
-use Rattle.event_core.specs.Sound.{IsSound, HasKids}
+use Rattle.event_core.specs.Sound.{IsSoundState, HasKids}
 use Rattle.event_core.specs.Assembled.{IsAssembled, AreAssembled, IsClosedBy}
 use Rattle.event_core.proofs.StateLemmas.{not_none, same_parts}
 use Rattle.event_core.proofs.RunLemmas.{reached_sound, reached_region}
@@ -34,7 +34,7 @@ there state name (branch cell kids) (inr o) = (record { chosen = o.0.0; barred =
 there state name (bar place by kid) (c, b, floor, h) =
     (record { chosen = c; barred = b; status = closed floor (bar place by kid) }, h)
 
-module _ (state : State) (sound : IsSound state) where
+module _ (state : State) (sound : IsSoundState state) where
   abbrev GoodHere : List ℕ → List ℕ → Tree → Type 0
   GoodHere c b tree = Good (of_instance state.region) state.region.cells c b (length state.best) tree
 

@@ -7,7 +7,7 @@ use Rattle.proof_rules.specs.Tree.{Tree}
 use Rattle.event_core.specs.State.{IsDone}
 use Rattle.event_core.specs.Plays.{Steps}
 use Rattle.event_core.specs.declared.event.Event.{Event}
-use Rattle.event_core.specs.Sound.{IsSound}
+use Rattle.event_core.specs.Sound.{IsSoundState}
 use Rattle.event_core.specs.Assembled.{IsAssembled}
 use Rattle.event_core.specs.Shape.{Shape, part_in}
 use Rattle.event_core.specs.Finished.{IsWhole, is_done, assembled}
@@ -34,7 +34,7 @@ better_kept kept best le covers k =
 
 -- and after a whole and sound shape is put at a name
 pub put_is_kept : (kept : Kept) (name : List ℕ) (shape : Shape) → IsWhole shape
-    → IsSound (state_of (put_kept kept name shape)) → IsKept kept → IsKept (put_kept kept name shape)
+    → IsSoundState (state_of (put_kept kept name shape)) → IsKept kept → IsKept (put_kept kept name shape)
 put_is_kept kept name shape whole sound k =
     record { whole = put_whole kept.root shape name k.whole whole; cover = k.cover; sound = sound }
 

@@ -9,14 +9,14 @@ use Rattle.proof_rules.specs.Good.{IsCoverOfPiece, IsUnlit, AreOpen}
 use Rattle.proof_rules.proofs.ListLemmas.{no_member, cons_cases, all_members, at_member, distinct_nil, distinct_cons}
 use Rattle.proof_rules.proofs.ListLemmas.{distinct_append}
 use Rattle.event_core.specs.State.{State, Part, Status, waiting, opened, closed, HasPart, IsLeft}
-use Rattle.event_core.specs.Sound.{IsSound, IsLeftOver, HasKids}
+use Rattle.event_core.specs.Sound.{IsSoundState, IsLeftOver, HasKids}
 use Rattle.event_core.specs.Events.{IsParted}
 use Rattle.event_core.proofs.NameLemmas.{same_or_not, kid_or_not, same_kid, kid_other, first_in}
 use Rattle.event_core.proofs.StateLemmas.{not_none, AreSame, same_parts, left_not_opened, none_or_some}
 use Rattle.event_core.proofs.StateLemmas.{opened_not_closed, waiting_not_closed, same_cell}
 
 module _ (old : State) (f : List ℕ → Option Part) (n c b : List ℕ) (was : Status) (cell : ℕ) (places : List ℕ)
-    (sound : IsSound old)
+    (sound : IsSoundState old)
     (is : HasPart old n c b was) (left : IsLeft was) (unlit : IsUnlit (of_instance old.region) old.region.cells c cell)
     (all : AreOpen (of_instance old.region) b cell places)
     (p : IsParted old n c b cell places (record old { part_at = f })) where
@@ -192,7 +192,7 @@ module _ (old : State) (f : List ℕ → Option Part) (n c b : List ℕ) (was : 
   ]
 
   -- a sound state stays so when a piece is opened
-  pub opened_sound : IsSound new
+  pub opened_sound : IsSoundState new
   opened_sound = record {
     seen = sound.seen;
     rooted = forth [] [] [] sound.rooted.0 sound.rooted.1;

@@ -13,7 +13,7 @@ use Rattle.proof_rules.proofs.ListLemmas.{distinct_nil}
 use Rattle.proof_tree.specs.Piece.{Fathomed}
 use Rattle.event_core.specs.State.{State, Part, Status, waiting, held, opened, closed, HasPart, IsLeft, IsDone, Begins}
 use Rattle.event_core.specs.Laws.{IsReached, IsAnyCover}
-use Rattle.event_core.specs.Sound.{IsSound, IsLeftOver, HasKids}
+use Rattle.event_core.specs.Sound.{IsSoundState, IsLeftOver, HasKids}
 use Rattle.event_core.specs.Events.{MayOpen, MayClose, IsEnabled, Does, Turns, Opens, smaller}
 use Rattle.event_core.specs.Plays.{Steps, Plays}
 use Rattle.event_core.specs.declared.event.Event.{Event}
@@ -29,8 +29,8 @@ cov state = λ c b places. IsCoverOfPiece (of_instance state.region) state.regio
 -- ---- looks and offers
 
 -- a look keeps the state sound
-pub look_sound : (old : State) (worker : ℕ) → worker < length old.seen → IsSound old
-    → IsSound (record old { seen = set old.seen worker (length old.best) })
+pub look_sound : (old : State) (worker : ℕ) → worker < length old.seen → IsSoundState old
+    → IsSoundState (record old { seen = set old.seen worker (length old.best) })
 look_sound old worker lt sound = record {
   seen = λ other inside. elim (cases_eq other worker) [
     | inl e ↦ (let at = get_or-set_same old.seen worker (length old.best) 0 lt in
@@ -60,8 +60,8 @@ look_sound old worker lt sound = record {
 }
 
 -- so does a cover that is no larger than the best
-pub better_sound : (old : State) (best : List ℕ) → length best ≤ length old.best → IsSound old
-    → IsSound (record old { best = best })
+pub better_sound : (old : State) (best : List ℕ) → length best ≤ length old.best → IsSoundState old
+    → IsSoundState (record old { best = best })
 better_sound old best le sound = record {
   seen = λ worker inside. le_trans le (sound.seen worker inside);
   rooted = sound.rooted;
@@ -90,34 +90,34 @@ not_larger new old = grind (arith, nat_tests)
 -- ---- pieces
 
 -- so does a turn of a piece that is left, where what it says of it is true
-turn_sound : (old : State) (n : List ℕ) (status : Status) (new : State) (c b : List ℕ) (was : Status) → IsSound old
+turn_sound : (old : State) (n : List ℕ) (status : Status) (new : State) (c b : List ℕ) (was : Status) → IsSoundState old
     → Turns old n status new → HasPart old n c b was → IsLeft was
     → ((cell : ℕ) → status ≢ opened cell)
     → ((places : List ℕ) → length places < length old.best → cov old c b places → IsLeft status)
     → ((floor : ℕ) (tree : Tree) → status ≡ closed floor tree → length old.best ≤ floor)
     → ((floor : ℕ) (tree : Tree) → status ≡ closed floor tree
-    → Good (of_instance old.region) old.region.cells c b floor tree) → IsSound new
+    → Good (of_instance old.region) old.region.cells c b floor tree) → IsSoundState new
 turn_sound old n status new c b was sound t is left no_cell still reach prove =
-    subst IsSound (sym t.kept) (turning.turned_sound old new.part_at n c b was status sound is left
+    subst IsSoundState (sym t.kept) (turning.turned_sound old new.part_at n c b was status sound is left
     (t.here c b was is) t.others no_cell still reach prove)
 
 -- a piece that is left may wait
-wait_sound : (old : State) (n : List ℕ) (new : State) (c b : List ℕ) (was : Status) → IsSound old
-    → Turns old n waiting new → HasPart old n c b was → IsLeft was → IsSound new
+wait_sound : (old : State) (n : List ℕ) (new : State) (c b : List ℕ) (was : Status) → IsSoundState old
+    → Turns old n waiting new → HasPart old n c b was → IsLeft was → IsSoundState new
 wait_sound old n new c b was sound t is left = turn_sound old n waiting new c b was sound t is left
     (λ cell e. waiting_not_opened cell e) (λ places lt covers. tt) (λ floor tree e. waiting_not_closed floor tree e)
     (λ floor tree e. waiting_not_closed floor tree e)
 
 -- and may be held
-hold_sound : (old : State) (n : List ℕ) (w : ℕ) (new : State) (c b : List ℕ) (was : Status) → IsSound old
-    → Turns old n (held w) new → HasPart old n c b was → IsLeft was → IsSound new
+hold_sound : (old : State) (n : List ℕ) (w : ℕ) (new : State) (c b : List ℕ) (was : Status) → IsSoundState old
+    → Turns old n (held w) new → HasPart old n c b was → IsLeft was → IsSoundState new
 hold_sound old n w new c b was sound t is left = turn_sound old n (held w) new c b was sound t is left
     (λ cell e. held_not_opened w cell e) (λ places lt covers. tt) (λ floor tree e. held_not_closed w floor tree e)
     (λ floor tree e. held_not_closed w floor tree e)
 
 -- a piece that a worker may close may be closed
-close_sound : (old : State) (w : ℕ) (k : Fathomed) (new : State) → IsSound old → MayClose old w k
-    → Turns old k.piece.name (closed k.floor k.tree) new → IsSound new
+close_sound : (old : State) (w : ℕ) (k : Fathomed) (new : State) → IsSoundState old → MayClose old w k
+    → Turns old k.piece.name (closed k.floor k.tree) new → IsSoundState new
 close_sound old w k new sound may t =
     let c = k.piece.chosen in let b = k.piece.barred in
     let good : Good (of_instance old.region) old.region.cells c b k.floor k.tree =
@@ -136,19 +136,21 @@ close_sound old w k new sound may t =
     s.0 (subst (λ (x : Tree). Good (of_instance old.region) old.region.cells c b k.floor x) s.1 good)))
 
 -- a piece that may be opened may be
-open_sound : (old : State) (n : List ℕ) (cell : ℕ) (new : State) → IsSound old → MayOpen old n cell
-    → Opens old n cell new → IsSound new
+open_sound : (old : State) (n : List ℕ) (cell : ℕ) (new : State) → IsSoundState old → MayOpen old n cell
+    → Opens old n cell new → IsSoundState new
 open_sound old n cell new sound may o =
     let p = o.parted may.chosen may.barred may.status may.there in
-    subst IsSound (sym o.kept) (opening.opened_sound old new.part_at n may.chosen may.barred may.status cell p.0 sound
+    subst IsSoundState (sym o.kept) (opening.opened_sound old new.part_at n may.chosen may.barred may.status cell
+    p.0 sound
     may.there may.left may.unlit p.1
     (record { here = p.2.here; kids = p.2.kids; others = p.2.others }))
 
 -- each enabled event keeps the state sound
-pub does_sound : (old : State) (event : Event) (new : State) → IsSound old → IsEnabled old event → Does old event new
-    → IsSound new
-does_sound old (Look w) new sound may does = subst IsSound (sym does) (look_sound old w may sound)
-does_sound old (Offer w cover) new sound may does = subst IsSound (sym does)
+pub does_sound : (old : State) (event : Event) (new : State) → IsSoundState old → IsEnabled old event
+    → Does old event new
+    → IsSoundState new
+does_sound old (Look w) new sound may does = subst IsSoundState (sym does) (look_sound old w may sound)
+does_sound old (Offer w cover) new sound may does = subst IsSoundState (sym does)
     (better_sound old (smaller cover.places old.best) (not_larger cover.places old.best) sound)
 does_sound old (Take w n) new sound may does = hold_sound old n w new may.chosen may.barred waiting sound does
     may.waits tt
@@ -158,16 +160,16 @@ does_sound old (Leave w n) new sound may does = wait_sound old n new may.chosen 
     may.holds tt
 
 -- so does each event that is tried
-pub step_sound : (old : State) (event : Event) (done : Bool) (new : State) → IsSound old → Steps old event done new
-    → IsSound new
+pub step_sound : (old : State) (event : Event) (done : Bool) (new : State) → IsSoundState old → Steps old event done new
+    → IsSoundState new
 step_sound old event true new sound s = does_sound old event new sound s.0 s.1
-step_sound old event false new sound s = subst IsSound (sym s.1) sound
+step_sound old event false new sound s = subst IsSoundState (sym s.1) sound
 
 -- ---- from the start
 
 -- the first state is sound
 pub begin_sound : (region : Instance) (places : List ℕ) (workers : ℕ) (state : State)
-    → Begins region places workers state → IsSound state
+    → Begins region places workers state → IsSoundState state
 begin_sound region places workers state s = record {
   seen = λ worker inside. (let e = ap (λ (xs : List ℕ). get_or xs worker 0) s.seen in let l = ap length s.seen in
       let m = length-replicate workers (length places) in
@@ -199,8 +201,9 @@ begin_sound region places workers state s = record {
     only (k ∷ ks) c b st h = not_none (record { chosen = c; barred = b; status = st }) (sym (s.alone k ks) ∙ h)
 
 -- a play of events keeps the state sound
-pub plays_sound : (old : State) (events : List Event) (new : State) → IsSound old → Plays old events new → IsSound new
-plays_sound old [] new sound p = subst IsSound (sym p) sound
+pub plays_sound : (old : State) (events : List Event) (new : State) → IsSoundState old → Plays old events new
+    → IsSoundState new
+plays_sound old [] new sound p = subst IsSoundState (sym p) sound
 plays_sound old (event ∷ events) new sound p = plays_sound p.1 events new (step_sound old event p.0 p.1 sound p.2) p.3
 
 -- the region stays
@@ -227,7 +230,7 @@ plays_region old (event ∷ events) new p = plays_region p.1 events new p.3 ∙ 
 
 -- each state that is reached is sound
 pub reached_sound : (region : Instance) (events : List Event) (state : State) → IsReached region events state
-    → IsSound state
+    → IsSoundState state
 reached_sound region events state r = plays_sound r.start events state
     (begin_sound region r.first r.workers r.start r.begins) r.plays
 

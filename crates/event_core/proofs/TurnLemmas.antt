@@ -7,11 +7,11 @@ use Rattle.set_cover.specs.Instance.{of_instance}
 use Rattle.proof_rules.specs.Tree.{Tree}
 use Rattle.proof_rules.specs.Good.{Good, IsCoverOfPiece}
 use Rattle.event_core.specs.State.{State, Part, Status, opened, closed, HasPart, IsLeft}
-use Rattle.event_core.specs.Sound.{IsSound, IsLeftOver, HasKids}
+use Rattle.event_core.specs.Sound.{IsSoundState, IsLeftOver, HasKids}
 use Rattle.event_core.proofs.NameLemmas.{same_or_not}
 use Rattle.event_core.proofs.StateLemmas.{not_none, AreSame, same_parts, left_not_opened}
 
-module _ (old : State) (f : List ℕ → Option Part) (n c b : List ℕ) (was status : Status) (sound : IsSound old)
+module _ (old : State) (f : List ℕ → Option Part) (n c b : List ℕ) (was status : Status) (sound : IsSoundState old)
     (is : HasPart old n c b was) (left : IsLeft was)
     (here : f n ≡ Some (record { chosen = c; barred = b; status = status }))
     (others : (other : List ℕ) → other ≢ n → f other ≡ old.part_at other) where
@@ -105,7 +105,7 @@ module _ (old : State) (f : List ℕ → Option Part) (n c b : List ℕ) (was st
       → ((floor : ℕ) (tree : Tree) → status ≡ closed floor tree → length old.best ≤ floor)
       → ((floor : ℕ) (tree : Tree) → status ≡ closed floor tree
       → Good (of_instance old.region) old.region.cells c b floor tree)
-      → IsSound new
+      → IsSoundState new
   turned_sound no_cell still reach prove = record {
     seen = sound.seen;
     rooted = forth [] [] [] sound.rooted.0 sound.rooted.1;

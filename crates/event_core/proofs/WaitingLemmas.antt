@@ -15,7 +15,7 @@ use Rattle.event_core.specs.State.{State, Part, Status, waiting, held, opened, c
 use Rattle.event_core.specs.Shape.{Shape, Shapes, at_rest, in_hand, settled, parted, no_shape, one_shape, part_in}
 use Rattle.event_core.specs.Shape.{part_below}
 use Rattle.event_core.specs.WaitingNames.{waiting_in, waiting_below}
-use Rattle.event_core.specs.Sound.{IsSound}
+use Rattle.event_core.specs.Sound.{IsSoundState}
 use Rattle.event_core.specs.Kept.{Kept, state_of}
 use Rattle.event_core.specs.Tracing.{IsTracedTo, StandsAs}
 use Rattle.event_core.specs.declared.tracing.Standing.{Standing}
@@ -88,7 +88,7 @@ split_last : (x : ℕ) (xs : List ℕ) → (front : List ℕ) × (last : ℕ) ×
 split_last x [] = ([], x, refl)
 split_last x (y ∷ ys) = (let r = split_last y ys in (x ∷ r.0, r.1, ap (λ (l : List ℕ). x ∷ l) r.2))
 
-module _ (state : State) (sound : IsSound state) where
+module _ (state : State) (sound : IsSoundState state) where
   abbrev AreHere : List ℕ → Type 0
   AreHere places = All (Contains state.region.places) places
 

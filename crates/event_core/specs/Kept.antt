@@ -8,7 +8,7 @@ use Rattle.proof_rules.specs.Good.{Good}
 use Rattle.event_core.specs.State.{State}
 use Rattle.event_core.specs.Events.{IsEnabled, Does}
 use Rattle.event_core.specs.Assembled.{IsAssembled}
-use Rattle.event_core.specs.Sound.{IsSound}
+use Rattle.event_core.specs.Sound.{IsSoundState}
 use Rattle.event_core.specs.Shape.{Shape, part_in, put_in}
 use Rattle.event_core.specs.Finished.{IsWhole}
 use Rattle.event_core.specs.Codes.{shape_coded}
@@ -35,7 +35,7 @@ state_of kept = record { region = kept.region; best = kept.best; seen = kept.see
 pub record IsKept (kept : Kept) : Type 0 where
   pub whole : IsWhole kept.root
   pub cover : IsCoverOfRegion kept.region kept.best
-  pub sound : IsSound (state_of kept)
+  pub sound : IsSoundState (state_of kept)
 
 -- the same with the new shape at this name
 abbrev pub put_kept : Kept → List ℕ → Shape → Kept

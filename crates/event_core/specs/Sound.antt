@@ -26,7 +26,7 @@ pub record HasKids (state : State) (name chosen barred : List ℕ) (cell : ℕ) 
       (barred ++ take number places) status
   pub no_more : (number : ℕ) → length places ≤ number → state.part_at (name ++ number ∷ []) ≡ None
 
-pub record IsSound (state : State) : Type 0 where
+pub record IsSoundState (state : State) : Type 0 where
   pub seen : (worker : ℕ) → worker < length state.seen → length state.best ≤ slice_index state.seen worker
   pub rooted : (status : Status) × HasPart state [] [] [] status
   pub parents : (name : List ℕ) (number : ℕ) (part : Part) → state.part_at (name ++ number ∷ []) ≡ Some part

@@ -7,7 +7,7 @@ ghost use Rattle.event_core.specs.State.{Begins, IsDone};
 ghost use Rattle.event_core.specs.Events.{smaller};
 ghost use Rattle.event_core.specs.Nodes.{shape_of};
 ghost use Rattle.event_core.specs.Finished.{IsWhole};
-ghost use Rattle.event_core.specs.Sound.{IsSound};
+ghost use Rattle.event_core.specs.Sound.{IsSoundState};
 ghost use Rattle.event_core.specs.Kept.{IsKept, IsAssembly, put_kept, state_of};
 ghost use Rattle.event_core.specs.Tracing.{IsTraced};
 
@@ -90,7 +90,7 @@ impl Core {
     /// Whether no piece waits or is held.
     pub fn is_done(&self) -> bool
         ensures done { IsTrue result ↔ IsDone (state_of self.now) }
-        ensures sound { IsSound (state_of self.now) }
+        ensures sound { IsSoundState (state_of self.now) }
     {
         is_done(&self.root)
     }
@@ -186,7 +186,7 @@ impl Core {
     /// The new node stands at the name.
     pub(crate) fn turn(&mut self, name: &[u32], node: Node)
         requires whole { IsWhole (shape_of node) }
-        requires sound { IsSound (state_of (put_kept self.old name.now (shape_of node))) }
+        requires sound { IsSoundState (state_of (put_kept self.old name.now (shape_of node))) }
         ensures { self.new ≡ put_kept self.old name.now (shape_of node) }
     {
         let root = mem::replace(&mut self.root, Node::Waiting);

@@ -15,7 +15,7 @@ use Rattle.schedule_law.proofs.PieceLemmas.{weigh-append}
 use Rattle.worker_results.specs.Passes.{Owned, Reached, all_taken}
 use Rattle.worker_results.specs.Results.{Handed, KeepsTold}
 use Rattle.joined_results.specs.Joining.{numbers_of, total, workers_of, works_of}
-use Rattle.joined_results.specs.Apart.{ArePartsOf, IsOneMore, IsRow, AreApart, told_size, weigh_done}
+use Rattle.joined_results.specs.Apart.{AreResultParts, IsOneMore, IsRow, AreApart, told_size, weigh_done}
 
 -- an item more adds its number
 pub total-push : {A : Type 0} (f : A → ℕ) (xs : List A) (x : A) → total f (xs ++ x ∷ []) ≡ total f xs + f x
@@ -99,7 +99,7 @@ works_less region n m works le all =
 module _ (region : Instance) (start : ℕ → List Subproblem) (workers : ℕ) where
   apart_push : (old new : Known) (owners : List Owned) (rows : List (List Reached)) (works : List Worked)
       (done : Handed) (own : Owned) (row : List Reached) (work : Worked)
-      → AreApart region start workers old new owners rows works → ArePartsOf region start workers done own row work
+      → AreApart region start workers old new owners rows works → AreResultParts region start workers done own row work
       → AreApart region start workers old (together new done.knows) (owners ++ own ∷ []) (rows ++ row ∷ [])
       (works ++ work ∷ [])
   apart_push old new owners rows works done own row work p are =

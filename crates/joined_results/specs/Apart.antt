@@ -9,7 +9,7 @@ use Rattle.schedule_law.specs.Joined.{all_kids, least_size, pieces_closed, piece
 use Rattle.schedule_law.specs.Worked.{IsWork, Worked}
 use Rattle.worker_results.specs.Naming.{numbers_from}
 use Rattle.worker_results.specs.Passes.{Owned, Reached, all_taken, deques}
-use Rattle.worker_results.specs.Results.{Handed, IsDone}
+use Rattle.worker_results.specs.Results.{Handed, IsHandedIn}
 use Rattle.worker_results.specs.Shares.{work_of}
 use Rattle.joined_results.specs.Joining.{total}
 
@@ -48,14 +48,14 @@ pub record AreApart (region : Instance) (start : ℕ → List Subproblem) (worke
       + total (λ work. weigh weight (all_kids work.opened)) works
 
 -- the parts of one result
-pub record ArePartsOf (region : Instance) (start : ℕ → List Subproblem) (workers : ℕ) (done : Handed) (own : Owned)
+pub record AreResultParts (region : Instance) (start : ℕ → List Subproblem) (workers : ℕ) (done : Handed) (own : Owned)
     (row : List Reached) (work : Worked) : Type 0 where
   pub owner : own ≡ record { worker = done.share.worker; knows = done.share.own }
   pub passes : row ≡ done.share.reaches
   pub heaps : work ≡ work_of done.share done.cover
   pub out : own.knows.out ≡ workers
   pub each : IsRow workers row
-  pub is_done : IsDone region (start done.share.worker) done
+  pub is_done : IsHandedIn region (start done.share.worker) done
 
 -- one result was taken apart, and its parts stand at the ends
 pub record IsOneMore (region : Instance) (start : ℕ → List Subproblem) (workers : ℕ) (done : Handed)
@@ -64,7 +64,7 @@ pub record IsOneMore (region : Instance) (start : ℕ → List Subproblem) (work
   pub own : Owned
   pub row : List Reached
   pub work : Worked
-  pub are : ArePartsOf region start workers done own row work
+  pub are : AreResultParts region start workers done own row work
   pub in_owners : more_owners ≡ owners ++ own ∷ []
   pub in_rows : more_rows ≡ rows ++ row ∷ []
   pub in_works : more_works ≡ works ++ work ∷ []

@@ -2,7 +2,7 @@
 ghost use Rattle.std.specs.Prelude.{◌≡◌, ◌++◌, length, true, IfOk};
 ghost use Rattle.beacon.specs.Marks.{together};
 ghost use Rattle.joined_results.specs.Joining.{numbers_of, workers_of, works_of};
-ghost use Rattle.joined_results.specs.Apart.{AreApart, ArePartsOf, IsOneMore};
+ghost use Rattle.joined_results.specs.Apart.{AreApart, AreResultParts, IsOneMore};
 
 use beacon::{Beacon, Seat};
 use cave_model::OutOfMemory;
@@ -88,7 +88,7 @@ fn part_one<B: Naming>(
 /// The parts of a result.
 fn apart<B: Naming>(done: Done<B>) -> Parts<B>
     ensures seat { (result.seat.beacon ≡ B.beacon) × (result.seat.knows ≡ done.knows) }
-    ensures parts { ArePartsOf B.region B.start B.workers done result.own result.reaches result.work }
+    ensures parts { AreResultParts B.region B.start B.workers done result.own result.reaches result.work }
 {
     done.into_parts()
 }

@@ -8,9 +8,9 @@ use Rattle.std.proofs.lemmas.Grind.{get_or_default_zero}
 use Rattle.std.proofs.lemmas.List.Quantifiers.{all_pairs_push}
 use Rattle.std.proofs.lemmas.List.Elements.{Contains-append_left, Contains-push, Contains-push_cases}
 use Rattle.std.proofs.lemmas.List.{get_or_past}
-use Rattle.light_flood.specs.Dense.{Kept, IsKept, HasNoLight, AreAtLeast}
+use Rattle.light_flood.specs.Dense.{DenseLevels, IsKept, HasNoLight, AreAtLeast}
 
-abbrev kept : List ℕ → List ℕ → Kept
+abbrev kept : List ℕ → List ℕ → DenseLevels
 kept levels lit = record { levels = levels; lit = lit }
 
 abbrev IsLit : List ℕ → ℕ → Type 0

@@ -2,12 +2,12 @@
 -- This is the project's own.
 use Rattle.std.specs.Prelude.{◌≡◌, ◌≢◌, ◌<◌, ◌≤◌, ◌↔◌, ℕ, List, length, slice_index, AllPairs, Contains}
 
-pub record Kept : Type 0 where
+pub record DenseLevels : Type 0 where
   pub levels : List ℕ
   pub lit : List ℕ
 
 -- the list has each cell with light once, and no other
-pub record IsKept (kept : Kept) : Type 0 where
+pub record IsKept (kept : DenseLevels) : Type 0 where
   pub once : AllPairs (λ a b. a ≢ b) kept.lit
   pub exact : (cell : ℕ) → Contains kept.lit cell ↔ ((cell < length kept.levels) × (0 < slice_index kept.levels cell))
 

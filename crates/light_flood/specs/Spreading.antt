@@ -55,7 +55,7 @@ pub record IsStep (cave : Cave) (passed level : ℕ) (old new : ℕ → ℕ) (wa
   pub flood : IsFlood cave passed level new waiting
 
 -- a cell of the box without light, and an emission for it
-pub record IsUnlit (cave : Cave) (levels : ℕ → ℕ) (cell emission : ℕ) : Type 0 where
+pub record IsSource (cave : Cave) (levels : ℕ → ℕ) (cell emission : ℕ) : Type 0 where
   pub inside : cell < cell_count cave.size
   pub unlit : levels cell ≡ 0
   pub most : emission ≤ 15

@@ -15,9 +15,9 @@ pub struct Dense {
 }
 
 impl Model for Dense {
-    ghost use Rattle.light_flood.specs.Dense.{Kept, IsKept};
+    ghost use Rattle.light_flood.specs.Dense.{DenseLevels, IsKept};
 
-    ghost Value = { Kept };
+    ghost Value = { DenseLevels };
 
     ghost view = { λ d. record { levels = d.levels.items; lit = d.lit.items } };
 

@@ -3,7 +3,7 @@
 ghost use Rattle.std.specs.Prelude.{◌≡◌, ◌<◌, ◌≤◌, ◌+◌, OnOk};
 ghost use Rattle.scan_core.specs.Box.{cell_count};
 ghost use Rattle.cave_model.specs.Cells.{AreNeighbours};
-ghost use Rattle.light_flood.specs.Spreading.{HasPassed, IsFloodIn, IsPassed, IsRaised, IsSettled, IsStep, IsUnlit};
+ghost use Rattle.light_flood.specs.Spreading.{HasPassed, IsFloodIn, IsPassed, IsRaised, IsSettled, IsStep, IsSource};
 
 use crate::store::Store;
 use crate::waiting::Waiting;
@@ -21,7 +21,7 @@ pub struct Flood<S: Store> {
 impl<S: Store> Flood<S> {
     /// Gives a cell without light its emission, before light spreads.
     pub fn seed(&mut self, world: &World, cell: Cell, emission: u8) -> Result<(), AllocError>
-        requires unlit { IsUnlit world.now (S.levels self.old.store) cell emission }
+        requires unlit { IsSource world.now (S.levels self.old.store) cell emission }
         requires flood { let s = self.old.store in
             IsFloodIn world.now 16 16 (S.cells s) (S.levels s) self.old.waiting }
         ensures cells { S.cells self.new.store ≡ cell_count world.now.size }

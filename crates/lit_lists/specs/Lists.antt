@@ -84,13 +84,13 @@ pub record ArePairsBelow (cave : Cave) (count : ℕ) (pairs : Pairs) : Type 0 wh
   pub ascending : (cell : ℕ) → IsStrictlyIncreasing (row_at pairs.lit_by cell)
 
 -- flags and pairs by the number of the cell
-pub record Lists : Type 0 where
+pub record LitLists : Type 0 where
   pub dark : List Bool
   pub places : List Bool
   pub pairs : Pairs
 
 -- the flags and lists are those of the cave
-pub record AreListsOf (cave : Cave) (lists : Lists) : Type 0 where
+pub record AreListsOf (cave : Cave) (lists : LitLists) : Type 0 where
   pub dark : AreMarksOf (cell_count cave.size) (IsDark cave) lists.dark
   pub places : AreMarksOf (cell_count cave.size) (IsPlace cave) lists.places
   pub lights : (place cell : ℕ) → Contains (row_at lists.pairs.lights place) cell ↔ IsPair cave place cell

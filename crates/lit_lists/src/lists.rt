@@ -20,7 +20,7 @@ pub struct Lists {
 impl Model for Lists {
     ghost use Rattle.lit_lists.specs.Lists as lists;
 
-    ghost Value = { lists.Lists };
+    ghost Value = { lists.LitLists };
 
     ghost view = { λ l. record { dark = l.dark.items; places = l.places.items; pairs = l.pairs } };
 }

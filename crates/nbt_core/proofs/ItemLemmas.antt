@@ -9,7 +9,7 @@ use Rattle.nbt_core.specs.declared.kind.Kind.TheVariants as kinds
 use Rattle.nbt_core.specs.Value.{Nbt, Items, no_items, item, listed}
 use Rattle.nbt_core.specs.Reading.{Reads, mapped, Fails}
 use Rattle.nbt_core.specs.TreeReading.{items_at, value_at}
-use Rattle.nbt_core.specs.Skipping.{IsWhole, read_or}
+use Rattle.nbt_core.specs.Skipping.{IsReadable, read_or}
 use Rattle.nbt_core.specs.Parts.{are_compounds}
 use Rattle.nbt_core.specs.Borrowed.{item_values, ArePayloads}
 use Rattle.nbt_core.proofs.Results.{bind_ok, mapped_ok, ok_is}
@@ -18,14 +18,14 @@ use Rattle.nbt_core.proofs.KindLemmas.{never, kind_read, compound_kind, other_co
 
 -- after an item, the others
 pub record ItemNext (one : List ℕ → Reads Nbt) (count : ℕ) (bytes : List ℕ) (t : Nbt) (left : List ℕ) : Type 0 where
-  pub whole : IsWhole (items_at one (count - 1) left)
+  pub whole : IsReadable (items_at one (count - 1) left)
   pub is : listed (read_or no_items (items_at one count bytes))
       ≡ t ∷ listed (read_or no_items (items_at one (count - 1) left))
 
 module _ (one : List ℕ → Reads Nbt) where
   -- an item, and the others after it
   pub item_next : (count : ℕ) (bytes : List ℕ) (t : Nbt) (left : List ℕ) → 0 < count → one bytes ≡ Ok (t, left)
-      → IsWhole (items_at one count bytes) → ItemNext one count bytes t left
+      → IsReadable (items_at one count bytes) → ItemNext one count bytes t left
   unfolding items_at
   item_next zero bytes t left lt h w = absurd (omega (arith, lt))
   item_next (suc n) bytes t left lt h w =
@@ -33,7 +33,7 @@ module _ (one : List ℕ → Reads Nbt) where
       let read : items_at one (suc n) bytes ≡ mapped (item t) (items_at one n left) = rw h refl in
       let d = mapped_ok (item t) (items_at one n left) (w.whole.value, w.left) (sym read ∙ w.whole.is) in
       record {
-        whole = rw less (let w : IsWhole (items_at one n left) =
+        whole = rw less (let w : IsReadable (items_at one n left) =
             record { left = d.0.1; whole = record { value = d.0.0; is = d.1 } } in w);
         is = rw less (ap (λ (r : Reads Items). listed (read_or no_items r)) read
             ∙ ap (λ (r : Reads Items). listed (read_or no_items (mapped (item t) r))) d.1
@@ -42,7 +42,7 @@ module _ (one : List ℕ → Reads Nbt) where
 
   -- an item is read without a fault
   pub item_read : (count : ℕ) (bytes : List ℕ) (e : NbtFault) → 0 < count
-      → IsWhole (items_at one count bytes) → Fails e (one bytes) → e ≢ OutOfMemory → ⊥
+      → IsReadable (items_at one count bytes) → Fails e (one bytes) → e ≢ OutOfMemory → ⊥
   unfolding items_at
   item_read zero bytes e lt w fails other = omega (arith, lt)
   item_read (suc n) bytes e lt w fails other = never (items_at one (suc n) bytes) e w

@@ -14,13 +14,13 @@ use Rattle.nbt_core.specs.Value as values
 use Rattle.nbt_core.specs.Reading.{Reads, Fails}
 use Rattle.nbt_core.specs.TreeReading.{value_at}
 use Rattle.nbt_core.specs.Spelling.{SpellsLeaf, Spells}
-use Rattle.nbt_core.specs.Skipping.{IsWhole}
+use Rattle.nbt_core.specs.Skipping.{IsReadable}
 use Rattle.nbt_core.specs.Parts.{int_of, text_of, items_in, entries_in, named, is_compound}
 use Rattle.nbt_core.proofs.Results.{err_never}
 use Rattle.nbt_core.proofs.TreeLaws.{value_takes}
 
 -- what is read without a fault has none
-pub never : {A : Type 0} (read : Reads A) (e : NbtFault) → IsWhole read → Fails e read → e ≢ OutOfMemory → ⊥
+pub never : {A : Type 0} (read : Reads A) (e : NbtFault) → IsReadable read → Fails e read → e ≢ OutOfMemory → ⊥
 never read OutOfMemory w fails other = other refl
 never read e w fails other = err_never (w.whole.value, w.left) e (sym fails ∙ w.whole.is)
 

@@ -7,7 +7,7 @@ use Rattle.nbt_core.specs.declared.kind.Kind.{Kind}
 use Rattle.nbt_core.specs.Value.{Nbt, Members, no_members, member}
 use Rattle.nbt_core.specs.Reading.{Reads, ◌>>=◌, mapped, Fails, text_at, kind_at}
 use Rattle.nbt_core.specs.TreeReading.{members_at, by_kind}
-use Rattle.nbt_core.specs.Skipping.{IsWhole, read_or}
+use Rattle.nbt_core.specs.Skipping.{IsReadable, read_or}
 use Rattle.nbt_core.specs.Parts.{named}
 use Rattle.nbt_core.proofs.Results.{done, bind_ok, mapped_ok, err_never}
 use Rattle.nbt_core.proofs.Steps.{fails_too}
@@ -41,13 +41,13 @@ members_more end inner (suc fuel) (suc more) bytes x le e =
 -- after a member, the others
 pub record MemberNext (end : ℕ) (inner : Kind → List ℕ → Reads Nbt) (fuel : ℕ) (bytes name : List ℕ) (t : Nbt)
     (left : List ℕ) : Type 0 where
-  pub whole : IsWhole (members_at end inner fuel left)
+  pub whole : IsReadable (members_at end inner fuel left)
   pub is : named (read_or no_members (members_at end inner fuel bytes))
       ≡ (name, t) ∷ named (read_or no_members (members_at end inner fuel left))
 
 module _ (end : ℕ) (inner : Kind → List ℕ → Reads Nbt) where
   -- a member, and the others after it
-  pub member_next : (fuel : ℕ) (bytes : List ℕ) → IsWhole (members_at end inner fuel bytes)
+  pub member_next : (fuel : ℕ) (bytes : List ℕ) → IsReadable (members_at end inner fuel bytes)
       → (kind : Kind) (b1 name b2 : List ℕ) (t : Nbt) (b3 : List ℕ) → kind_at end bytes ≡ Ok (Some kind, b1)
       → text_at end b1 ≡ Ok (name, b2) → inner kind b2 ≡ Ok (t, b3) → MemberNext end inner fuel bytes name t b3
   unfolding members_at
@@ -73,7 +73,7 @@ module _ (end : ℕ) (inner : Kind → List ℕ → Reads Nbt) where
   no_member_left (suc fuel) bytes b1 h = rw h refl
 
   -- the id of a member is read without a fault
-  pub member_kind_read : (fuel : ℕ) (bytes : List ℕ) → IsWhole (members_at end inner fuel bytes) → (e : NbtFault)
+  pub member_kind_read : (fuel : ℕ) (bytes : List ℕ) → IsReadable (members_at end inner fuel bytes) → (e : NbtFault)
       → Fails e (kind_at end bytes) → e ≢ OutOfMemory → ⊥
   unfolding members_at
   member_kind_read zero bytes w e fails other = err_never (w.whole.value, w.left) _ w.whole.is
@@ -81,7 +81,7 @@ module _ (end : ℕ) (inner : Kind → List ℕ → Reads Nbt) where
       (fails_too e (kind_at end bytes) (members_at end inner (suc fuel) bytes) (λ h. rw h refl) fails) other
 
   -- so is its name
-  pub member_name_read : (fuel : ℕ) (bytes : List ℕ) → IsWhole (members_at end inner fuel bytes)
+  pub member_name_read : (fuel : ℕ) (bytes : List ℕ) → IsReadable (members_at end inner fuel bytes)
       → (kind : Kind) (b1 : List ℕ) (e : NbtFault) → kind_at end bytes ≡ Ok (Some kind, b1)
       → Fails e (text_at end b1) → e ≢ OutOfMemory → ⊥
   unfolding members_at
@@ -90,7 +90,7 @@ module _ (end : ℕ) (inner : Kind → List ℕ → Reads Nbt) where
       (fails_too e (text_at end b1) (members_at end inner (suc fuel) bytes) (λ h. rw (h1, h) refl) fails) other
 
   -- and so is its payload
-  pub member_payload_read : (fuel : ℕ) (bytes : List ℕ) → IsWhole (members_at end inner fuel bytes)
+  pub member_payload_read : (fuel : ℕ) (bytes : List ℕ) → IsReadable (members_at end inner fuel bytes)
       → (kind : Kind) (b1 name b2 : List ℕ) (e : NbtFault) → kind_at end bytes ≡ Ok (Some kind, b1)
       → text_at end b1 ≡ Ok (name, b2) → Fails e (inner kind b2) → e ≢ OutOfMemory → ⊥
   unfolding members_at

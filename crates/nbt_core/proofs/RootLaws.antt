@@ -9,7 +9,7 @@ use Rattle.nbt_core.specs.declared.kind.Kind.TheVariants as kinds
 use Rattle.nbt_core.specs.Value.{Nbt}
 use Rattle.nbt_core.specs.Reading.{text_at}
 use Rattle.nbt_core.specs.TreeReading.{value_at, named_at, root_at, starts_compressed}
-use Rattle.nbt_core.specs.Spelling.{◌▷◌, Anything, IsByte, IsText, Spells, IsRoot, Root}
+use Rattle.nbt_core.specs.Spelling.{◌▷◌, Anything, IsByte, IsText, Spells, SpellsRoot, Root}
 use Rattle.nbt_core.specs.Breaking.{BreaksNamed, IsCompressed, FaultOf}
 use Rattle.nbt_core.proofs.Results.{bind_ok, bind_err, chosen, failed, ok_is, err_is, err_never, ok_never}
 use Rattle.nbt_core.proofs.Fronts.{Takes, takes_then, then_at, front_byte, regroup}
@@ -28,7 +28,7 @@ named_takes end bytes t e =
     let payload = value_takes end 512 1 refl kinds.Compound a.0.1 b.0 b.1 in
     let byte : Takes (IsByte 10) (10 ∷ bytes) bytes = record { front = 10 ∷ []; parts = refl; holds = refl } in
     let all = takes_then byte (takes_then name payload) in
-    let root : IsRoot b.0.0 all.front = (a.0.0, all.holds) in
+    let root : SpellsRoot b.0.0 all.front = (a.0.0, all.holds) in
     subst (Root (10 ∷ bytes)) (ok_is b.0.0 t b.2) (record {
       front = all.front;
       rest = b.0.1;

@@ -6,7 +6,7 @@ use Rattle.nbt_core.specs.declared.kind.Kind.TheVariants as kinds
 use Rattle.nbt_core.specs.Value.{Nbt}
 use Rattle.nbt_core.specs.Reading.{Reads, ◌>>=◌, text_at}
 use Rattle.nbt_core.specs.TreeReading.{value_at, root_at}
-use Rattle.nbt_core.specs.Spelling.{◌▷◌, IsText, Spells, IsRoot, Root}
+use Rattle.nbt_core.specs.Spelling.{◌▷◌, IsText, Spells, SpellsRoot, Root}
 use Rattle.nbt_core.specs.Breaking.{FaultOf}
 use Rattle.nbt_core.proofs.Results.{ok_is, err_is, ok_never}
 use Rattle.nbt_core.proofs.Fronts.{regroup}
@@ -28,7 +28,7 @@ payload_again name t front rest is =
 tail_is : (b : ℕ) (xs ys : List ℕ) → b ∷ xs ≡ b ∷ ys → xs ≡ ys
 tail_is b xs ys e = cc
 
-pub same_root : (t u : Nbt) (front rest other others : List ℕ) → IsRoot t front → IsRoot u other
+pub same_root : (t u : Nbt) (front rest other others : List ℕ) → SpellsRoot t front → SpellsRoot u other
     → front ++ rest ≡ other ++ others → (front ≡ other) × (t ≡ u)
 same_root t u front rest other others is are same =
     let m = is.1 in

@@ -14,7 +14,7 @@ use Rattle.nbt_core.specs.Value as values
 use Rattle.nbt_core.specs.Reading.{Reads, mapped, Fails, Gives, int_at, text_at, kind_at, count_at}
 use Rattle.nbt_core.specs.LeafReading.{leaf_at}
 use Rattle.nbt_core.specs.TreeReading.{items_at, members_at, list_at, compound_at, value_at}
-use Rattle.nbt_core.specs.Skipping.{IsWhole, read_or}
+use Rattle.nbt_core.specs.Skipping.{IsReadable, read_or}
 use Rattle.nbt_core.specs.Parts.{int_of, text_of, items_in, entries_in}
 use Rattle.nbt_core.specs.Borrowed.{payload_value, item_values, entry_values, IsPayload, ArePayloads, AreNamed}
 use Rattle.nbt_core.proofs.Results.{gave, failed, mapped_ok, ok_is, err_never}
@@ -91,12 +91,12 @@ text_found end room kind bytes p value v k (Err e) left read other =
 -- ---- lists
 
 -- what is whole by one reading is whole by another that is the same
-whole_as : {A : Type 0} (r s : Reads A) → r ≡ s → IsWhole r → IsWhole s
+whole_as : {A : Type 0} (r s : Reads A) → r ≡ s → IsReadable r → IsReadable s
 whole_as r s e w = record { left = w.left; whole = record { value = w.whole.value; is = sym e ∙ w.whole.is } }
 
 module _ (end room : ℕ) (kind : Kind) (bytes : List ℕ) (p : IsPayload end room kind bytes) where
   -- a container is read by a reader of its parts
-  whole_list : (less : ℕ) → kind ≡ kinds.List → room ≡ less + 1 → IsWhole (list_at end (value_at end less) bytes)
+  whole_list : (less : ℕ) → kind ≡ kinds.List → room ≡ less + 1 → IsReadable (list_at end (value_at end less) bytes)
   whole_list less k deep = whole_as (value_at end room kind bytes) (list_at end (value_at end less) bytes)
       (ap (λ (k : Kind). value_at end room k bytes) k ∙ value_list end bytes room less deep) p.whole
 
@@ -127,13 +127,13 @@ module _ (end room : ℕ) (kind : Kind) (bytes : List ℕ) (p : IsPayload end ro
 -- the items of a list that is read
 record Listed (end : ℕ) (inner : Kind → List ℕ → Reads Nbt) (kind : Kind) (count : ℕ) (b2 : List ℕ)
     (read : Reads Nbt) : Type 0 where
-  whole : IsWhole (items_at (inner kind) count b2)
+  whole : IsReadable (items_at (inner kind) count b2)
   is : read_or (list no_items) read ≡ list (read_or no_items (items_at (inner kind) count b2))
 
 -- a list with a kind of items holds those that are read
 list_listed : (end : ℕ) (inner : Kind → List ℕ → Reads Nbt) (bytes : List ℕ) (kind : Kind) (b1 : List ℕ) (count : ℕ)
     (b2 : List ℕ) → kind_at end bytes ≡ Ok (Some kind, b1) → count_at end b1 ≡ Ok (count, b2)
-    → IsWhole (list_at end inner bytes) → Listed end inner kind count b2 (list_at end inner bytes)
+    → IsReadable (list_at end inner bytes) → Listed end inner kind count b2 (list_at end inner bytes)
 unfolding list_at
 list_listed end inner bytes kind b1 count b2 h1 h2 w =
     let read : list_at end inner bytes ≡ mapped list (items_at (inner kind) count b2) = rw (h1, h2) refl in
@@ -148,7 +148,7 @@ list_listed end inner bytes kind b1 count b2 h1 h2 w =
 -- a list of End holds nothing
 list_void : (end : ℕ) (inner : Kind → List ℕ → Reads Nbt) (bytes b1 : List ℕ) (count : ℕ) (b2 : List ℕ)
     → kind_at end bytes ≡ Ok (None, b1) → count_at end b1 ≡ Ok (count, b2)
-    → IsWhole (list_at end inner bytes) → read_or (list no_items) (list_at end inner bytes) ≡ list no_items
+    → IsReadable (list_at end inner bytes) → read_or (list no_items) (list_at end inner bytes) ≡ list no_items
 unfolding list_at
 list_void end inner bytes b1 count b2 h1 h2 w =
     let d = BadLength (end - length b1) in
@@ -209,12 +209,12 @@ none_there end room kind bytes within shallow = record {
 
 -- the members of a compound that is read
 record Membered (end : ℕ) (inner : Kind → List ℕ → Reads Nbt) (bytes : List ℕ) (read : Reads Nbt) : Type 0 where
-  whole : IsWhole (members_at end inner end bytes)
+  whole : IsReadable (members_at end inner end bytes)
   is : read_or (list no_items) read ≡ compound (read_or no_members (members_at end inner end bytes))
 
 -- a compound holds the members that are read
 compound_members : (end : ℕ) (inner : Kind → List ℕ → Reads Nbt) (bytes : List ℕ) → length bytes ≤ end
-    → IsWhole (compound_at end inner bytes) → Membered end inner bytes (compound_at end inner bytes)
+    → IsReadable (compound_at end inner bytes) → Membered end inner bytes (compound_at end inner bytes)
 unfolding compound_at
 compound_members end inner bytes within w =
     let d = mapped_ok compound (members_at end inner (length bytes) bytes) (w.whole.value, w.left) w.whole.is in

@@ -5,7 +5,7 @@ use Rattle.nbt_core.specs.declared.kind.Kind.{Kind}
 use Rattle.nbt_core.specs.Value.{Nbt, list, no_items, no_members, listed}
 use Rattle.nbt_core.specs.Parts.{named}
 use Rattle.nbt_core.specs.TreeReading.{items_at, members_at, value_at}
-use Rattle.nbt_core.specs.Skipping.{IsWhole, read_or}
+use Rattle.nbt_core.specs.Skipping.{IsReadable, read_or}
 
 -- the value of a payload
 abbrev pub payload_value : ℕ → ℕ → Kind → List ℕ → Nbt
@@ -23,16 +23,16 @@ entry_values end room bytes = named (read_or no_members (members_at end (value_a
 pub record IsPayload (end room : ℕ) (kind : Kind) (bytes : List ℕ) : Type 0 where
   pub within : length bytes ≤ end
   pub shallow : room ≤ 512
-  pub whole : IsWhole (value_at end room kind bytes)
+  pub whole : IsReadable (value_at end room kind bytes)
 
 -- payloads that are read without a fault
 pub record ArePayloads (end room : ℕ) (kind : Kind) (count : ℕ) (bytes : List ℕ) : Type 0 where
   pub within : length bytes ≤ end
   pub shallow : room ≤ 512
-  pub whole : IsWhole (items_at (value_at end room kind) count bytes)
+  pub whole : IsReadable (items_at (value_at end room kind) count bytes)
 
 -- named payloads that are read without a fault
 pub record AreNamed (end room : ℕ) (bytes : List ℕ) : Type 0 where
   pub within : length bytes ≤ end
   pub shallow : room ≤ 512
-  pub whole : IsWhole (members_at end (value_at end room) end bytes)
+  pub whole : IsReadable (members_at end (value_at end room) end bytes)

@@ -39,6 +39,6 @@ are_compounds [] = true
 are_compounds (t ∷ ts) = is_compound t && are_compounds ts
 
 -- what is taken from the front of a list, and the list that is left; none is taken from a list of nothing
-abbrev pub IsNext : {X : Type 0} → List X → Option X → List X → Type 0
-IsNext old (Some x) new = old ≡ x ∷ new
-IsNext old None new = (old ≡ []) × (new ≡ [])
+abbrev pub IsFrontOf : {X : Type 0} → List X → Option X → List X → Type 0
+IsFrontOf old (Some x) new = old ≡ x ∷ new
+IsFrontOf old None new = (old ≡ []) × (new ≡ [])

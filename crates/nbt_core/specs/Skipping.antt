@@ -14,7 +14,7 @@ Skips (Ok x) left read = IsRead read left
 Skips (Err e) left read = Fails e read
 
 -- reading meets no fault
-pub record IsWhole {A : Type 0} (read : Reads A) : Type 0 where
+pub record IsReadable {A : Type 0} (read : Reads A) : Type 0 where
   pub left : List ℕ
   pub whole : IsRead read left
 

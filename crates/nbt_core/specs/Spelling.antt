@@ -99,9 +99,9 @@ abbrev mutual
       × (IsByte (id_of kind) ▷ IsText name ▷ Spells kind t depth ▷ AreMembers ms depth) bytes
 
 -- the bytes are a root with this value: a compound with some name
-abbrev pub IsRoot : Nbt → List ℕ → Type 0
-IsRoot t bytes = (name : List ℕ) × (IsByte 10 ▷ IsText name ▷ Spells kinds.Compound t 1) bytes
+abbrev pub SpellsRoot : Nbt → List ℕ → Type 0
+SpellsRoot t bytes = (name : List ℕ) × (IsByte 10 ▷ IsText name ▷ Spells kinds.Compound t 1) bytes
 
 -- a front of the bytes is a root with this value
 abbrev pub Root : List ℕ → Nbt → Type 0
-Root bytes t = (IsRoot t ▷ Anything) bytes
+Root bytes t = (SpellsRoot t ▷ Anything) bytes

@@ -29,7 +29,7 @@ impl<'a> Model for EntriesView<'a> {
 impl<'a> EntriesView<'a> {
     ghost use Rattle.std.specs.Prelude.{◌≡◌};
     ghost use Rattle.std.specs.Option.{option_map};
-    ghost use Rattle.nbt_core.specs.Parts.{IsNext};
+    ghost use Rattle.nbt_core.specs.Parts.{IsFrontOf};
     ghost use Rattle.nbt_core.specs.Borrowed.{entry_values, AreNamed};
 
     /// Named payloads up to an End at the front of `rest`, bytes that end at the offset `end`, in each of which
@@ -43,7 +43,7 @@ impl<'a> EntriesView<'a> {
 
     /// The name and the value of the next entry.
     pub fn next(&mut self) -> Option<(&'a [u8], View<'a>)>
-        ensures { IsNext self.old (option_map (λ m. (m.0.now, m.1)) result) self.new }
+        ensures { IsFrontOf self.old (option_map (λ m. (m.0.now, m.1)) result) self.new }
     {
         let mut reader = Reader::new(self.rest, self.end);
         let Ok(kind) = reader.kind() else {

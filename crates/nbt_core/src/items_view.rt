@@ -31,7 +31,7 @@ impl<'a> Model for ItemsView<'a> {
 
 impl<'a> ItemsView<'a> {
     ghost use Rattle.std.specs.Prelude.{◌≡◌, length};
-    ghost use Rattle.nbt_core.specs.Parts.{are_compounds, IsNext};
+    ghost use Rattle.nbt_core.specs.Parts.{are_compounds, IsFrontOf};
     ghost use Rattle.nbt_core.specs.Borrowed.{item_values, ArePayloads};
 
     /// So many payloads of this kind at the front of `rest`, bytes that end at the offset `end`, in each of which
@@ -74,7 +74,7 @@ impl<'a> ItemsView<'a> {
 
     /// The next item.
     pub fn next(&mut self) -> Option<View<'a>>
-        ensures { IsNext self.old result self.new }
+        ensures { IsFrontOf self.old result self.new }
     {
         if self.count == 0 {
             return None;

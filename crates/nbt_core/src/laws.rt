@@ -2,12 +2,12 @@
 ghost use Rattle.std.specs.Prelude.{◌≡◌, ◌⊎◌, ◌++◌, ℕ, List};
 ghost use Rattle.nbt_core.specs.declared.fault.NbtFault.{NbtFault};
 ghost use Rattle.nbt_core.specs.Breaking.{FaultOf};
-ghost use Rattle.nbt_core.specs.Spelling.{IsRoot, Root};
+ghost use Rattle.nbt_core.specs.Spelling.{SpellsRoot, Root};
 ghost use Rattle.nbt_core.specs.Value.{Nbt};
 
 /// No root begins another: the front that is a root, and its value, are unique.
 pub fn one_root()
-    ensures { (t u : Nbt) → (front rest other others : List ℕ) → IsRoot t front → IsRoot u other
+    ensures { (t u : Nbt) → (front rest other others : List ℕ) → SpellsRoot t front → SpellsRoot u other
         → front ++ rest ≡ other ++ others → (front ≡ other) × (t ≡ u) }
 {}
 

@@ -6,7 +6,7 @@ use Rattle.proof_tree.specs.Weights.{weigh}
 use Rattle.piece_deque.specs.declared.dealt.Dealt.{Dealt}
 use Rattle.piece_deque.specs.declared.answer.Take.{Take}
 use Rattle.piece_deque.specs.declared.answer.Take.TheVariants.{Got, Empty, Again}
-use Rattle.piece_deque.specs.Rule.{total, one_if_unspent, unspent, WasEmpty, AllTaken, IsAlone, Answers}
+use Rattle.piece_deque.specs.Rule.{passes_total, one_if_unspent, unspent, WasEmpty, AllTaken, IsAlone, Answers}
 use Rattle.piece_deque.proofs.TotalLemmas.{total_two, total_only, pushed_weight, taken_weight, false_of, true_of}
 use Rattle.piece_deque.proofs.StepLemmas.{counts}
 use Rattle.piece_deque.proofs.ShareLemmas.{not_first}
@@ -24,13 +24,13 @@ all_taken v alone was h =
     let others : (j : ℕ) (u : Dealt) → j ≢ i → get_elem? passes j ≡ some u → (u.taken ≡ []) × (u.pushed ≡ []) =
     λ j u apart e. let theirs = k.fit j u e in (
       theirs.0 (true_of u.spent (λ p.
-          let t : counts v + counts u ≤ total counts passes = total_two counts passes i j v u apart at e in
+          let t : counts v + counts u ≤ passes_total counts passes = total_two counts passes i j v u apart at e in
           let b : one_if_unspent u.spent ≡ 1 = ap one_if_unspent p in omega arith)),
       theirs.1 (false_of u.first (not_first k.chief (unspent passes) i j v u alone.0 mine theirs apart)),
     ) in
-    let p : total (pushed_weight h) passes ≡ weigh h v.pushed =
+    let p : passes_total (pushed_weight h) passes ≡ weigh h v.pushed =
     total_only (pushed_weight h) passes i v at (λ j u apart e. ap (weigh h) (others j u apart e).1) in
-    let t : total (taken_weight h) passes ≡ weigh h v.taken =
+    let t : passes_total (taken_weight h) passes ≡ weigh h v.taken =
     total_only (taken_weight h) passes i v at (λ j u apart e. ap (weigh h) (others j u apart e).0) in
     let all = k.balance h in
     omega arith

@@ -6,7 +6,7 @@ use lib.ListN.{get_elem?}
 use Rattle.crossbeam_deque.specs.Tasks.{Forks, Merges}
 use Rattle.atomic_table.proofs.Lists.{at_snoc, set_else}
 use Rattle.piece_deque.specs.declared.dealt.Dealt.{Dealt}
-use Rattle.piece_deque.specs.Deals.{thief_pass, nobody, one_more_out, together}
+use Rattle.piece_deque.specs.Deals.{thief_pass, nobody, one_more_out, together_with}
 use Rattle.piece_deque.specs.Rule.{one_if_unspent, unspent, Fits, AllFit, Balances}
 use Rattle.piece_deque.proofs.TotalLemmas.{total_set, total_snoc, total_two, weigh_append, pushed_weight, taken_weight}
 use Rattle.piece_deque.proofs.TotalLemmas.{false_of}
@@ -52,9 +52,9 @@ forks port v first live items passes k at =
 
 -- a pass that comes back may be merged, and the balance stays
 pub merges : (port : ℕ) (v : Dealt) (other : ℕ) (u : Dealt) → v.first ≡ true → v.spent ≡ false
-    → u.spent ≡ false → Merges Balances port v other u (together v u) nobody
+    → u.spent ≡ false → Merges Balances port v other u (together_with v u) nobody
 merges port v other u first live live2 items passes k at apart there =
-    let w : Dealt = together v u in
+    let w : Dealt = together_with v u in
     let was : get_elem? passes other ≡ some u = sym (set_else passes port other w apart) ∙ there in
     let mine = k.fit port v at in
     let boss = mine.2 first in

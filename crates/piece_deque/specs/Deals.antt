@@ -47,8 +47,8 @@ took_too pass pieces = record {
 }
 
 -- after another pass was handed in
-abbrev pub together : Dealt → Dealt → Dealt
-together pass other = record {
+abbrev pub together_with : Dealt → Dealt → Dealt
+together_with pass other = record {
   first = pass.first;
   spent = pass.spent;
   out = pass.out - 1;

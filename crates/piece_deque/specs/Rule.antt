@@ -11,9 +11,9 @@ use Rattle.piece_deque.specs.declared.answer.Take.TheVariants.{Got, Empty, Again
 use Rattle.piece_deque.specs.Deals.{took_too}
 
 -- a count of each pass, added up
-abbrev pub total : (Dealt → ℕ) → List Dealt → ℕ
-total count [] = 0
-total count (pass ∷ passes) = count pass + total count passes
+abbrev pub passes_total : (Dealt → ℕ) → List Dealt → ℕ
+passes_total count [] = 0
+passes_total count (pass ∷ passes) = count pass + passes_total count passes
 
 -- one for a pass that isn't spent
 abbrev pub one_if_unspent : Bool → ℕ
@@ -22,7 +22,7 @@ one_if_unspent false = 1
 
 -- how many passes are not spent
 abbrev pub unspent : List Dealt → ℕ
-unspent passes = total (λ pass. one_if_unspent pass.spent) passes
+unspent passes = passes_total (λ pass. one_if_unspent pass.spent) passes
 
 -- a spent pass has done nothing; the first one counts the others, and it alone pushes
 abbrev pub Fits : ℕ → ℕ → ℕ → Dealt → Type 0
@@ -39,8 +39,8 @@ AllFit chief alive passes =
 -- the pieces pushed are those in the deque and those taken
 pub record Balances (items : List Subproblem) (passes : List Dealt) : Type 0 where
   pub chief : ℕ
-  pub balance : (weight : Subproblem → ℕ) → total (λ pass. weigh weight pass.pushed) passes
-      ≡ total (λ pass. weigh weight pass.taken) passes + weigh weight items
+  pub balance : (weight : Subproblem → ℕ) → passes_total (λ pass. weigh weight pass.pushed) passes
+      ≡ passes_total (λ pass. weigh weight pass.taken) passes + weigh weight items
   pub fit : AllFit chief (unspent passes) passes
 
 -- at one moment the deque was empty, and the pass as it is

@@ -52,9 +52,9 @@ impl Split<Dealt> for Hands {
 }
 
 impl Join<Dealt> for Hands {
-    ghost use Rattle.piece_deque.specs.Deals.{together, nobody};
+    ghost use Rattle.piece_deque.specs.Deals.{together_with, nobody};
 
-    ghost both = { together };
+    ghost both = { together_with };
 
     ghost spent = { nobody };
 }

@@ -15,7 +15,7 @@ use Rattle.cave_model.specs.Plan.{AreDistinct}
 use Rattle.cave_model.specs.Regions.{all_cells, AreRegions}
 use Rattle.cave_model.specs.Spawn.{IsDark}
 use Rattle.cave_model.specs.Torches.{IsPlace}
-use Rattle.lit_lists.specs.Lists.{Lists, AreListsOf, is_marked}
+use Rattle.lit_lists.specs.Lists.{LitLists, AreListsOf, is_marked}
 use Rattle.lit_lists.proofs.PairLemmas.{marked_inside}
 use Rattle.proof_rules.specs.Certificate.{AreListed}
 use Rattle.proof_check.specs.Accepted.{AreDistinctPlaces, LeaveNoneDark}
@@ -84,7 +84,7 @@ torch_or_none (p ∷ ps) homes = elim (decide (is_somewhere (home_of homes p))) 
   ]
 ]
 
-module _ (cave : Cave) (lists : Lists) (parts : List (List ℕ)) (homes : Homes) (known : AreListsOf cave lists)
+module _ (cave : Cave) (lists : LitLists) (parts : List (List ℕ)) (homes : Homes) (known : AreListsOf cave lists)
     (are : AreHomesOf parts homes) (whole : length homes.homes ≡ cell_count cave.size)
     (in_box : All (AreListed (cell_count cave.size)) parts) where
   below : (cell : ℕ) → IsListed parts cell → cell < cell_count cave.size

@@ -7,12 +7,12 @@ use Rattle.std.proofs.lemmas.Bool.{cases_lt}
 use Rattle.proof_rules.proofs.ListLemmas.{no_member}
 use Rattle.cave_model.specs.Cave.{Cave}
 use Rattle.cave_model.specs.Spawn.{IsDark}
-use Rattle.lit_lists.specs.Lists.{Lists, AreListsOf}
+use Rattle.lit_lists.specs.Lists.{LitLists, AreListsOf}
 use Rattle.certificate_lines.specs.Said.{Said, said}
 use Rattle.certificate_lines.specs.declared.kind.Kind.{Kind}
 use Rattle.certificate_lines.specs.declared.kind.Kind.TheVariants as kind
 use Rattle.proof_check.specs.Refused.{IsListed}
-use Rattle.proof_check.specs.Judged.{State, Judged, at, stuck, NodeSteps, Runs, start}
+use Rattle.proof_check.specs.Judged.{JudgeState, Judged, at, stuck, NodeSteps, Runs, start}
 use Rattle.proof_check.specs.Kept.{IsWide, Keeps, Judges}
 use Rattle.proof_check.specs.Homes.{Homes, AreHomesOf, Joins, Stands}
 use Rattle.proof_check.specs.Heard.{part_if, is_dark_line, is_torch_line, dark_parts, torch_parts, IsBefore, IsLed}
@@ -117,7 +117,7 @@ line_of (at s) = s.line
 line_of (stuck bad) = 0
 
 -- after a step the next line is expected
-step_line : (cave : Cave) (k : Kind) (numbers : List ℕ) (s : State) (j : Judged) → NodeSteps cave k numbers s j
+step_line : (cave : Cave) (k : Kind) (numbers : List ℕ) (s : JudgeState) (j : Judged) → NodeSteps cave k numbers s j
     → IsBefore j (s.line + 1)
 unfolding line_of
 step_line cave k numbers s (stuck bad) h = tt
@@ -172,7 +172,7 @@ nodes_led cave old new all k numbers line same known judges e led dark = go was.
       record {
         j = step.0;
         runs = runs_push cave all (said k numbers) start (at s) step.0 r step.1;
-        keeps = subst (λ (l : Lists). Keeps cave l new.nodes step.0) (sym same) step.2;
+        keeps = subst (λ (l : LitLists). Keeps cave l new.nodes step.0) (sym same) step.2;
         before = subst (IsBefore step.0) (ap (λ (n : ℕ). n + 1) b ∙ ap (λ (n : ℕ). n + 1) (sym long))
             (step_line cave k numbers s step.0 step.1);
       }
@@ -191,7 +191,7 @@ pub hears_by : (k : Kind) (numbers : List ℕ) (line : ℕ) (old new : Judge) �
 hears_by k numbers line old new same judges wide torches regions t r = record {
   each = λ cave all a e. record {
     known = subst (AreListsOf cave) (sym same) a.known;
-    wide = subst (λ (l : Lists). IsWide l new.nodes) (sym same) wide;
+    wide = subst (λ (l : LitLists). IsWide l new.nodes) (sym same) wide;
     torches = torches all a.torches;
     regions = regions all a.regions;
     torch_cells = t ∙ a.torch_cells;

@@ -17,7 +17,8 @@ use Rattle.certificate_lines.specs.Said.{Said, said, tree_said, forest_said, sec
 use Rattle.certificate_lines.specs.declared.kind.Kind.TheVariants as kind
 use Rattle.proof_check.specs.Accepted.{AreProved}
 use Rattle.proof_check.specs.Refused.{IsBadAt, AreBadAt, IsFirstBad, weak_leaf, weak_leaf_of, first_weak, start_line}
-use Rattle.proof_check.specs.Judged.{Frame, Spot, State, Judged, at, stuck, enter, close, next_line, Steps, Runs, start}
+use Rattle.proof_check.specs.Judged.{Frame, Spot, JudgeState, Judged, at, stuck, enter, close, next_line, StepsOver}
+use Rattle.proof_check.specs.Judged.{Runs, start}
 
 -- judging that stands still stays at its bad line
 pub stays : (cave : Cave) (all : List Said) (bad : ℕ) (final : Judged) → Runs cave all (stuck bad) final
@@ -27,9 +28,9 @@ stays cave (s ∷ all) bad final (next, step, rest) = stays cave all bad final
     (subst (λ (j : Judged). Runs cave all j final) step rest)
 
 -- a run over some lines and a step of the next are a run over both
-pub runs_push : (cave : Cave) (all : List Said) (s : Said) (a b c : Judged) → Runs cave all a b → Steps cave s b c
+pub runs_push : (cave : Cave) (all : List Said) (s : Said) (a b c : Judged) → Runs cave all a b → StepsOver cave s b c
     → Runs cave (all ++ s ∷ []) a c
-runs_push cave [] s a b c r step = (c, subst (λ (j : Judged). Steps cave s j c) (sym r) step, refl)
+runs_push cave [] s a b c r step = (c, subst (λ (j : Judged). StepsOver cave s j c) (sym r) step, refl)
 runs_push cave (t ∷ all) s a b c (next, first_step, rest) step =
     (next, first_step, runs_push cave all s next b c rest step)
 
@@ -44,7 +45,7 @@ option_or_none None = refl
 option_or_none (Some x) = refl
 
 module _ (cave : Cave) (box : ℕ) (cells : List ℕ) (floor : ℕ) where
-  abbrev state : ℕ → Spot → Option ℕ → State
+  abbrev state : ℕ → Spot → Option ℕ → JudgeState
   state line spot weak = record { line = line; cells = cells; floor = floor; spot = spot; weak = weak }
 
   abbrev spot_of : List ℕ → List ℕ → List Frame → Spot
@@ -169,17 +170,18 @@ module _ (cave : Cave) (box : ℕ) (cells : List ℕ) (floor : ℕ) where
 -- what was found at the end of the regions
 abbrev pub Found : Cave → List Section → ℕ → Option ℕ → Judged → Type 0
 Found cave sections line weak final = ((bad : ℕ) × IsFirstBad cave sections line bad × (final ≡ stuck bad))
-    ⊎ (AreProved cave (λ section. 0) sections × (last : State) × (final ≡ at last)
+    ⊎ (AreProved cave (λ section. 0) sections × (last : JudgeState) × (final ≡ at last)
     × (last.weak ≡ option_or weak (first_weak sections line)))
 
 -- what is found after a region's lines and the rest is found of both
-after_region : (cave : Cave) (box : ℕ) (s : Section) (ss : List Section) (rest : List Said) (j : State) (final : Judged)
+after_region : (cave : Cave) (box : ℕ) (s : Section) (ss : List Section) (rest : List Said) (j : JudgeState)
+    (final : Judged)
     → IsSectionIn box s
-    → ((after : State) → Runs cave rest (at after) final → Found cave ss after.line after.weak final)
+    → ((after : JudgeState) → Runs cave rest (at after) final → Found cave ss after.line after.weak final)
     → Runs cave (section_said s ++ rest) (at j) final → Found cave (s ∷ ss) j.line j.weak final
 after_region cave box s ss rest j final here again (j1, e1, (j2, e2, (j3, e3, r3))) =
-    let f2 = subst (λ (x : Judged). Steps cave (said kind.Dark s.cells) x j2) e1 e2 in
-    let f3 = subst (λ (x : Judged). Steps cave (said kind.Torches s.torches) x j3) f2 e3 in
+    let f2 = subst (λ (x : Judged). StepsOver cave (said kind.Dark s.cells) x j2) e1 e2 in
+    let f3 = subst (λ (x : Judged). StepsOver cave (said kind.Torches s.torches) x j3) f2 e3 in
     let g3 = subst (λ (x : Judged). Runs cave (tree_said s.tree ++ rest) x final) f3 r3 in
     let n : j.line + 1 + 1 + 1 ≡ j.line + 3 = omega arith in
     let h3 = subst (λ (k : ℕ). Runs cave (tree_said s.tree ++ rest)
@@ -213,7 +215,7 @@ after_region cave box s ss rest j final here again (j1, e1, (j2, e2, (j3, e3, r3
     ]
 
 -- a run over the lines of all regions finds the first bad line and the first weak one
-pub regions_run : (cave : Cave) (box : ℕ) (sections : List Section) (j : State) (final : Judged)
+pub regions_run : (cave : Cave) (box : ℕ) (sections : List Section) (j : JudgeState) (final : Judged)
     → All (IsSectionIn box) sections
     → Runs cave (flat_map section_said sections ++ said kind.End [] ∷ []) (at j) final
     → Found cave sections j.line j.weak final
@@ -239,9 +241,10 @@ certificate_runs cave c final i r = go c.version r where
   go : (v : Version) → Runs cave (said_of (record c { version = v })) start final
       → Found cave c.sections (start_line v) None final
   go first (j1, e1, (j2, e2, (j3, e3, (j4, e4, r4)))) =
-      let f2 = subst (λ (x : Judged). Steps cave (said kind.Size (c.size.x ∷ c.size.y ∷ c.size.z ∷ [])) x j2) e1 e2 in
-      let f3 = subst (λ (x : Judged). Steps cave (said kind.Headroom (c.headroom ∷ [])) x j3) f2 e3 in
-      let f4 = subst (λ (x : Judged). Steps cave (said kind.Regions (length c.sections ∷ [])) x j4) f3 e4 in
+      let f2 = subst (λ (x : Judged). StepsOver cave (said kind.Size (c.size.x ∷ c.size.y ∷ c.size.z ∷ [])) x j2) e1
+      e2 in
+      let f3 = subst (λ (x : Judged). StepsOver cave (said kind.Headroom (c.headroom ∷ [])) x j3) f2 e3 in
+      let f4 = subst (λ (x : Judged). StepsOver cave (said kind.Regions (length c.sections ∷ [])) x j4) f3 e4 in
       regions_run cave (cell_count c.size)
       c.sections (record {
         line = 5;
@@ -252,10 +255,11 @@ certificate_runs cave c final i r = go c.version r where
       }) final i
       (subst (λ (x : Judged). Runs cave (flat_map section_said c.sections ++ said kind.End [] ∷ []) x final) f4 r4)
   go (second need) (j1, e1, (j2, e2, (j3, e3, (j4, e4, (j5, e5, r5))))) =
-      let f2 = subst (λ (x : Judged). Steps cave (said kind.Size (c.size.x ∷ c.size.y ∷ c.size.z ∷ [])) x j2) e1 e2 in
-      let f3 = subst (λ (x : Judged). Steps cave (said kind.Headroom (c.headroom ∷ [])) x j3) f2 e3 in
-      let f4 = subst (λ (x : Judged). Steps cave (said kind.Need (need ∷ [])) x j4) f3 e4 in
-      let f5 = subst (λ (x : Judged). Steps cave (said kind.Regions (length c.sections ∷ [])) x j5) f4 e5 in
+      let f2 = subst (λ (x : Judged). StepsOver cave (said kind.Size (c.size.x ∷ c.size.y ∷ c.size.z ∷ [])) x j2) e1
+      e2 in
+      let f3 = subst (λ (x : Judged). StepsOver cave (said kind.Headroom (c.headroom ∷ [])) x j3) f2 e3 in
+      let f4 = subst (λ (x : Judged). StepsOver cave (said kind.Need (need ∷ [])) x j4) f3 e4 in
+      let f5 = subst (λ (x : Judged). StepsOver cave (said kind.Regions (length c.sections ∷ [])) x j5) f4 e5 in
       regions_run cave (cell_count c.size)
       c.sections (record {
         line = 6;

@@ -6,13 +6,13 @@ use Rattle.std.proofs.lemmas.List.{take_more, take_all, take-append-drop}
 use Rattle.std.proofs.lemmas.List.Elements.{Contains-append_left, Contains-append_right, Contains-append_cases}
 use Rattle.std.proofs.lemmas.List.Elements.{Contains-push, Contains-push_cases}
 use Rattle.cave_model.specs.Plan.{AreDistinct}
-use Rattle.lit_lists.specs.Lists.{Lists}
+use Rattle.lit_lists.specs.Lists.{LitLists}
 use Rattle.lit_lists.proofs.PairLemmas.{fresh}
 use Rattle.proof_check.specs.Tests.{MeetOpen, IsFree, AreApartIn, lit_by}
 use Rattle.proof_check.proofs.TestLemmas.{element_of}
 
 -- the places of these cells were seen, and the cells may stand in a leaf
-pub record Marking (lists : Lists) (cells chosen barred done seen : List ℕ) : Type 0 where
+pub record Marking (lists : LitLists) (cells chosen barred done seen : List ℕ) : Type 0 where
   pub apart : AreApartIn lists cells chosen barred done
   pub seen_are : (place : ℕ) → Contains seen place
       ↔ ((cell : ℕ) × Contains done cell × Contains (lit_by lists cell) place)
@@ -22,14 +22,14 @@ none_in : {A : Type 0} (cell : ℕ) → Contains [] cell → A
 none_in cell h = absurd (omega (arith, h.1))
 
 -- before the first cell no place is seen
-pub marking_none : (lists : Lists) (cells chosen barred seen : List ℕ) → seen ≡ []
+pub marking_none : (lists : LitLists) (cells chosen barred seen : List ℕ) → seen ≡ []
     → Marking lists cells chosen barred [] seen
 marking_none lists cells chosen barred seen e = record {
   apart = record { free = λ cell h. none_in cell h; apart = λ place a b h g p q free. none_in a h };
   seen_are = λ place. (λ h. none_in place (subst (λ (l : List ℕ). Contains l place) e h), λ b. none_in b.0 b.1);
 }
 
-module _ (lists : Lists) (cells chosen barred these seen : List ℕ) (i : ℕ) (h : i < length these)
+module _ (lists : LitLists) (cells chosen barred these seen : List ℕ) (i : ℕ) (h : i < length these)
     (s : Marking lists cells chosen barred (take i these) seen) where
   abbrev cell : ℕ
   cell = slice_index these i
@@ -99,7 +99,7 @@ module _ (lists : Lists) (cells chosen barred these seen : List ℕ) (i : ℕ) (
             (Contains-append_left (take i these) (drop i these) c has)
 
 -- after the last cell all may stand in a leaf together
-pub marking_all : (lists : Lists) (cells chosen barred these seen : List ℕ) (i : ℕ) → length these ≤ i
+pub marking_all : (lists : LitLists) (cells chosen barred these seen : List ℕ) (i : ℕ) → length these ≤ i
     → Marking lists cells chosen barred (take i these) seen → AreApartIn lists cells chosen barred these
 marking_all lists cells chosen barred these seen i le s = subst (λ (l : List ℕ). AreApartIn lists cells chosen barred l)
     (take_all i these le) s.apart

@@ -11,10 +11,10 @@ use Rattle.cave_model.specs.Torches.{IsPlace, Lights}
 use Rattle.cave_model.specs.Plan.{AreDistinct}
 use Rattle.cave_model.specs.Coverage.{of_cave}
 use Rattle.proof_rules.specs.Good.{IsUnlit, AreScattered, AreOpen, IsDominated}
-use Rattle.lit_lists.specs.Lists.{Lists, AreListsOf, is_marked}
-use Rattle.proof_check.specs.Judged.{Frame, State, at, stuck, enter, goes_to, after_leaf}
+use Rattle.lit_lists.specs.Lists.{LitLists, AreListsOf, is_marked}
+use Rattle.proof_check.specs.Judged.{Frame, JudgeState, at, stuck, enter, goes_to, after_leaf}
 use Rattle.proof_check.specs.Tests.{IsFree, AreApartIn, AreLeft, IsDominatedIn, lit_by}
-use Rattle.proof_check.specs.Track.{Fits, IsAt, Closes, Enters}
+use Rattle.proof_check.specs.Track.{Fits, IsAt, ClosesFrames, Enters}
 use Rattle.proof_check.specs.Kept.{IsIn, JudgesLeaf, JudgesBranch, JudgesBar}
 use Rattle.proof_check.specs.declared.nodes.Nodes.{Nodes}
 use Rattle.proof_check.specs.declared.track.Frame as held
@@ -23,7 +23,7 @@ use Rattle.proof_check.proofs.TrackLemmas.{fits_wider}
 use Rattle.proof_check.proofs.RefusalLemmas.{open_once}
 
 -- chosen places are places
-pub fits_legal : (lists : Lists) (chosen barred : List ℕ) (kept : List held.Frame) (frames : List Frame)
+pub fits_legal : (lists : LitLists) (chosen barred : List ℕ) (kept : List held.Frame) (frames : List Frame)
     → Fits lists chosen barred kept frames → (p : ℕ) → Contains chosen p → IsTrue (is_marked lists.places p)
 fits_legal lists chosen barred kept [] f p h = no_member p (subst (λ (l : List ℕ). Contains l p) f.1 h)
 fits_legal lists chosen barred kept (a ∷ fs) (front, last, k, is, c, more, b, rest) p h =
@@ -33,7 +33,7 @@ fits_legal lists chosen barred kept (a ∷ fs) (front, last, k, is, c, more, b, 
           (is.legal (slice_index last.places.items last.index) (element_of last.places.items last.index is.within))
     ]
 
-module _ (cave : Cave) (lists : Lists) (known : AreListsOf cave lists) (cells : List ℕ)
+module _ (cave : Cave) (lists : LitLists) (known : AreListsOf cave lists) (cells : List ℕ)
     (dark : (cell : ℕ) → Contains cells cell → IsDark cave cell) (chosen : List ℕ)
     (legal : (p : ℕ) → Contains chosen p → IsPlace cave p) where
   lit : (place cell : ℕ) → IsPlace cave place → Contains cells cell → Lights cave place cell
@@ -127,7 +127,7 @@ module _ (cave : Cave) (lists : Lists) (known : AreListsOf cave lists) (cells : 
 -- ---- what the judge makes of a node
 
 -- of a judge in a state: its tests are those of the state
-chosen_legal : (cave : Cave) (lists : Lists) (nodes : Nodes) (s : State) → AreListsOf cave lists
+chosen_legal : (cave : Cave) (lists : LitLists) (nodes : Nodes) (s : JudgeState) → AreListsOf cave lists
     → IsIn cave lists nodes s → (p : ℕ) → Contains s.spot.chosen p → IsPlace cave p
 chosen_legal cave lists nodes s known k p h =
     (known.places.exact p).0
@@ -135,7 +135,7 @@ chosen_legal cave lists nodes s known k p h =
     k.spot.fits p (subst (λ (l : List ℕ). Contains l p) (sym k.spot.chosen_is) h))
 
 -- the judge's lists are those of the state
-in_state : (lists : Lists) (cave : Cave) (nodes : Nodes) (s : State) (P : List ℕ → List ℕ → List ℕ → Type 0)
+in_state : (lists : LitLists) (cave : Cave) (nodes : Nodes) (s : JudgeState) (P : List ℕ → List ℕ → List ℕ → Type 0)
     → IsIn cave lists nodes s → P nodes.region.items nodes.track.chosen.items nodes.track.barred.items
     → P s.cells s.spot.chosen s.spot.barred
 in_state lists cave nodes s P k p =
@@ -143,7 +143,7 @@ in_state lists cave nodes s P k p =
     (subst (λ (l : List ℕ). P s.cells l nodes.track.barred.items) k.spot.chosen_is
     (subst (λ (l : List ℕ). P l nodes.track.chosen.items nodes.track.barred.items) k.cells p))
 
-module _ (lists : Lists) (old new : Nodes) (line : ℕ) where
+module _ (lists : LitLists) (old new : Nodes) (line : ℕ) where
   -- a leaf whose cells aren't apart is bad
   pub leaf_bad : (these : List ℕ)
       → (AreDistinct these → ¬ AreApartIn lists old.region.items old.track.chosen.items old.track.barred.items these)
@@ -168,7 +168,7 @@ module _ (lists : Lists) (old new : Nodes) (line : ℕ) where
       → new.weak ≡ option_or old.weak (if nat_lt (length old.track.chosen.items + length these) old.floor
       then Some line else None)
       → (limit : ℕ) → limit ≡ length lists.places
-      → Closes limit old.track.chosen.items old.track.barred.items old.track.frames.items new.track.chosen.items
+      → ClosesFrames limit old.track.chosen.items old.track.barred.items old.track.frames.items new.track.chosen.items
       new.track.barred.items new.track.frames.items
       → JudgesLeaf lists these line old new
   leaf_good these apart bad region floor weak limit wide closes = record {
@@ -192,7 +192,7 @@ module _ (lists : Lists) (old new : Nodes) (line : ℕ) where
       },
     );
   } where
-    weak_same : (s : State) → old.weak ≡ s.weak → length old.track.chosen.items ≡ length s.spot.chosen
+    weak_same : (s : JudgeState) → old.weak ≡ s.weak → length old.track.chosen.items ≡ length s.spot.chosen
         → old.floor ≡ s.floor → line ≡ s.line
         → option_or old.weak (if nat_lt (length old.track.chosen.items + length these) old.floor then Some line
         else None) ≡ option_or

@@ -6,7 +6,7 @@ use Rattle.scan_core.specs.Box.{cell_count}
 use Rattle.cave_model.specs.Cave.{Cave}
 use Rattle.cave_model.specs.Spawn.{IsDark}
 use Rattle.cave_model.proofs.LightLemmas.{path_end_inside}
-use Rattle.lit_lists.specs.Lists.{Lists, AreLitCells, is_marked}
+use Rattle.lit_lists.specs.Lists.{LitLists, AreLitCells, is_marked}
 use Rattle.proof_check.specs.Refused.{IsInTwo, IsListed, LightsTwo, IsBadCell}
 use Rattle.proof_check.specs.Homes.{IsHomeOf, Homes, DecidesTwo}
 use Rattle.proof_check.specs.Ends.{home_of, is_unparted, IsNoneBelow, DecidesLights, DecidesBad, NoneBad}
@@ -14,7 +14,7 @@ use Rattle.proof_check.specs.declared.homes.Home.{Home}
 use Rattle.proof_check.specs.declared.homes.Home.TheVariants as home
 
 -- a cell that is no place lights no two regions
-pub lights_none : (cave : Cave) (lists : Lists) (regions : Homes) (place : ℕ) → is_marked lists.places place ≡ false
+pub lights_none : (cave : Cave) (lists : LitLists) (regions : Homes) (place : ℕ) → is_marked lists.places place ≡ false
     → DecidesLights cave lists regions place false
 lights_none cave lists regions place off = record {
   each = λ parts known a whole. (
@@ -24,7 +24,7 @@ lights_none cave lists regions place off = record {
 }
 
 -- a place lights two regions just where its lit cells have two homes
-pub lights_some : (cave : Cave) (lists : Lists) (regions : Homes) (place : ℕ) (cells : List ℕ) (result : Bool)
+pub lights_some : (cave : Cave) (lists : LitLists) (regions : Homes) (place : ℕ) (cells : List ℕ) (result : Bool)
     → is_marked lists.places place ≡ true → AreLitCells cave place cells → DecidesTwo cells regions result
     → DecidesLights cave lists regions place result
 lights_some cave lists regions place cells result on lit d = record {
@@ -102,11 +102,11 @@ own_or_lights cave parts cell (inr (inl b)) = inl (inr b)
 own_or_lights cave parts cell (inr (inr b)) = inr b
 
 -- below the first cell none is bad
-pub none_start : (cave : Cave) (lists : Lists) (regions : Homes) → NoneBad cave lists regions 0
+pub none_start : (cave : Cave) (lists : LitLists) (regions : Homes) → NoneBad cave lists regions 0
 none_start cave lists regions =
     record { each = λ parts known a whole. record { each = λ cell lt. absurd (omega arith) } }
 
-module _ (cave : Cave) (lists : Lists) (regions : Homes) (cell : ℕ) (inside : cell < cell_count cave.size)
+module _ (cave : Cave) (lists : LitLists) (regions : Homes) (cell : ℕ) (inside : cell < cell_count cave.size)
     (s : NoneBad cave lists regions cell) where
   -- with none bad before, a cell listed wrongly is the first
   pub first_own : IsTrue (is_unparted (home_of regions cell) (is_marked lists.dark cell))
@@ -151,7 +151,7 @@ module _ (cave : Cave) (lists : Lists) (regions : Homes) (cell : ℕ) (inside : 
     less other lt ne = elim (cases_lt other cell) [ inl l ↦ l | inr le ↦ absurd (ne (omega arith)) ]
 
 -- with none bad below the last, no cell of the box is bad
-pub none_all : (cave : Cave) (lists : Lists) (regions : Homes) (count : ℕ) → count ≡ cell_count cave.size
+pub none_all : (cave : Cave) (lists : LitLists) (regions : Homes) (count : ℕ) → count ≡ cell_count cave.size
     → NoneBad cave lists regions count → DecidesBad cave lists regions (cell_count cave.size) None
 none_all cave lists regions count e s =
     record { each = λ parts known a whole. subst (IsNoneBelow (IsBadCell cave parts)) e (s.each parts known a whole) }

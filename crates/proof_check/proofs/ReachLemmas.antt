@@ -3,7 +3,7 @@ use Rattle.std.proofs.Common.{◌≡◌, ℕ, ◌⊎◌, inl, inr, List, All, re
 use Rattle.std.specs.Prelude.{Option, Some, None, MatchOption}
 use Rattle.scan_core.specs.Box.{Point, cell_count}
 use Rattle.cave_model.specs.Cave.{Cave}
-use Rattle.lit_lists.specs.Lists.{Lists}
+use Rattle.lit_lists.specs.Lists.{LitLists}
 use Rattle.proof_rules.specs.Certificate.{Certificate, AreListed, IsSectionIn, IsInRange, regions_of, torch_lists}
 use Rattle.certificate_lines.specs.Said.{said_of}
 use Rattle.proof_check.specs.Accepted.{IsOfCave, AreProved, Proves}
@@ -31,7 +31,7 @@ NodesSay cave c nodes = ((bad : ℕ) × IsFirstBad cave c.sections (start_line c
     × (nodes.weak ≡ first_weak c.sections (start_line c.version)))
 
 -- what was found over all lines is what the judge of nodes says at the end
-nodes_say : (cave : Cave) (c : Certificate) (lists : Lists) (nodes : Nodes) (j : Judged) → Keeps cave lists nodes j
+nodes_say : (cave : Cave) (c : Certificate) (lists : LitLists) (nodes : Nodes) (j : Judged) → Keeps cave lists nodes j
     → Found cave c.sections (start_line c.version) None j → NodesSay cave c nodes
 nodes_say cave c lists nodes j kept (inl (bad, b, e)) = inl (bad, b, subst (Keeps cave lists nodes) e kept)
 nodes_say cave c lists nodes j kept (inr (good, last, e, w)) =

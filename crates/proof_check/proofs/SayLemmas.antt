@@ -13,7 +13,7 @@ use Rattle.certificate_lines.specs.Said.{Said, said, tree_said, forest_said, sec
 use Rattle.certificate_lines.specs.declared.kind.Kind.TheVariants as kind
 use Rattle.proof_check.specs.Accepted.{IsOfCave}
 use Rattle.proof_check.specs.Heard.{part_if, is_dark_line, is_torch_line, dark_parts, torch_parts}
-use Rattle.proof_check.specs.Tried.{Agrees, Differs}
+use Rattle.proof_check.specs.Tried.{AgreesWithSaid, Differs}
 
 -- ---- lists
 
@@ -97,21 +97,21 @@ regions_filled count (s ∷ ss) a = All-cons (λ cells. 0 < length cells) s.cell
 
 module _ (cave : Cave) where
   abbrev AllAgree : List Said → Type 0
-  AllAgree all = All (Agrees cave) all
+  AllAgree all = All (AgreesWithSaid cave) all
 
-  with_line : (s : Said) (all : List Said) → Agrees cave s → AllAgree all → AllAgree (s ∷ all)
-  with_line s all h a = All-cons (Agrees cave) s all h a
+  with_line : (s : Said) (all : List Said) → AgreesWithSaid cave s → AllAgree all → AllAgree (s ∷ all)
+  with_line s all h a = All-cons (AgreesWithSaid cave) s all h a
 
   mutual
     tree_agrees : (t : Tree) → AllAgree (tree_said t)
-    tree_agrees (leaf cells) = with_line (said kind.Leaf (length cells ∷ cells)) [] tt (All-nil (Agrees cave))
+    tree_agrees (leaf cells) = with_line (said kind.Leaf (length cells ∷ cells)) [] tt (All-nil (AgreesWithSaid cave))
     tree_agrees (branch cell kids) = with_line (said kind.Branch (cell ∷ tree_count kids ∷ [])) (forest_said kids) tt
         (forest_agrees kids)
     tree_agrees (bar place by kid) = with_line (said kind.Bar (place ∷ by ∷ [])) (tree_said kid) tt (tree_agrees kid)
 
     forest_agrees : (ts : Forest) → AllAgree (forest_said ts)
-    forest_agrees none = All-nil (Agrees cave)
-    forest_agrees (more t ts) = All-append (Agrees cave) (tree_said t) (forest_said ts) (tree_agrees t)
+    forest_agrees none = All-nil (AgreesWithSaid cave)
+    forest_agrees (more t ts) = All-append (AgreesWithSaid cave) (tree_said t) (forest_said ts) (tree_agrees t)
         (forest_agrees ts)
 
   section_agrees : (s : Section) → AllAgree (section_said s)
@@ -122,8 +122,9 @@ module _ (cave : Cave) where
       (with_line (said kind.Torches s.torches) (tree_said s.tree) tt (tree_agrees s.tree)))
 
   sections_agree : (ss : List Section) → AllAgree (flat_map section_said ss)
-  sections_agree [] = All-nil (Agrees cave)
-  sections_agree (s ∷ ss) = All-append (Agrees cave) (section_said s) (flat_map section_said ss) (section_agrees s)
+  sections_agree [] = All-nil (AgreesWithSaid cave)
+  sections_agree (s ∷ ss) = All-append (AgreesWithSaid cave) (section_said s) (flat_map section_said ss)
+      (section_agrees s)
       (sections_agree ss)
 
   same_size : (a b : Point) → a ≡ b → a.x ∷ a.y ∷ a.z ∷ [] ≡ b.x ∷ b.y ∷ b.z ∷ []
@@ -132,18 +133,19 @@ module _ (cave : Cave) where
   -- the lines of a certificate of the cave agree with it
   pub agrees_of : (c : Certificate) → IsOfCave cave c → AllAgree (said_of c)
   agrees_of c o = go c.version o.need where
-    size : Agrees cave (said kind.Size (c.size.x ∷ c.size.y ∷ c.size.z ∷ []))
+    size : AgreesWithSaid cave (said kind.Size (c.size.x ∷ c.size.y ∷ c.size.z ∷ []))
     size = same_size c.size cave.size o.box
 
-    headroom : Agrees cave (said kind.Headroom (c.headroom ∷ []))
+    headroom : AgreesWithSaid cave (said kind.Headroom (c.headroom ∷ []))
     headroom = ap (λ (n : ℕ). n ∷ []) o.headroom
 
     rest : AllAgree (said kind.Regions (length c.sections ∷ [])
         ∷ (flat_map section_said c.sections ++ said kind.End [] ∷ []))
     rest = with_line (said kind.Regions (length c.sections ∷ []))
         (flat_map section_said c.sections ++ said kind.End [] ∷ []) tt
-        (All-append (Agrees cave) (flat_map section_said c.sections) (said kind.End [] ∷ []) (sections_agree c.sections)
-        (with_line (said kind.End []) [] tt (All-nil (Agrees cave))))
+        (All-append (AgreesWithSaid cave) (flat_map section_said c.sections) (said kind.End [] ∷ [])
+        (sections_agree c.sections)
+        (with_line (said kind.End []) [] tt (All-nil (AgreesWithSaid cave))))
 
     go : (v : Version) → need_of v ≡ cave.rule.need → AllAgree (said_of (record c { version = v }))
     go first n =
@@ -195,12 +197,12 @@ module _ (cave : Cave) where
         ∷ (flat_map section_said c.sections ++ said kind.End [] ∷ []) in
         let size : Said = said kind.Size (c.size.x ∷ c.size.y ∷ c.size.z ∷ []) in
         let headroom : Said = said kind.Headroom (c.headroom ∷ []) in
-        let a1 = All-tail (Agrees cave) (said kind.Version (1 ∷ [])) (size ∷ headroom ∷ regions) a in
-        let a2 = All-tail (Agrees cave) size (headroom ∷ regions) a1 in
+        let a1 = All-tail (AgreesWithSaid cave) (said kind.Version (1 ∷ [])) (size ∷ headroom ∷ regions) a in
+        let a2 = All-tail (AgreesWithSaid cave) size (headroom ∷ regions) a1 in
         record {
-          box = size_from c.size cave.size (All-head (Agrees cave) size (headroom ∷ regions) a1);
-          headroom = one_number c.headroom cave.rule.headroom (All-head (Agrees cave) headroom regions a2);
-          need = sym (All-head (Agrees cave) (said kind.Version (1 ∷ [])) (size ∷ headroom ∷ regions) a refl);
+          box = size_from c.size cave.size (All-head (AgreesWithSaid cave) size (headroom ∷ regions) a1);
+          headroom = one_number c.headroom cave.rule.headroom (All-head (AgreesWithSaid cave) headroom regions a2);
+          need = sym (All-head (AgreesWithSaid cave) (said kind.Version (1 ∷ [])) (size ∷ headroom ∷ regions) a refl);
         }
     go (second need) a =
         let regions : List Said = said kind.Regions (length c.sections ∷ [])
@@ -208,15 +210,16 @@ module _ (cave : Cave) where
         let size : Said = said kind.Size (c.size.x ∷ c.size.y ∷ c.size.z ∷ []) in
         let headroom : Said = said kind.Headroom (c.headroom ∷ []) in
         let needed : Said = said kind.Need (need ∷ []) in
-        let a1 = All-tail (Agrees cave) (said kind.Version (2 ∷ [])) (size ∷ headroom ∷ needed ∷ regions) a in
-        let a2 = All-tail (Agrees cave) size (headroom ∷ needed ∷ regions) a1 in
-        let a3 = All-tail (Agrees cave) headroom (needed ∷ regions) a2 in
+        let a1 = All-tail (AgreesWithSaid cave) (said kind.Version (2 ∷ [])) (size ∷ headroom ∷ needed ∷ regions) a in
+        let a2 = All-tail (AgreesWithSaid cave) size (headroom ∷ needed ∷ regions) a1 in
+        let a3 = All-tail (AgreesWithSaid cave) headroom (needed ∷ regions) a2 in
         record {
-          box = size_from c.size cave.size (All-head (Agrees cave) size (headroom ∷ needed ∷ regions) a1);
-          headroom = one_number c.headroom cave.rule.headroom (All-head (Agrees cave) headroom (needed ∷ regions) a2);
-          need = one_number need cave.rule.need (All-head (Agrees cave) needed regions a3);
+          box = size_from c.size cave.size (All-head (AgreesWithSaid cave) size (headroom ∷ needed ∷ regions) a1);
+          headroom = one_number c.headroom cave.rule.headroom
+              (All-head (AgreesWithSaid cave) headroom (needed ∷ regions) a2);
+          need = one_number need cave.rule.need (All-head (AgreesWithSaid cave) needed regions a3);
         }
 
   -- where a line differs it isn't
   pub differing : (c : Certificate) → Differs cave (said_of c) → ¬ IsOfCave cave c
-  differing c d o = d.other (subst (Agrees cave) d.there.2 (agrees_of c o d.there.0 d.line d.there.1))
+  differing c d o = d.other (subst (AgreesWithSaid cave) d.there.2 (agrees_of c o d.there.0 d.line d.there.1))

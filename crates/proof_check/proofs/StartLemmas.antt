@@ -3,7 +3,7 @@ use Rattle.std.proofs.Common.{◌≡◌, [], length, refl, sym, ◌∙◌, arith
 use Rattle.scan_core.specs.Box.{cell_count}
 use Rattle.cave_model.specs.Cave.{Cave}
 use Rattle.cave_model.specs.Torches.{IsPlace}
-use Rattle.lit_lists.specs.Lists.{Lists, AreListsOf}
+use Rattle.lit_lists.specs.Lists.{LitLists, AreListsOf}
 use Rattle.lit_lists.proofs.PairLemmas.{marked_inside}
 use Rattle.proof_rules.proofs.ListLemmas.{no_member}
 use Rattle.proof_check.specs.Heard.{IsAfter}
@@ -14,7 +14,8 @@ use Rattle.proof_check.specs.declared.judge.Judge.{Judge}
 use Rattle.proof_check.specs.declared.nodes.Nodes.{Nodes}
 
 -- new nodes are as wide as the box
-wide_start : (cave : Cave) (lists : Lists) (nodes : Nodes) → AreListsOf cave lists → IsNew (cell_count cave.size) nodes
+wide_start : (cave : Cave) (lists : LitLists) (nodes : Nodes) → AreListsOf cave lists
+    → IsNew (cell_count cave.size) nodes
     → IsWide lists nodes
 wide_start cave lists nodes known n = record {
   region = n.region ∙ sym known.places.whole;

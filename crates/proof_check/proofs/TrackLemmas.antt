@@ -5,9 +5,9 @@ use Rattle.std.proofs.Common.{length-append, drop-cons}
 use Rattle.std.specs.Prelude.{Bool, false}
 use Rattle.std.proofs.lemmas.Bool.{true≢false, cases_lt}
 use Rattle.std.proofs.lemmas.List.{append-nil, get_or_past, drop_all}
-use Rattle.lit_lists.specs.Lists.{Lists, is_marked}
+use Rattle.lit_lists.specs.Lists.{LitLists, is_marked}
 use Rattle.proof_check.specs.Judged.{Frame, Spot, close, enter_or}
-use Rattle.proof_check.specs.Track.{IsFrameOf, Fits, IsAt, Closes, Enters}
+use Rattle.proof_check.specs.Track.{IsFrameOf, Fits, IsAt, ClosesFrames, Enters}
 use Rattle.proof_check.specs.declared.track.Frame as held
 use Rattle.proof_check.proofs.TestLemmas.{element_of}
 
@@ -42,7 +42,7 @@ front_part [] ys = refl
 front_part (x ∷ xs) ys = ap (λ (l : List ℕ). x ∷ l) (front_part xs ys)
 
 -- the innermost frame is taken away
-pub record Popped (lists : Lists) (chosen barred : List ℕ) (front : List held.Frame) (last : held.Frame)
+pub record Popped (lists : LitLists) (chosen barred : List ℕ) (front : List held.Frame) (last : held.Frame)
     (frames : List Frame) : Type 0 where
   pub frame : Frame
   pub outer : List Frame
@@ -53,7 +53,7 @@ pub record Popped (lists : Lists) (chosen barred : List ℕ) (front : List held.
   pub fits : Fits lists frame.chosen frame.barred front outer
 
 -- the last frame kept is the innermost open branch
-pub popped : (lists : Lists) (chosen barred : List ℕ) (kept front : List held.Frame) (last : held.Frame)
+pub popped : (lists : LitLists) (chosen barred : List ℕ) (kept front : List held.Frame) (last : held.Frame)
     (frames : List Frame) → Fits lists chosen barred kept frames → kept ≡ front ++ last ∷ []
     → Popped lists chosen barred front last frames
 popped lists chosen barred kept front last [] f e = snoc_nil front last (sym e ∙ f.0)
@@ -72,7 +72,7 @@ popped lists chosen barred kept front last (a ∷ fs) (front2, last2, at, is, c,
     }
 
 -- where no frame is kept no branch is open, and nothing is chosen
-pub no_frames : (lists : Lists) (chosen barred : List ℕ) (kept : List held.Frame) (frames : List Frame)
+pub no_frames : (lists : LitLists) (chosen barred : List ℕ) (kept : List held.Frame) (frames : List Frame)
     → Fits lists chosen barred kept frames → kept ≡ [] → (frames ≡ []) × (chosen ≡ [])
 no_frames lists chosen barred kept [] f e = (refl, f.1)
 no_frames lists chosen barred kept (a ∷ fs) f e = snoc_nil f.0 f.1 (sym f.2 ∙ e)
@@ -91,13 +91,13 @@ marked_below marks place limit e m = elim (cases_lt place limit) [
 ]
 
 -- the places of a frame lie in the box
-pub place_below : (lists : Lists) (last : held.Frame) (frame : Frame) (limit k : ℕ) → length lists.places ≡ limit
+pub place_below : (lists : LitLists) (last : held.Frame) (frame : Frame) (limit k : ℕ) → length lists.places ≡ limit
     → IsFrameOf lists last frame → k < length last.places.items → slice_index last.places.items k < limit
 place_below lists last frame limit k e is h = marked_below lists.places (slice_index last.places.items k) limit e
     (is.legal (slice_index last.places.items k) (element_of last.places.items k h))
 
 -- more places may be barred
-pub fits_wider : (lists : Lists) (chosen barred more : List ℕ) (kept : List held.Frame) (frames : List Frame)
+pub fits_wider : (lists : LitLists) (chosen barred more : List ℕ) (kept : List held.Frame) (frames : List Frame)
     → Fits lists chosen barred kept frames → Fits lists chosen (barred ++ more) kept frames
 fits_wider lists chosen barred more kept [] f = f
 fits_wider lists chosen barred more kept (a ∷ fs) (front, last, k, is, c, rest, b, outer) =
@@ -111,7 +111,8 @@ next_later places index h =
     drop-cons places (index + 1) 0 h ∙ ap (λ (k : ℕ). slice_index places (index + 1) ∷ drop k places) n
 
 -- after the next place of a branch the track is where the tree ends
-pub next_fits : (lists : Lists) (last now : held.Frame) (frame : Frame) (frames : List Frame) (front : List held.Frame)
+pub next_fits : (lists : LitLists) (last now : held.Frame) (frame : Frame) (frames : List Frame)
+    (front : List held.Frame)
     (chosen barred : List ℕ) (kept : List held.Frame)
     → IsFrameOf lists last frame → Fits lists frame.chosen frame.barred front frames
     → last.index + 1 < length last.places.items
@@ -154,7 +155,8 @@ next_fits lists last now frame frames front chosen barred kept is fits more same
 
 pub record Closing (limit : ℕ) (chosen barred : List ℕ) (kept : List held.Frame) (new_chosen new_barred : List ℕ)
     (new_kept : List held.Frame) : Type 0 where
-  pub each : (lists : Lists) (frames : List Frame) → length lists.places ≡ limit → Fits lists chosen barred kept frames
+  pub each : (lists : LitLists) (frames : List Frame) → length lists.places ≡ limit
+      → Fits lists chosen barred kept frames
       → (left : List Frame) × Fits lists new_chosen new_barred new_kept left × (close left ≡ close frames)
 
 -- before the first frame is closed nothing has changed
@@ -184,7 +186,7 @@ closing_next limit c0 b0 k0 chosen barred kept front last new_chosen new_barred 
 pub closing_end : (limit : ℕ) (c0 b0 : List ℕ) (k0 : List held.Frame) (chosen barred : List ℕ) (kept : List held.Frame)
     (new_barred : List ℕ)
     → Closing limit c0 b0 k0 chosen barred kept → kept ≡ [] → new_barred ≡ []
-    → Closes limit c0 b0 k0 chosen new_barred kept
+    → ClosesFrames limit c0 b0 k0 chosen new_barred kept
 closing_end limit c0 b0 k0 chosen barred kept new_barred s e b = record {
   each = λ lists frames el f.
       (let g = s.each lists frames el f in
@@ -205,7 +207,7 @@ pub closing_kid : (limit : ℕ) (c0 b0 : List ℕ) (k0 : List held.Frame) (chose
     → new_chosen ≡ cut_chosen ++ slice_index last.places.items (last.index + 1) ∷ [])
     → new_kept ≡ front ++ now ∷ [] → now.places.items ≡ last.places.items → now.index ≡ last.index + 1
     → now.bars ≡ length new_barred
-    → Closes limit c0 b0 k0 new_chosen new_barred new_kept
+    → ClosesFrames limit c0 b0 k0 new_chosen new_barred new_kept
 closing_kid limit c0 b0 k0 chosen barred kept front last now cut_chosen cut_barred new_chosen new_barred new_kept s e
     more c b place next k same index bars = record {
       each = λ lists frames el f.
@@ -260,7 +262,7 @@ entered limit (p ∷ ps) chosen barred kept now new_chosen new_kept some c k sam
 -- a branch with none is closed at once
 pub entered_none : (limit : ℕ) (places chosen barred : List ℕ) (kept : List held.Frame) (new_chosen new_barred : List ℕ)
     (new_kept : List held.Frame) → places ≡ []
-    → Closes limit chosen barred kept new_chosen new_barred new_kept
+    → ClosesFrames limit chosen barred kept new_chosen new_barred new_kept
     → Enters limit places chosen barred kept new_chosen new_barred new_kept
 entered_none limit places chosen barred kept new_chosen new_barred new_kept e s =
     subst (λ (l : List ℕ). Enters limit l chosen barred kept new_chosen new_barred new_kept) (sym e) (record {

@@ -8,7 +8,7 @@ use Rattle.std.proofs.lemmas.List.Elements.{All-nil, All-cons, All-append, Conta
 use Rattle.proof_rules.specs.Text.{ended}
 use Rattle.cave_model.specs.Cave.{Cave}
 use Rattle.cave_model.specs.Regions.{all_cells}
-use Rattle.certificate_lines.specs.Held.{Kept, Holds, TakesLine, EndsPiece}
+use Rattle.certificate_lines.specs.Held.{HeldText, Holds, TakesLine, EndsPiece}
 use Rattle.certificate_lines.specs.Kinds.{word_of}
 use Rattle.certificate_lines.specs.Numbers.{numbers_text}
 use Rattle.certificate_lines.specs.Said.{Said, said, AreSaid}
@@ -18,7 +18,8 @@ use Rattle.certificate_lines.specs.declared.kind.Kind.{Kind}
 use Rattle.certificate_lines.specs.declared.kind.Kind.TheVariants as kind
 use Rattle.proof_check.specs.Heard.{part_if, is_dark_line, is_torch_line, torch_parts, Hears}
 use Rattle.proof_check.specs.Kept.{AreAscending, IsWide}
-use Rattle.proof_check.specs.Tried.{AgreesOn, Agrees, Differs, IsHeard, Follows, Tried, HasRoom, IsBehind, Catches}
+use Rattle.proof_check.specs.Tried.{AgreesOn, AgreesWithSaid, Differs, IsHeard, Follows, Tried, HasRoom, IsBehind}
+use Rattle.proof_check.specs.Tried.{Catches}
 use Rattle.proof_check.specs.Tried.{HearsTo, HearsAll, torches_on}
 use Rattle.proof_check.specs.declared.judge.Judge.{Judge}
 use Rattle.proof_check.specs.declared.trial.Trial.{Trial}
@@ -69,18 +70,18 @@ parts_few is (s ∷ all) = omega
 -- ---- lines taken
 
 -- with no misfit each line was taken
-pub taken_many : (bytes : List ℕ) (all : List Said) (kept : Kept) → kept.misfit ≡ None → Holds bytes all kept
+pub taken_many : (bytes : List ℕ) (all : List Said) (kept : HeldText) → kept.misfit ≡ None → Holds bytes all kept
     → kept.taken ≡ length all
 taken_many bytes all kept e h =
     (let g = going bytes all kept e h in g.walked.counted ∙ said_many g.walked.before all g.says)
 
 -- lines taken are at most as many as bytes
-taken_few : (bytes : List ℕ) (all : List Said) (kept : Kept) → kept.misfit ≡ None → Holds bytes all kept
+taken_few : (bytes : List ℕ) (all : List Said) (kept : HeldText) → kept.misfit ≡ None → Holds bytes all kept
     → kept.taken ≤ length bytes
 taken_few bytes all kept e h = (let g = going bytes all kept e h in let w = g.walked.within in omega arith)
 
 -- torches listed are at most as many as bytes
-torches_fit : (bytes : List ℕ) (all : List Said) (kept : Kept) → kept.misfit ≡ None → Holds bytes all kept
+torches_fit : (bytes : List ℕ) (all : List Said) (kept : HeldText) → kept.misfit ≡ None → Holds bytes all kept
     → length (all_cells (torch_parts all)) ≤ length bytes
 torches_fit bytes all kept e h =
     let g = going bytes all kept e h in
@@ -207,9 +208,10 @@ catches_line cave k line old new e g agrees sum_is at hears = record {
       subst (λ (d : Bool). MatchBool d (Differs cave (all ++ said k old.pieces.numbers ∷ []))
       (IsHeard cave new.judge new.torches (all ++ said k old.pieces.numbers ∷ []))) (sym g)
       (record {
-        agrees = All-append (Agrees cave) all
-            (said k old.pieces.numbers ∷ []) h.agrees (All-cons (Agrees cave) (said k old.pieces.numbers) [] agrees
-            (All-nil (Agrees cave)));
+        agrees = All-append (AgreesWithSaid cave) all
+            (said k old.pieces.numbers ∷ []) h.agrees
+            (All-cons (AgreesWithSaid cave) (said k old.pieces.numbers) [] agrees
+            (All-nil (AgreesWithSaid cave)));
         after = hears.each cave all h.after (at ∙ n);
         counted = (let c = h.counted in omega (arith, torches_push all k old.pieces.numbers));
       });

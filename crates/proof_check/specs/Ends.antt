@@ -4,7 +4,7 @@ use Rattle.std.specs.Prelude.{MatchOption, slice_index_or}
 use Rattle.scan_core.specs.Box.{cell_count}
 use Rattle.cave_model.specs.Cave.{Cave}
 use Rattle.proof_check.specs.Refused.{LightsTwo, IsBadCell}
-use Rattle.lit_lists.specs.Lists.{Lists, AreListsOf, is_marked}
+use Rattle.lit_lists.specs.Lists.{LitLists, AreListsOf, is_marked}
 use Rattle.proof_check.specs.Tests.{lit_by}
 use Rattle.proof_check.specs.Homes.{Homes, AreHomesOf}
 use Rattle.proof_check.specs.declared.homes.Home.{Home}
@@ -51,23 +51,23 @@ abbrev pub IsMisplaced : List Bool → Homes → ℕ → Type 0
 IsMisplaced allowed torches cell = IsTrue (is_misplaced (home_of torches cell) (is_marked allowed cell))
 
 -- a dark cell that no listed place lights
-pub record IsUnlitBy (lists : Lists) (torches : Homes) (cell : ℕ) : Type 0 where
+pub record IsUnlitBy (lists : LitLists) (torches : Homes) (cell : ℕ) : Type 0 where
   pub dark : IsTrue (is_marked lists.dark cell)
   pub unlit : ¬ HasTorch (lit_by lists cell) torches
 
 -- whether the place lights cells of two of whatever lists the homes are of
-pub record DecidesLights (cave : Cave) (lists : Lists) (regions : Homes) (place : ℕ) (result : Bool) : Type 0 where
+pub record DecidesLights (cave : Cave) (lists : LitLists) (regions : Homes) (place : ℕ) (result : Bool) : Type 0 where
   pub each : (parts : List (List ℕ)) → AreListsOf cave lists → AreHomesOf parts regions
       → length regions.homes ≡ cell_count cave.size
       → IsTrue result ↔ LightsTwo cave parts place
 
 -- the first cell that keeps whatever lists the homes are of from being regions
-pub record DecidesBad (cave : Cave) (lists : Lists) (regions : Homes) (count : ℕ) (result : Option ℕ) : Type 0 where
+pub record DecidesBad (cave : Cave) (lists : LitLists) (regions : Homes) (count : ℕ) (result : Option ℕ) : Type 0 where
   pub each : (parts : List (List ℕ)) → AreListsOf cave lists → AreHomesOf parts regions
       → length regions.homes ≡ cell_count cave.size
       → IsFirst (IsBadCell cave parts) count result
 
-pub record NoneBad (cave : Cave) (lists : Lists) (regions : Homes) (count : ℕ) : Type 0 where
+pub record NoneBad (cave : Cave) (lists : LitLists) (regions : Homes) (count : ℕ) : Type 0 where
   pub each : (parts : List (List ℕ)) → AreListsOf cave lists → AreHomesOf parts regions
       → length regions.homes ≡ cell_count cave.size
       → IsNoneBelow (IsBadCell cave parts) count

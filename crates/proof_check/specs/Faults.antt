@@ -4,8 +4,8 @@ use Rattle.cave_model.specs.declared.cave_fault.CaveFault.TheVariants as cave
 use Rattle.proof_check.specs.declared.fault.CheckFault.{CheckFault}
 use Rattle.proof_check.specs.declared.fault.CheckFault.TheVariants.{Scan, Table, Build, OutOfMemory}
 
-abbrev pub of_cave : CaveFault → CheckFault
-of_cave (cave.Scan fault) = Scan fault
-of_cave (cave.Table fault) = Table fault
-of_cave (cave.Build fault) = Build fault
-of_cave cave.OutOfMemory = OutOfMemory
+abbrev pub check_fault_of : CaveFault → CheckFault
+check_fault_of (cave.Scan fault) = Scan fault
+check_fault_of (cave.Table fault) = Table fault
+check_fault_of (cave.Build fault) = Build fault
+check_fault_of cave.OutOfMemory = OutOfMemory

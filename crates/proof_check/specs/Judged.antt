@@ -43,25 +43,25 @@ abbrev pub enter : List ℕ → List ℕ → List ℕ → List Frame → Spot
 enter chosen barred places frames = enter_or chosen barred places frames (close frames)
 
 -- the number of the next line, the region, the size that it is to prove, the spot, the first weak line
-pub record State : Type 0 where
+pub record JudgeState : Type 0 where
   pub line : ℕ
   pub cells : List ℕ
   pub floor : ℕ
   pub spot : Spot
   pub weak : Option ℕ
 
-abbrev pub next_line : State → State
+abbrev pub next_line : JudgeState → JudgeState
 next_line j = record j { line = j.line + 1 }
 
-abbrev pub goes_to : State → Spot → State
+abbrev pub goes_to : JudgeState → Spot → JudgeState
 goes_to j spot = record j { line = j.line + 1; spot = spot }
 
 -- judging goes on, or stands still at a bad line
 pub data Judged : Type 0 where
-  at : State → Judged
+  at : JudgeState → Judged
   stuck : ℕ → Judged
 
-abbrev pub after_leaf : State → ℕ → State
+abbrev pub after_leaf : JudgeState → ℕ → JudgeState
 after_leaf j count = record j {
   line = j.line + 1;
   spot = close j.spot.frames;
@@ -69,30 +69,30 @@ after_leaf j count = record j {
 }
 
 -- a test: what comes next where it holds, and where it doesn't
-abbrev pub Tests : Type 0 → State → Judged → Judged → Type 0
+abbrev pub Tests : Type 0 → JudgeState → Judged → Judged → Type 0
 Tests Holds j good new = (Holds × (new ≡ good)) ⊎ ((¬ Holds) × (new ≡ stuck j.line))
 
 -- whether the cells may stand in a leaf; that they are distinct is known of every certificate
-abbrev pub LeafSteps : Cave → List ℕ → State → Judged → Type 0
+abbrev pub LeafSteps : Cave → List ℕ → JudgeState → Judged → Type 0
 LeafSteps cave these j new =
     ((AreDistinct these → AreScattered (of_cave cave) j.cells j.spot.chosen j.spot.barred these)
     × (new ≡ at (after_leaf j (length these))))
     ⊎ ((AreDistinct these → ¬ AreScattered (of_cave cave) j.cells j.spot.chosen j.spot.barred these)
     × (new ≡ stuck j.line))
 
-abbrev pub BranchSteps : Cave → ℕ → ℕ → State → Judged → Type 0
+abbrev pub BranchSteps : Cave → ℕ → ℕ → JudgeState → Judged → Type 0
 BranchSteps cave cell count j new =
     ((places : List ℕ) × IsBranching cave j.cells j.spot.chosen j.spot.barred cell places count
     × (new ≡ at (goes_to j (enter j.spot.chosen j.spot.barred places j.spot.frames))))
     ⊎ (((places : List ℕ) → ¬ IsBranching cave j.cells j.spot.chosen j.spot.barred cell places count)
     × (new ≡ stuck j.line))
 
-abbrev pub BarSteps : Cave → ℕ → ℕ → State → Judged → Type 0
+abbrev pub BarSteps : Cave → ℕ → ℕ → JudgeState → Judged → Type 0
 BarSteps cave place by j new = Tests (IsDominated (of_cave cave) j.cells j.spot.chosen j.spot.barred place by) j
     (at (goes_to j (record j.spot { barred = j.spot.barred ++ place ∷ [] }))) new
 
 -- by the kind and the numbers of a line; a node of another shape, which no certificate has, says nothing
-abbrev pub NodeSteps : Cave → Kind → List ℕ → State → Judged → Type 0
+abbrev pub NodeSteps : Cave → Kind → List ℕ → JudgeState → Judged → Type 0
 NodeSteps cave kind.Leaf (count ∷ these) j new = LeafSteps cave these j new
 NodeSteps cave kind.Branch (cell ∷ count ∷ []) j new = BranchSteps cave cell count j new
 NodeSteps cave kind.Bar (place ∷ by ∷ []) j new = BarSteps cave place by j new
@@ -101,13 +101,13 @@ NodeSteps cave kind.Torches torches j new =
     new ≡ at (record (next_line j) { floor = length torches; spot = record { chosen = []; barred = []; frames = [] } })
 NodeSteps cave other numbers j new = new ≡ at (next_line j)
 
-abbrev pub Steps : Cave → Said → Judged → Judged → Type 0
-Steps cave s (at j) new = NodeSteps cave s.kind s.numbers j new
-Steps cave s (stuck bad) new = new ≡ stuck bad
+abbrev pub StepsOver : Cave → Said → Judged → Judged → Type 0
+StepsOver cave s (at j) new = NodeSteps cave s.kind s.numbers j new
+StepsOver cave s (stuck bad) new = new ≡ stuck bad
 
 abbrev pub Runs : Cave → List Said → Judged → Judged → Type 0
 Runs cave [] old new = old ≡ new
-Runs cave (s ∷ all) old new = (next : Judged) × Steps cave s old next × Runs cave all next new
+Runs cave (s ∷ all) old new = (next : Judged) × StepsOver cave s old next × Runs cave all next new
 
 -- before the first line
 abbrev pub start : Judged

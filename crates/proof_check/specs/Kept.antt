@@ -3,16 +3,16 @@ use Rattle.std.specs.Prelude.{◌≡◌, ℕ, ◌<◌, List, [], length, Contain
 use Rattle.cave_model.specs.Cave.{Cave}
 use Rattle.cave_model.specs.Spawn.{IsDark}
 use Rattle.std.specs.List.Sorted.{IsStrictlyIncreasing}
-use Rattle.lit_lists.specs.Lists.{Lists, AreListsOf}
+use Rattle.lit_lists.specs.Lists.{LitLists, AreListsOf}
 use Rattle.proof_check.specs.Tests.{lit_by}
 use Rattle.certificate_lines.specs.declared.kind.Kind.{Kind}
 use Rattle.certificate_lines.specs.declared.kind.Kind.TheVariants as kind
-use Rattle.proof_check.specs.Judged.{State, Judged, at, stuck, LeafSteps, BranchSteps, BarSteps, NodeSteps}
+use Rattle.proof_check.specs.Judged.{JudgeState, Judged, at, stuck, LeafSteps, BranchSteps, BarSteps, NodeSteps}
 use Rattle.proof_check.specs.Track.{IsAt, AreInside}
 use Rattle.proof_check.specs.declared.nodes.Nodes.{Nodes}
 
 -- the tallies are as wide as the box, and none is seen
-pub record IsWide (lists : Lists) (nodes : Nodes) : Type 0 where
+pub record IsWide (lists : LitLists) (nodes : Nodes) : Type 0 where
   pub region : length nodes.region.counts ≡ length lists.places
   pub seen : length nodes.seen.counts ≡ length lists.places
   pub chosen : length nodes.track.chosen.counts ≡ length lists.places
@@ -36,7 +36,7 @@ pub record IsNew (count : ℕ) (nodes : Nodes) : Type 0 where
   pub bad : nodes.bad ≡ None
 
 -- the judge is in this state
-pub record IsIn (cave : Cave) (lists : Lists) (nodes : Nodes) (state : State) : Type 0 where
+pub record IsIn (cave : Cave) (lists : LitLists) (nodes : Nodes) (state : JudgeState) : Type 0 where
   pub good : nodes.bad ≡ None
   pub cells : nodes.region.items ≡ state.cells
   pub floor : nodes.floor ≡ state.floor
@@ -44,21 +44,21 @@ pub record IsIn (cave : Cave) (lists : Lists) (nodes : Nodes) (state : State) : 
   pub spot : IsAt lists state.spot nodes.track.chosen.items nodes.track.barred.items nodes.track.frames.items
   pub dark : (cell : ℕ) → Contains state.cells cell → IsDark cave cell
 
-abbrev pub Keeps : Cave → Lists → Nodes → Judged → Type 0
+abbrev pub Keeps : Cave → LitLists → Nodes → Judged → Type 0
 Keeps cave lists nodes (at state) = IsIn cave lists nodes state
 Keeps cave lists nodes (stuck bad) = nodes.bad ≡ Some bad
 
 -- from any state on this line the judge takes a step of this kind
-pub record JudgesLeaf (lists : Lists) (these : List ℕ) (line : ℕ) (old new : Nodes) : Type 0 where
-  pub each : (cave : Cave) (state : State) → AreListsOf cave lists → IsIn cave lists old state → line ≡ state.line
+pub record JudgesLeaf (lists : LitLists) (these : List ℕ) (line : ℕ) (old new : Nodes) : Type 0 where
+  pub each : (cave : Cave) (state : JudgeState) → AreListsOf cave lists → IsIn cave lists old state → line ≡ state.line
       → (next : Judged) × LeafSteps cave these state next × Keeps cave lists new next
 
-pub record JudgesBranch (lists : Lists) (cell count line : ℕ) (old new : Nodes) : Type 0 where
-  pub each : (cave : Cave) (state : State) → AreListsOf cave lists → IsIn cave lists old state → line ≡ state.line
+pub record JudgesBranch (lists : LitLists) (cell count line : ℕ) (old new : Nodes) : Type 0 where
+  pub each : (cave : Cave) (state : JudgeState) → AreListsOf cave lists → IsIn cave lists old state → line ≡ state.line
       → (next : Judged) × BranchSteps cave cell count state next × Keeps cave lists new next
 
-pub record JudgesBar (lists : Lists) (place by line : ℕ) (old new : Nodes) : Type 0 where
-  pub each : (cave : Cave) (state : State) → AreListsOf cave lists → IsIn cave lists old state → line ≡ state.line
+pub record JudgesBar (lists : LitLists) (place by line : ℕ) (old new : Nodes) : Type 0 where
+  pub each : (cave : Cave) (state : JudgeState) → AreListsOf cave lists → IsIn cave lists old state → line ≡ state.line
       → (next : Judged) × BarSteps cave place by state next × Keeps cave lists new next
 
 -- a line of the kind Dark has dark cells alone
@@ -66,22 +66,22 @@ abbrev pub AreDarkAt : Cave → Kind → List ℕ → Type 0
 AreDarkAt cave k numbers = k ≡ kind.Dark → (cell : ℕ) → Contains numbers cell → IsDark cave cell
 
 -- from any state on this line, a step with the numbers of a line of this kind
-pub record StepsOn (lists : Lists) (k : Kind) (numbers : List ℕ) (line : ℕ) (old new : Nodes) : Type 0 where
-  pub each : (cave : Cave) (state : State) → AreListsOf cave lists → IsIn cave lists old state
+pub record StepsOn (lists : LitLists) (k : Kind) (numbers : List ℕ) (line : ℕ) (old new : Nodes) : Type 0 where
+  pub each : (cave : Cave) (state : JudgeState) → AreListsOf cave lists → IsIn cave lists old state
       → line ≡ state.line → AreDarkAt cave k numbers
       → (next : Judged) × NodeSteps cave k numbers state next × Keeps cave lists new next
 
 -- a line is judged; after a bad one nothing is
-pub record Judges (lists : Lists) (k : Kind) (numbers : List ℕ) (line : ℕ) (old new : Nodes) : Type 0 where
+pub record Judges (lists : LitLists) (k : Kind) (numbers : List ℕ) (line : ℕ) (old new : Nodes) : Type 0 where
   pub steps : old.bad ≡ None → StepsOn lists k numbers line old new
   pub still : (bad : ℕ) → old.bad ≡ Some bad → new.bad ≡ Some bad
 
 -- the places of each cell ascend
-pub record AreAscending (lists : Lists) : Type 0 where
+pub record AreAscending (lists : LitLists) : Type 0 where
   pub each : (cell : ℕ) → IsStrictlyIncreasing (lit_by lists cell)
 
 -- the region has these cells, where all are of the box; all else stays
-pub record Begins (cells : List ℕ) (old new : Nodes) : Type 0 where
+pub record BeginsRegion (cells : List ℕ) (old new : Nodes) : Type 0 where
   pub region : ((cell : ℕ) → Contains cells cell → cell < length old.region.counts) → new.region.items ≡ cells
   pub whole : length new.region.counts ≡ length old.region.counts
   pub seen : new.seen ≡ old.seen

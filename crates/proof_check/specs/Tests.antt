@@ -1,10 +1,10 @@
 -- The tests of nodes, by the lists of who lights what. This is this project's own.
 use Rattle.std.specs.Prelude.{◌≡◌, ◌≢◌, ◌↔◌, ℕ, ◌⊎◌, List, IsTrue, Contains}
 use Rattle.std.specs.List.Sorted.{IsStrictlyIncreasing}
-use Rattle.lit_lists.specs.Lists.{Lists, is_marked, row_at}
+use Rattle.lit_lists.specs.Lists.{LitLists, is_marked, row_at}
 
 -- the places that light the cell
-abbrev pub lit_by : Lists → ℕ → List ℕ
+abbrev pub lit_by : LitLists → ℕ → List ℕ
 lit_by lists cell = row_at lists.pairs.lit_by cell
 
 -- one of these is one of those
@@ -16,12 +16,12 @@ abbrev pub MeetOpen : List ℕ → List ℕ → List ℕ → Type 0
 MeetOpen places barred those = (place : ℕ) × Contains places place × (¬ Contains barred place) × Contains those place
 
 -- the cell is of the region, and no chosen place lights it
-pub record IsFree (lists : Lists) (cells chosen : List ℕ) (cell : ℕ) : Type 0 where
+pub record IsFree (lists : LitLists) (cells chosen : List ℕ) (cell : ℕ) : Type 0 where
   pub of_it : Contains cells cell
   pub unlit : ¬ Meet (lit_by lists cell) chosen
 
 -- free cells, of which no place that isn't barred lights two
-pub record AreApartIn (lists : Lists) (cells chosen barred these : List ℕ) : Type 0 where
+pub record AreApartIn (lists : LitLists) (cells chosen barred these : List ℕ) : Type 0 where
   pub free : (cell : ℕ) → Contains these cell → IsFree lists cells chosen cell
   pub apart : (place a b : ℕ) → Contains these a → Contains these b → Contains (lit_by lists a) place
       → Contains (lit_by lists b) place → (¬ Contains barred place) → a ≡ b
@@ -32,15 +32,15 @@ pub record AreLeft (places barred left : List ℕ) : Type 0 where
   pub exact : (place : ℕ) → Contains left place ↔ (Contains places place × (¬ Contains barred place))
 
 -- the cell isn't of the region, or is lit by a chosen place or by this one
-abbrev pub IsServed : Lists → List ℕ → List ℕ → ℕ → ℕ → Type 0
+abbrev pub IsServed : LitLists → List ℕ → List ℕ → ℕ → ℕ → Type 0
 IsServed lists cells chosen by cell = Contains cells cell → Meet (lit_by lists cell) chosen
     ⊎ Contains (lit_by lists cell) by
 
-abbrev pub AreServed : Lists → List ℕ → List ℕ → ℕ → List ℕ → Type 0
+abbrev pub AreServed : LitLists → List ℕ → List ℕ → ℕ → List ℕ → Type 0
 AreServed lists cells chosen by these = (cell : ℕ) → Contains these cell → IsServed lists cells chosen by cell
 
 -- the place may be left out for the other
-pub record IsDominatedIn (lists : Lists) (cells chosen barred : List ℕ) (place by : ℕ) : Type 0 where
+pub record IsDominatedIn (lists : LitLists) (cells chosen barred : List ℕ) (place by : ℕ) : Type 0 where
   pub legal : IsTrue (is_marked lists.places place)
   pub by_legal : IsTrue (is_marked lists.places by)
   pub other : place ≢ by

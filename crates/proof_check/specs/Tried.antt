@@ -22,8 +22,8 @@ AgreesOn cave kind.Headroom numbers = numbers ≡ cave.rule.headroom ∷ []
 AgreesOn cave kind.Need numbers = numbers ≡ cave.rule.need ∷ []
 AgreesOn cave other numbers = Unit {0}
 
-abbrev pub Agrees : Cave → Said → Type 0
-Agrees cave s = AgreesOn cave s.kind s.numbers
+abbrev pub AgreesWithSaid : Cave → Said → Type 0
+AgreesWithSaid cave s = AgreesOn cave s.kind s.numbers
 
 -- how many torches such a line has
 abbrev pub torches_on : Kind → List ℕ → ℕ
@@ -34,11 +34,11 @@ torches_on other numbers = 0
 pub record Differs (cave : Cave) (all : List Said) : Type 0 where
   pub line : Said
   pub there : Contains all line
-  pub other : ¬ Agrees cave line
+  pub other : ¬ AgreesWithSaid cave line
 
 -- none does, and all were judged
 pub record IsHeard (cave : Cave) (judge : Judge) (torches : ℕ) (all : List Said) : Type 0 where
-  pub agrees : All (Agrees cave) all
+  pub agrees : All (AgreesWithSaid cave) all
   pub after : IsAfter cave judge all
   pub counted : torches ≡ length (all_cells (torch_parts all))
 

@@ -8,7 +8,7 @@ use Rattle.cave_model.specs.Rule.{Rule}
 use Rattle.cave_model.specs.declared.cave_fault.CaveFault.{CaveFault}
 use Rattle.proof_rules.specs.Certificate.{Certificate, torches_of}
 use Rattle.proof_check.specs.Accepted.{Accepts}
-use Rattle.proof_check.specs.Faults.{of_cave}
+use Rattle.proof_check.specs.Faults.{check_fault_of}
 use Rattle.proof_check.specs.Refused.{IsRefused}
 use Rattle.proof_check.specs.declared.fault.CheckFault.{CheckFault}
 use Rattle.proof_check.specs.declared.fault.CheckFault.TheVariants as faults
@@ -31,7 +31,7 @@ pub record IsJudged (structure : List ℕ) (table : Option (List ℕ)) (rule : R
 -- why the bytes tell no cave, as a check answers it
 abbrev pub IsFaultOfBytes : List ℕ → Option (List ℕ) → CheckFault → Type 0
 IsFaultOfBytes structure table fault = (inner : CaveFault) × caves.IsFaultOfBytes structure table inner
-    × (fault ≡ of_cave inner)
+    × (fault ≡ check_fault_of inner)
 
 -- the fault is in the reader of the certificate, or memory ran out
 abbrev pub IsOfReading : CheckFault → Type 0

@@ -1,5 +1,5 @@
 ghost use Rattle.std.specs.Prelude.{◌≡◌};
-ghost use Rattle.proof_check.specs.Faults.{of_cave};
+ghost use Rattle.proof_check.specs.Faults.{check_fault_of};
 ghost use Rattle.proof_check.specs.declared.fault.CheckFault.TheVariants.{OutOfMemory};
 
 use block_rows::RowsFault;
@@ -43,7 +43,7 @@ impl fmt::Display for CheckFault {
 impl Error for CheckFault {}
 
 impl From<CaveFault> for CheckFault {
-    ghost from_gives = { λ e r. r ≡ of_cave e };
+    ghost from_gives = { λ e r. r ≡ check_fault_of e };
 
     fn from(fault: CaveFault) -> CheckFault {
         match fault {

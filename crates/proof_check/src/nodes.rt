@@ -2,7 +2,7 @@ ghost use Rattle.std.specs.Prelude.{◌≡◌, ◌+◌, length, nat_lt, if◌the
 ghost use Rattle.std.specs.List.Sorted.{IsStrictlyIncreasing};
 ghost use Rattle.std.specs.Option.{option_or};
 ghost use Rattle.lit_lists.specs.Lists.{row_at};
-ghost use Rattle.proof_check.specs.Kept.{AreAscending, Begins, Expects, IsNew, IsWide, Judges, JudgesBar};
+ghost use Rattle.proof_check.specs.Kept.{AreAscending, BeginsRegion, Expects, IsNew, IsWide, Judges, JudgesBar};
 ghost use Rattle.proof_check.specs.Kept.{JudgesBranch, JudgesLeaf, StepsOn};
 ghost use Rattle.certificate_lines.specs.declared.kind.Kind.TheVariants as kinds;
 
@@ -163,7 +163,7 @@ impl Nodes {
 
     /// The cells of the next region.
     fn begin(&mut self, cells: &[Cell]) -> Result<(), AllocError>
-        ensures begins { OnOk result (Begins cells.now self.old self.new) }
+        ensures begins { OnOk result (BeginsRegion cells.now self.old self.new) }
     {
         self.region.cut(0);
         mark(cells, &mut self.region)?;

@@ -1,5 +1,5 @@
 ghost use Rattle.std.specs.Prelude.{◌≡◌, ◌<◌, ◌+◌, [], length, IfOk, OnOk};
-ghost use Rattle.proof_check.specs.Track.{Closes, Enters, IsNextKid};
+ghost use Rattle.proof_check.specs.Track.{ClosesFrames, Enters, IsNextKid};
 
 use crate::tally::Tally;
 use scan_core::Cell;
@@ -49,7 +49,7 @@ impl Track {
     /// A tree has ended: goes on to the next kid of the innermost branch that has one.
     pub fn close(&mut self) -> Result<(), AllocError>
         requires same { length self.old.barred.counts ≡ length self.old.chosen.counts }
-        ensures closes { OnOk result (Closes (length self.old.chosen.counts)
+        ensures closes { OnOk result (ClosesFrames (length self.old.chosen.counts)
             self.old.chosen.items self.old.barred.items self.old.frames.items
             self.new.chosen.items self.new.barred.items self.new.frames.items) }
         ensures whole { length self.new.chosen.counts ≡ length self.old.chosen.counts }

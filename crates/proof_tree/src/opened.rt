@@ -1,5 +1,5 @@
 ghost use Rattle.std.specs.Prelude.{◌≡◌, IfOk, MatchOption};
-ghost use Rattle.proof_tree.specs.Opened.{AreKidPlaces, IsSplit, MayBeOpened};
+ghost use Rattle.proof_tree.specs.Opened.{AreOpenedPlaces, IsSplit, MayBeOpened};
 
 use crate::opening::{is_unlit, kid_places};
 use crate::piece::Piece;
@@ -33,7 +33,7 @@ impl Piece {
     /// cell, as it isn't one of the region or a chosen place lights it.
     pub fn places_on(&self, alloc: Global, cell: Cell) -> Result<Option<Vec<Cell>>, OutOfMemory>
         ensures { IfOk result (λ found. MatchOption found (¬ MayBeOpened self.now cell)
-            (λ places. AreKidPlaces self.now cell places.items)) }
+            (λ places. AreOpenedPlaces self.now cell places.items)) }
     {
         if !is_unlit(self.region(), self.chosen(), cell) {
             return Ok(None);

@@ -3,10 +3,7 @@ ghost use Rattle.std.specs.Prelude.{◌<◌};
 ghost use Rattle.scan_core.specs.Box.{cell_count};
 
 mod build;
-mod hang;
 mod large;
-mod neighbours;
-mod spawn;
 
 use block_rows::Rows;
 use cave_model::{BuildFault, Rule, World, build as built};

@@ -8,4 +8,3 @@ mod large;
 mod leaves;
 mod memory;
 mod names;
-mod views;

@@ -1,8 +1,6 @@
 mod faults;
 mod large;
-mod refused;
 mod shipped;
-mod user;
 
 use block_rows::{Class, Rows};
 use nbt_core::Sequence;

@@ -8,7 +8,7 @@ use Rattle.nbt_core.specs.Value.{Nbt, leaf, list, compound, Items, no_items, ite
 use Rattle.nbt_core.specs.Value as values
 use Rattle.scan_core.specs.Box.{Point, cell_count, is_small, is_within}
 use Rattle.scan_core.specs.Properties.{props_of}
-use Rattle.scan_core.specs.Scan.{Structure, Entry, triple, point_value, last_state, IsStateOf, IsEntryOf, AreEach}
+use Rattle.scan_core.specs.Scan.{Structure, Entry, triple, point_value, last_state, IsEntryState, IsEntryOf, AreEach}
 use Rattle.scan_core.specs.Scan.{IsListOf, IsScanOf}
 use Rattle.scan_core.specs.Faults.{side_fault, list_fault, name_fault, place_fault, index_fault, entry_faults}
 use Rattle.scan_core.specs.Faults.{told_size, told_states, fault_of, size_fault, blocks_fault}
@@ -151,7 +151,7 @@ build_list Is Good of judge h found e =
 
 -- an entry of the palette without a fault tells a state
 build_state : (i : ℕ) (t : Nbt) → first_fault (name_fault i t) ≡ None
-    → (state : BlockState) × IsStateOf t state × Unit {0}
+    → (state : BlockState) × IsEntryState t state × Unit {0}
 build_state i t e =
     let there = of_field (field (codes "Name") t) (faults.Missing (NameField i))
     (on_text (Some (faults.WrongType (NameField i))) None) (split_first _ [] e).0 in
@@ -248,7 +248,7 @@ clean_structure root e =
     let three = split_first _ _ two.1 in
     let four = split_first _ [] three.1 in
     let size = build_size root one.0 in
-    let states = build_list IsStateOf (λ (state : BlockState). Unit {0}) PaletteField name_fault build_state
+    let states = build_list IsEntryState (λ (state : BlockState). Unit {0}) PaletteField name_fault build_state
     (field (codes "palette") root) three.0 in
     let blocks = build_blocks root size.0 states.values size.1 states.are four.0 in
     let shown = λ (cell : ℕ). last_state size.0 cell blocks.values in

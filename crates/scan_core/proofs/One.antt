@@ -4,7 +4,7 @@ use Rattle.std.proofs.Common.{subst, ◌∙◌, ext_get_or}
 use Rattle.nbt_core.specs.Value.{Nbt, leaf, list, Items, no_items, item, field, items_of, listed}
 use Rattle.nbt_core.specs.Value as values
 use Rattle.scan_core.specs.Box.{Point, cell_count}
-use Rattle.scan_core.specs.Scan.{Structure, Entry, point_value, last_state, IsStateOf, IsEntryOf, AreEach, IsListOf}
+use Rattle.scan_core.specs.Scan.{Structure, Entry, point_value, last_state, IsEntryState, IsEntryOf, AreEach, IsListOf}
 use Rattle.scan_core.specs.Scan.{IsScanOf}
 use Rattle.scan_core.specs.declared.state.BlockState.{BlockState}
 use Rattle.scan_core.proofs.CellLemmas.{point_is}
@@ -44,7 +44,7 @@ state_is : (n n' : List ℕ) (p p' : List (List ℕ × List ℕ)) → n ≡ n' �
 state_is n n' p p' e f = cc
 
 -- a compound tells at most one block state
-same_state : (t : Nbt) (a b : BlockState) → IsStateOf t a → IsStateOf t b → a ≡ b
+same_state : (t : Nbt) (a b : BlockState) → IsEntryState t a → IsEntryState t b → a ≡ b
 same_state t a b p q = state_is a.name b.name a.props b.props
     (same_text a.name b.name (same_some _ _ (sym p.named ∙ q.named))) (p.told ∙ sym q.told)
 
@@ -87,7 +87,7 @@ structure_is s s' p p' c c' e f g = cc
 pub one_structure : (root : Nbt) (a b : Structure) → IsScanOf root a → IsScanOf root b → a ≡ b
 one_structure root a b p q =
     let size : a.size ≡ b.size = same_point a.size b.size (same_some _ _ (sym p.sized ∙ q.sized)) in
-    let palette : a.palette ≡ b.palette = same_values IsStateOf same_state (field (codes "palette") root) a.palette
+    let palette : a.palette ≡ b.palette = same_values IsEntryState same_state (field (codes "palette") root) a.palette
     b.palette p.states q.states in
     let entries : p.entries ≡ q.entries = same_values IsEntryOf same_entry (field (codes "blocks") root) p.entries
     q.entries p.listed q.listed in

@@ -6,7 +6,7 @@ use Rattle.std.specs.Prelude.{if◌then◌else◌}
 use Rattle.nbt_core.specs.Value.{Nbt, leaf, list, compound, Items, no_items, item, field, items_of, listed}
 use Rattle.nbt_core.specs.Value as values
 use Rattle.scan_core.specs.Box.{Point, is_small, is_within}
-use Rattle.scan_core.specs.Scan.{Structure, Entry, point_value, IsStateOf, IsEntryOf, AreEach, IsListOf, IsScanOf}
+use Rattle.scan_core.specs.Scan.{Structure, Entry, point_value, IsEntryState, IsEntryOf, AreEach, IsListOf, IsScanOf}
 use Rattle.scan_core.specs.Faults.{list_fault, name_fault, entry_faults, told_size, told_states, fault_of}
 use Rattle.nbt_core.specs.Parts.{is_compound, are_compounds}
 use Rattle.scan_core.specs.Judging.{first_fault, on_field, on_compounds, each_from}
@@ -113,7 +113,7 @@ list_clean Is Good of judge c h found xs l g =
     ∙ each_clean Is Good judge h l.0 xs 0 l.2 g
 
 -- what tells a block state is a compound
-pub state_compound : (t : Nbt) (state : BlockState) → IsStateOf t state → is_compound t ≡ true
+pub state_compound : (t : Nbt) (state : BlockState) → IsEntryState t state → is_compound t ≡ true
 state_compound t state h = has_compound (codes "Name") t (leaf (values.text state.name)) h.named
 
 -- what tells an entry of the blocks is a compound
@@ -121,7 +121,7 @@ pub entry_compound : (t : Nbt) (entry : Entry) → IsEntryOf t entry → is_comp
 entry_compound t entry h = has_compound (codes "pos") t (point_value entry.at) h.placed
 
 -- what tells a block state has a name without a fault
-name_clean : (i : ℕ) (t : Nbt) (state : BlockState) → IsStateOf t state → first_fault (name_fault i t) ≡ None
+name_clean : (i : ℕ) (t : Nbt) (state : BlockState) → IsEntryState t state → first_fault (name_fault i t) ≡ None
 name_clean i t state s = ap (λ (o : Option ScanFault). first_fault (o ∷ []))
     (on_is (field (codes "Name") t) (leaf (values.text state.name)) _ _ s.named)
 
@@ -139,19 +139,20 @@ pub size_told : (root : Nbt) (size : Point) → field (codes "size") root ≡ So
 size_told root size e = on_is (field (codes "size") root) (point_value size) _ _ e
 
 -- a root tells as many states as its palette has
-pub states_told : (root : Nbt) (palette : List BlockState) → IsListOf IsStateOf (field (codes "palette") root) palette
+pub states_told : (root : Nbt) (palette : List BlockState)
+    → IsListOf IsEntryState (field (codes "palette") root) palette
     → told_states root ≡ length palette
 states_told root palette s =
     on_is (field (codes "palette") root) (list (items_of s.0)) _ _ s.1
-    ∙ on_all s.0 0 length (are_all IsStateOf state_compound s.0 palette s.2)
-    ∙ each_count IsStateOf s.0 palette s.2
+    ∙ on_all s.0 0 length (are_all IsEntryState state_compound s.0 palette s.2)
+    ∙ each_count IsEntryState s.0 palette s.2
 
 -- a structure has no fault
 pub structure_clean : (root : Nbt) (scan : Structure) → IsScanOf root scan → fault_of root ≡ None
 structure_clean root scan s = first_four _ _ _ _
     (on_is (field (codes "size") root) (point_value scan.size) _ _ s.sized ∙ chosen (is_small scan.size) _ _ s.small)
     (ap (λ (o : Option Nbt). on_field o None (λ (t : Nbt). Some faults.Palettes)) s.single)
-    (list_clean IsStateOf (λ state. Unit {0}) PaletteField name_fault state_compound
+    (list_clean IsEntryState (λ state. Unit {0}) PaletteField name_fault state_compound
     (λ i t state h u. name_clean i t state h) (field (codes "palette") root) scan.palette s.states (λ k d h. tt))
     (list_clean IsEntryOf (λ entry. IsTrue (is_within scan.size entry.at) × (entry.state < length scan.palette))
     BlocksField (entry_faults (told_size root) (told_states root)) entry_compound

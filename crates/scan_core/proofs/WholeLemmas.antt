@@ -7,7 +7,7 @@ use Rattle.std.proofs.lemmas.List.Elements.{All-nil, All-cons, All-head, All-tai
 use Rattle.nbt_core.specs.Value.{Nbt, field}
 use Rattle.scan_core.specs.Box.{Point, number}
 use Rattle.scan_core.specs.Properties.{HasEachOnce}
-use Rattle.scan_core.specs.Scan.{Structure, Entry, or_else, last_state, IsStateOf, AreEach, IsScanOf, IsWhole}
+use Rattle.scan_core.specs.Scan.{Structure, Entry, or_else, last_state, IsEntryState, AreEach, IsScanOf, IsWholeScan}
 use Rattle.scan_core.specs.declared.state.BlockState.{BlockState}
 use Rattle.scan_core.proofs.PropertyLemmas.{props_of_once}
 
@@ -37,7 +37,7 @@ last_below size states cell (entry ∷ entries) h =
     (All-head (λ (entry : Entry). entry.state < states) entry entries h))
 
 -- each state that compounds tell has each property at most once
-each_once : (ts : List Nbt) (states : List BlockState) → AreEach IsStateOf ts states
+each_once : (ts : List Nbt) (states : List BlockState) → AreEach IsEntryState ts states
     → All (λ state. HasEachOnce state.props) states
 each_once [] [] e = All-nil (λ (state : BlockState). HasEachOnce state.props)
 each_once [] (x ∷ xs) e = absurd e
@@ -48,7 +48,7 @@ each_once (t ∷ ts) (state ∷ states) e =
     (each_once ts states e.1)
 
 -- a structure that a root tells keeps what its type asks for
-pub scan_whole : (root : Nbt) (scan : Structure) → IsScanOf root scan → IsWhole scan
+pub scan_whole : (root : Nbt) (scan : Structure) → IsScanOf root scan → IsWholeScan scan
 scan_whole root scan s = record {
   small = s.small;
   whole = s.whole;

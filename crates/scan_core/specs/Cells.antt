@@ -6,7 +6,7 @@ use Rattle.scan_core.specs.Box.{Point, cell_count, number, is_within}
 use Rattle.scan_core.specs.Scan.{Entry, point_value, last_state, IsEntryOf, AreEach}
 
 -- the place of an entry, which lies in the box
-pub record IsPlaceOf (value : Nbt) (size at : Point) : Type 0 where
+pub record IsPointOf (value : Nbt) (size at : Point) : Type 0 where
   pub placed : field (codes "pos") value ≡ Some (point_value at)
   pub inside : IsTrue (is_within size at)
 

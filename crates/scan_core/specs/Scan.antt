@@ -33,7 +33,7 @@ abbrev pub point_value : Point → Nbt
 point_value at = triple (pos at.x) (pos at.y) (pos at.z)
 
 -- what an entry of the palette tells
-pub record IsStateOf (entry : Nbt) (state : BlockState) : Type 0 where
+pub record IsEntryState (entry : Nbt) (state : BlockState) : Type 0 where
   pub named : field (codes "Name") entry ≡ Some (leaf (values.text state.name))
   pub told : state.props ≡ props_of (field (codes "Properties") entry)
 
@@ -68,7 +68,7 @@ pub record IsScanOf (root : Nbt) (scan : Structure) : Type 0 where
   pub sized : field (codes "size") root ≡ Some (point_value scan.size)
   pub small : IsTrue (is_small scan.size)
   pub single : field (codes "palettes") root ≡ None
-  pub states : IsListOf IsStateOf (field (codes "palette") root) scan.palette
+  pub states : IsListOf IsEntryState (field (codes "palette") root) scan.palette
   pub entries : List Entry
   pub listed : IsListOf IsEntryOf (field (codes "blocks") root) entries
   pub inside : All (λ entry. IsTrue (is_within scan.size entry.at)) entries
@@ -83,7 +83,7 @@ Scans bytes scan = (root : Nbt) × Root bytes root × IsScanOf root scan
 
 -- what every scan keeps: a small box, a state or none for each of its cells, each index below the palette's
 -- length, each property once
-pub record IsWhole (scan : Structure) : Type 0 where
+pub record IsWholeScan (scan : Structure) : Type 0 where
   pub small : IsTrue (is_small scan.size)
   pub whole : length scan.cells ≡ cell_count scan.size
   pub known : All (λ cell. IfSome cell (λ index. index < length scan.palette)) scan.cells

@@ -3,7 +3,7 @@ use Rattle.std.specs.Prelude.{◌≡◌, ◌≢◌, ℤ, pos, true, false, IsTru
 use Rattle.nbt_core.specs.Value.{Nbt, list, items_of, field}
 use Rattle.nbt_core.specs.Parts.{are_compounds}
 use Rattle.scan_core.specs.Box.{Point, is_small}
-use Rattle.scan_core.specs.Scan.{triple, point_value, IsStateOf, IsListOf}
+use Rattle.scan_core.specs.Scan.{triple, point_value, IsEntryState, IsListOf}
 use Rattle.scan_core.specs.Judging.{point_of}
 use Rattle.scan_core.specs.declared.state.BlockState.{BlockState}
 
@@ -32,4 +32,4 @@ pub record IsSizeOf (root : Nbt) (size : Point) : Type 0 where
 
 -- the root's palette
 abbrev pub IsPaletteOf : Nbt → List BlockState → Type 0
-IsPaletteOf root palette = IsListOf IsStateOf (field (codes "palette") root) palette
+IsPaletteOf root palette = IsListOf IsEntryState (field (codes "palette") root) palette

@@ -1,7 +1,7 @@
 ghost use Rattle.std.specs.Prelude.{◌≡◌, All, None, length, IsTrue};
-ghost use Rattle.scan_core.specs.Answer.{Tells, TellsInRoom};
+ghost use Rattle.scan_core.specs.Answer.{TellsOrFaults, TellsInRoom};
 ghost use Rattle.scan_core.specs.Box as grid;
-ghost use Rattle.scan_core.specs.Cells.{AreCellsOf, IsIndexOf, IsPlaced, IsPlaceOf, ShowEntries};
+ghost use Rattle.scan_core.specs.Cells.{AreCellsOf, IsIndexOf, IsPlaced, IsPointOf, ShowEntries};
 ghost use Rattle.scan_core.specs.Faults.{blocks_fault, entry_faults, pos_fault, state_fault};
 ghost use Rattle.scan_core.specs.Judging.{each_from, first_fault};
 
@@ -49,7 +49,7 @@ fn fill(
     requires void { All (λ cell. cell ≡ None) cells.old }
     ensures { let told = entries.entry in
         let sides = grid.point size in
-        Tells result (λ _. ShowEntries told sides states cells.new)
+        TellsOrFaults result (λ _. ShowEntries told sides states cells.new)
         (first_fault (each_from 0 (entry_faults sides states) told)) }
 {
     for index in 0..entries.len() {
@@ -79,7 +79,7 @@ fn placement(
     requires { IsTrue (grid.is_small (grid.point size)) }
     ensures { let told = entry.now in
         let sides = grid.point size in
-        Tells result (λ placed. IsPlaced told sides states placed.cell placed.state)
+        TellsOrFaults result (λ placed. IsPlaced told sides states placed.cell placed.state)
         (first_fault (entry_faults sides states index told)) }
 {
     let at = place_of(size, index, entry)?;
@@ -94,7 +94,7 @@ fn placement(
 fn place_of(size: [u32; 3], index: usize, entry: &View<'_>) -> Result<[u32; 3], ScanFault>
     ensures { let told = entry.now in
         let sides = grid.point size in
-        Tells result (λ at. IsPlaceOf told sides (grid.point at)) (pos_fault sides index told) }
+        TellsOrFaults result (λ at. IsPointOf told sides (grid.point at)) (pos_fault sides index told) }
 {
     let Some(value) = entry.field(b"pos") else {
         return Err(ScanFault::Missing(Field::PosField(index)));
@@ -115,7 +115,7 @@ fn place_of(size: [u32; 3], index: usize, entry: &View<'_>) -> Result<[u32; 3], 
 /// The index into so many states of the entry with this index.
 fn index_of(states: usize, index: usize, entry: &View<'_>) -> Result<u32, ScanFault>
     ensures { let told = entry.now in
-        Tells result (λ state. IsIndexOf told states state) (state_fault states index told) }
+        TellsOrFaults result (λ state. IsIndexOf told states state) (state_fault states index told) }
 {
     let Some(value) = entry.field(b"state") else {
         return Err(ScanFault::Missing(Field::StateField(index)));

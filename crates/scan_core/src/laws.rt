@@ -3,7 +3,7 @@ ghost use Rattle.std.specs.Prelude.{◌≡◌, ◌↔◌, ◌<◌, ℕ, IsTrue, 
 ghost use Rattle.nbt_core.specs.Value.{Nbt};
 ghost use Rattle.scan_core.specs.Box.{Point, cell_count, coordinates, is_within, number};
 ghost use Rattle.scan_core.specs.Faults.{fault_of};
-ghost use Rattle.scan_core.specs.Scan.{IsScanOf, IsWhole, Structure};
+ghost use Rattle.scan_core.specs.Scan.{IsScanOf, IsWholeScan, Structure};
 
 /// A point of the box has a number of the box, whose coordinates are the point.
 pub fn number_then_coordinates()
@@ -30,5 +30,5 @@ pub fn one_structure()
 
 /// What a root tells has a cell for each place of the box, known states, and each property once.
 pub fn structures_are_whole()
-    ensures { (root : Nbt) → (scan : Structure) → IsScanOf root scan → IsWhole scan }
+    ensures { (root : Nbt) → (scan : Structure) → IsScanOf root scan → IsWholeScan scan }
 {}

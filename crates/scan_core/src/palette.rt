@@ -1,7 +1,7 @@
 ghost use Rattle.scan_core.specs.Answer.{TellsInRoom};
 ghost use Rattle.scan_core.specs.Faults.{name_fault, palette_fault};
 ghost use Rattle.scan_core.specs.Judging.{each_from, first_fault};
-ghost use Rattle.scan_core.specs.Scan.{AreEach, IsStateOf};
+ghost use Rattle.scan_core.specs.Scan.{AreEach, IsEntryState};
 ghost use Rattle.scan_core.specs.Told.{IsPaletteOf};
 
 use crate::fault::{Field, ScanFault};
@@ -28,7 +28,7 @@ pub fn palette_of(alloc: Global, root: &View<'_>) -> Result<Vec<BlockState>, Sca
 /// The states that these entries tell.
 fn states_of(alloc: Global, mut entries: ItemsView<'_>) -> Result<Vec<BlockState>, ScanFault>
     ensures { let told = entries.entry in
-        TellsInRoom result (λ states. AreEach IsStateOf told states.items)
+        TellsInRoom result (λ states. AreEach IsEntryState told states.items)
         (first_fault (each_from 0 name_fault told)) }
 {
     let mut states = Vec::new(alloc);
@@ -44,7 +44,7 @@ fn states_of(alloc: Global, mut entries: ItemsView<'_>) -> Result<Vec<BlockState
 /// The state that the entry with this index tells.
 fn state_of(alloc: Global, index: usize, entry: &View<'_>) -> Result<BlockState, ScanFault>
     ensures { let told = entry.now in
-        TellsInRoom result (λ state. IsStateOf told state) (first_fault (name_fault index told)) }
+        TellsInRoom result (λ state. IsEntryState told state) (first_fault (name_fault index told)) }
 {
     let Some(value) = entry.field(b"Name") else {
         return Err(ScanFault::Missing(Field::NameField(index)));

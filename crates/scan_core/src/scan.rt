@@ -14,24 +14,24 @@ pub struct Scan {
 }
 
 impl Model for Scan {
-    ghost use Rattle.scan_core.specs.Scan.{Structure, IsWhole, structure};
+    ghost use Rattle.scan_core.specs.Scan.{Structure, IsWholeScan, structure};
 
     ghost Value = { Structure };
 
     ghost view = { λ s. structure s.size s.palette.items s.cells.items };
 
-    ghost invariant = { λ s. IsWhole (structure s.size s.palette.items s.cells.items) };
+    ghost invariant = { λ s. IsWholeScan (structure s.size s.palette.items s.cells.items) };
 }
 
 impl Scan {
     ghost use Rattle.std.specs.Prelude.{◌≡◌, ◌<◌, length, All, IfSome, IsTrue};
     ghost use Rattle.scan_core.specs.Box.{cell_count, is_small, point};
     ghost use Rattle.scan_core.specs.Properties.{HasEachOnce};
-    ghost use Rattle.scan_core.specs.Scan.{IsWhole, structure};
+    ghost use Rattle.scan_core.specs.Scan.{IsWholeScan, structure};
 
     /// What these parts tell.
     pub(crate) fn new(size: [u32; 3], palette: Vec<BlockState>, cells: Vec<Option<u32>>) -> Scan
-        requires { IsWhole (structure size palette.items cells.items) }
+        requires { IsWholeScan (structure size palette.items cells.items) }
         ensures { result ≡ structure size palette.items cells.items }
     {
         Scan {

@@ -1,4 +1,4 @@
-ghost use Rattle.scan_core.specs.Answer.{Tells};
+ghost use Rattle.scan_core.specs.Answer.{TellsOrFaults};
 ghost use Rattle.scan_core.specs.Box as grid;
 ghost use Rattle.scan_core.specs.Faults.{size_fault};
 ghost use Rattle.scan_core.specs.Told.{IsSizeOf};
@@ -11,7 +11,7 @@ use nbt_core::View;
 /// The sides of the box that the root tells.
 pub fn size_of(root: &View<'_>) -> Result<[u32; 3], ScanFault>
     ensures { let told = root.now in
-        Tells result (λ size. IsSizeOf told (grid.point size)) (size_fault told) }
+        TellsOrFaults result (λ size. IsSizeOf told (grid.point size)) (size_fault told) }
 {
     let Some(value) = root.field(b"size") else {
         return Err(ScanFault::Missing(Field::SizeField));

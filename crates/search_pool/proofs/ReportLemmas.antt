@@ -12,7 +12,7 @@ use Rattle.gathering.specs.Gathered.{Gathering, IsGathered}
 use Rattle.gathering.proofs.LawLemmas.{counted}
 use Rattle.joined_results.specs.Joining.{IsRootSplit}
 use Rattle.search_pool.specs.Reports.{sum_of}
-use Rattle.search_pool.specs.Tallies.{AreCounted as AreTallied}
+use Rattle.search_pool.specs.Tallies.{AreTallied}
 use Rattle.search_pool.specs.declared.tally.Tally.{Tally}
 
 -- zeros add up to zero

@@ -10,7 +10,7 @@ abbrev pub all_refused : List Worked → List Subproblem
 all_refused works = flat_map (λ work. work.refused) works
 
 -- each number is that of such pieces
-pub record AreCounted (works : List Worked) (tally : Tally) : Type 0 where
+pub record AreTallied (works : List Worked) (tally : Tally) : Type 0 where
   pub closed : tally.closed ≡ length (all_closed works)
   pub opened : tally.opened ≡ length (all_opened works)
   pub back : tally.held + tally.refused ≡ length (all_back works)

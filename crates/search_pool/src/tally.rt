@@ -1,7 +1,7 @@
 //! How many pieces workers handed over, by what became of them.
 ghost use Rattle.std.specs.Prelude.{◌≡◌, ◌≤◌, ◌*◌, ◌^◌, length};
 ghost use Rattle.schedule_law.specs.Joined.{all_back, all_closed, all_opened};
-ghost use Rattle.search_pool.specs.Tallies.{AreCounted, all_refused};
+ghost use Rattle.search_pool.specs.Tallies.{AreTallied, all_refused};
 
 use schedule_law::Work;
 
@@ -17,7 +17,7 @@ pub(crate) struct Tally {
 /// Counts the pieces of the works.
 pub(crate) fn counted(works: &[Work]) -> Tally
     requires few { length works.now ≤ 64 }
-    ensures counted { AreCounted works.now result }
+    ensures counted { AreTallied works.now result }
     ensures most { (result.closed ≤ length works.now * 2 ^ 64) × (result.opened ≤ length works.now * 2 ^ 64)
         × (result.held ≤ length works.now * 2 ^ 64) × (result.refused ≤ length works.now * 2 ^ 64) }
 {

@@ -8,8 +8,8 @@ pub record CountsUp (count : ℕ) (numbers : List ℕ) : Type 0 where
   pub each : (k : ℕ) → k < count → slice_index numbers k ≡ k
 
 -- the row of the place with this index
-abbrev pub row_at : ℕ → List ℕ → ℕ → List ℕ
-row_at width words place = slice_range words (place * width) (place * width + width)
+abbrev pub made_row : ℕ → List ℕ → ℕ → List ℕ
+made_row width words place = slice_range words (place * width) (place * width + width)
 
 -- some bit, and none from the count on
 pub record IsRowFor (count : ℕ) (row : List ℕ) : Type 0 where
@@ -18,9 +18,9 @@ pub record IsRowFor (count : ℕ) (row : List ℕ) : Type 0 where
 
 -- one of the rows has the bit
 abbrev pub IsLitIn : ℕ → ℕ → List ℕ → ℕ → Type 0
-IsLitIn places width words bit = (place : ℕ) × (place < places) × Has (row_at width words place) bit
+IsLitIn places width words bit = (place : ℕ) × (place < places) × Has (made_row width words place) bit
 
 pub record AreRows (count places width : ℕ) (words : List ℕ) : Type 0 where
   pub filled : 0 < count
-  pub each : (place : ℕ) → place < places → IsRowFor count (row_at width words place)
+  pub each : (place : ℕ) → place < places → IsRowFor count (made_row width words place)
   pub lit : (bit : ℕ) → bit < count → IsLitIn places width words bit

@@ -2,7 +2,7 @@
 ghost use Rattle.std.specs.Prelude.{◌≡◌, ◌≤◌, ◌<◌, ◌*◌, ◌+◌, ◌/◌, ◌^◌, ℕ, IsTrue, length, IfOk};
 ghost use Rattle.bit_rows.specs.Bits.{Has, HasNoneFrom};
 ghost use Rattle.set_cover.specs.Instance.{words_for};
-ghost use Rattle.searched_rows.specs.Made.{CountsUp, row_at, IsRowFor, IsLitIn, AreRows};
+ghost use Rattle.searched_rows.specs.Made.{CountsUp, made_row, IsRowFor, IsLitIn, AreRows};
 
 use bit_rows::{first, has, next};
 use cave_regions::Region;
@@ -84,7 +84,7 @@ fn are_rows(count: usize, places: usize, width: usize, words: &[u64]) -> bool
 fn each_is_row(count: usize, places: usize, width: usize, words: &[u64]) -> bool
     requires whole { length words.now ≡ places * width }
     requires short { width ≤ 1000 }
-    ensures { IsTrue result → (place : ℕ) → place < places → IsRowFor count (row_at width words.now place) }
+    ensures { IsTrue result → (place : ℕ) → place < places → IsRowFor count (made_row width words.now place) }
 {
     for place in 0..places {
         if !is_row(count, row(words, places, width, place)) {
@@ -140,7 +140,7 @@ fn is_lit(places: usize, width: usize, words: &[u64], bit: usize) -> bool
 fn row(words: &[u64], places: usize, width: usize, place: usize) -> &[u64]
     requires whole { length words.now ≡ places * width }
     requires inside { place < places }
-    ensures row { result.now ≡ row_at width words.now place }
+    ensures row { result.now ≡ made_row width words.now place }
     ensures whole { length result.now ≡ width }
 {
     let start = place * width;

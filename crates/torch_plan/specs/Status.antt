@@ -22,9 +22,9 @@ status NoThread = 7
 status OutOfMemory = 7
 
 -- 5 where the turns of a region were spent
-abbrev pub ended : Outcome → ℕ
-ended Done = 0
-ended Stopped = 5
+abbrev pub end_status : Outcome → ℕ
+end_status Done = 0
+end_status Stopped = 5
 
 -- 4 where the certificate is rejected
 abbrev pub judged : Verdict → ℕ

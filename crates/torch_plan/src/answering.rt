@@ -2,7 +2,7 @@
 ghost use Rattle.std.specs.Prelude.{◌≡◌, ◌≢◌, IfErr, IfOk};
 ghost use Rattle.std.specs.Io.KnownBytes.{Keeps};
 ghost use Rattle.cave_runs.specs.declared.fault.RunFault.{RunFault};
-ghost use Rattle.torch_plan.specs.Status.{IsRefused, ended, judged, status};
+ghost use Rattle.torch_plan.specs.Status.{IsRefused, end_status, judged, status};
 
 use crate::command::{Request, request_of};
 use crate::status::status_of;
@@ -164,7 +164,7 @@ fn refused<S: System>(system: &S, fault: &RunFault) -> u8
 
 /// The status of a plan: 5 where it was stopped.
 fn status_of_plan(outcome: Outcome) -> u8
-    ensures { result ≡ ended outcome }
+    ensures { result ≡ end_status outcome }
 {
     match outcome {
         Outcome::Done => 0,

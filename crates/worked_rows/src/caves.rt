@@ -45,11 +45,6 @@ pub const AIR: Block<'static> = Block {
     props: &[],
 };
 
-pub const WATER: Block<'static> = Block {
-    name: "minecraft:water",
-    props: &[],
-};
-
 pub const TORCH: Block<'static> = Block {
     name: "minecraft:torch",
     props: &[],

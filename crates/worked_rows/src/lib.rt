@@ -10,8 +10,6 @@ mod check_streams;
 #[cfg(test)]
 mod coverage;
 #[cfg(test)]
-mod damaged;
-#[cfg(test)]
 mod dark;
 #[cfg(test)]
 mod failing;
@@ -19,8 +17,6 @@ mod failing;
 mod headroom;
 #[cfg(test)]
 mod large_numbers;
-#[cfg(test)]
-mod light;
 #[cfg(test)]
 mod limits;
 #[cfg(test)]
@@ -31,8 +27,6 @@ mod plan;
 mod plan_streams;
 #[cfg(test)]
 mod planning;
-#[cfg(test)]
-mod regions;
 #[cfg(test)]
 mod rule;
 #[cfg(test)]

@@ -28,8 +28,8 @@ abbrev pub IsNewSeatAt : TableId → Seated → Type 0
 IsNewSeatAt beacon seat = IsSeatAt beacon seat × (seat.knows.told ≡ None)
 
 -- no more turns were granted than the limit
-abbrev pub IsWithin : Option ℕ → ℕ → Type 0
-IsWithin turns granted = IfSome turns (λ limit. granted ≤ limit)
+abbrev pub IsWithinTurns : Option ℕ → ℕ → Type 0
+IsWithinTurns turns granted = IfSome turns (λ limit. granted ≤ limit)
 
 -- a worker's desk
 pub record Desked : Type 0 where
@@ -70,7 +70,7 @@ handed_coded = code_by (Shared × (Known × Option Covering))
     (λ h. (h.share, (h.knows, h.cover))) (λ p. record { share = p.0; knows = p.1.0; cover = p.1.1 }) (λ _. refl)
 
 -- its cover is no larger than any size that its seat told, and its floors are at least what the seat saw
-pub record IsDone (region : Instance) (start : List Subproblem) (handed : Handed) : Type 0 where
+pub record IsHandedIn (region : Instance) (start : List Subproblem) (handed : Handed) : Type 0 where
   pub adds_up : AddsUp start handed.share
   pub kept : KeepsTold handed.cover handed.knows.told
   pub fit : IsWork region handed.knows.seen (work_of handed.share handed.cover)

@@ -3,7 +3,7 @@ ghost use Rattle.std.specs.Prelude.{◌≡◌, IfSome};
 ghost use Rattle.schedule_law.specs.Worked.{IsCoverFor};
 ghost use Rattle.worker_results.specs.Naming.{numbers_from};
 ghost use Rattle.worker_results.specs.Passes.{deques};
-ghost use Rattle.worker_results.specs.Results.{IsDone, IsSeatAt, KeepsTold};
+ghost use Rattle.worker_results.specs.Results.{IsHandedIn, IsSeatAt, KeepsTold};
 ghost use Rattle.worker_results.specs.Shares.{AreClosedFrom, work_of};
 
 use crate::naming::Naming;
@@ -74,7 +74,7 @@ impl<B: Naming> Done<B> {
             × (result.own.knows.out ≡ B.workers) }
         ensures reaches { (result.reaches ≡ self.share.reaches) × (deques result.reaches ≡ numbers_from 0 B.workers) }
         ensures work { result.work ≡ work_of self.share self.cover }
-        ensures done { IsDone B.region (B.start self.share.worker) self }
+        ensures done { IsHandedIn B.region (B.start self.share.worker) self }
     {
         let Done { seat, cover, share } = self;
         let (own, reaches, work) = share.into_parts(cover);

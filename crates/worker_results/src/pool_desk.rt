@@ -2,7 +2,7 @@
 ghost use Rattle.std.specs.Prelude.{◌≡◌, None, false, IfSome};
 ghost use Rattle.std.specs.Arc.{arc_value};
 ghost use Rattle.schedule_law.specs.Worked.{IsCoverFor};
-ghost use Rattle.worker_results.specs.Results.{IsNewSeatAt, IsSeatAt, IsWithin, KeepsTold};
+ghost use Rattle.worker_results.specs.Results.{IsNewSeatAt, IsSeatAt, IsWithinTurns, KeepsTold};
 
 use crate::naming::Naming;
 use beacon::{Beacon, Seat};
@@ -28,7 +28,7 @@ impl<'a, B: Naming> Model for PoolDesk<'a, B> {
     ghost use Rattle.std.specs.Prelude.{◌≡◌, IfSome};
     ghost use Rattle.std.specs.Arc.{arc_value};
     ghost use Rattle.schedule_law.specs.Worked.{IsCoverFor};
-    ghost use Rattle.worker_results.specs.Results.{Desked, desked_coded, IsSeatAt, IsWithin, KeepsTold};
+    ghost use Rattle.worker_results.specs.Results.{Desked, desked_coded, IsSeatAt, IsWithinTurns, KeepsTold};
 
     ghost Value = { Desked };
 
@@ -45,7 +45,7 @@ impl<'a, B: Naming> Model for PoolDesk<'a, B> {
 
     ghost invariant = { λ d. (d.beacon.now ≡ B.beacon) × (arc_value d.region.now ≡ B.region)
         × IsSeatAt B.beacon d.seat × KeepsTold d.cover d.seat.knows.told
-        × IfSome d.cover (IsCoverFor B.region) × IsWithin d.turns d.granted };
+        × IfSome d.cover (IsCoverFor B.region) × IsWithinTurns d.turns d.granted };
 }
 
 impl<'a, B: Naming> PoolDesk<'a, B> {
@@ -82,7 +82,7 @@ impl<'a, B: Naming> PoolDesk<'a, B> {
     /// How many turns it granted: at most its limit, and at most the greatest value of a `u64`.
     pub fn granted(&self) -> u64
         ensures granted { result ≡ self.now.granted }
-        ensures within { IsWithin self.now.turns result }
+        ensures within { IsWithinTurns self.now.turns result }
     {
         self.granted
     }

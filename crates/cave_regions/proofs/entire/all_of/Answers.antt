@@ -1,7 +1,7 @@
 use Rattle.std.proofs.Common.{ℕ, length, ap, sym, subst, ◌∙◌, arith}
 use Rattle.cave_model.specs.Listing.{Lists}
 use Rattle.cave_regions.specs.Joining.{AreAlone}
-use Rattle.cave_regions.specs.Restricting.{IsClosed, IsLighting}
+use Rattle.cave_regions.specs.Restricting.{IsSelfContained, IsLighting}
 use Rattle.cave_regions.proofs.WholeLemmas.{closed_whole, chosen_all}
 use Rattle.cave_regions.proofs.PartLemmas.{part_of}
 use Rattle.cave_regions.proofs.entire.all_of.Goals.{After-deref-2}
@@ -16,7 +16,7 @@ alone c = subst (λ (n : ℕ). AreAlone n c.deref.result.now)
     (c.count_of-count.ensures.count ∙ ap length c.cells.ensures.cells)
     (subst (AreAlone c.count_of-count.result) (sym c.deref.ensures.value) c.in_ok-own.ensures)
 
-closed : (c : After-deref-2) → IsClosed c.args.instance.now c.deref.result.now c.deref-2.result.now
+closed : (c : After-deref-2) → IsSelfContained c.args.instance.now c.deref.result.now c.deref-2.result.now
 closed c = closed_whole c.args.instance.now c.deref.result.now c.deref-2.result.now c.requires.kept
     c.requires.filled (alone c)
     (subst (Lists (IsLighting c.args.instance.now)) (sym c.deref-2.ensures.value) c.in_ok-placed.ensures)

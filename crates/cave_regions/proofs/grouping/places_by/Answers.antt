@@ -1,6 +1,6 @@
 use Rattle.std.proofs.Common.{ℕ, List, ◌<◌, refl, sym, ◌∙◌, ap, subst, length, arith}
 use Rattle.bit_rows.specs.Bits.{Has}
-use Rattle.cave_regions.specs.Grouping.{IsPlaceOf}
+use Rattle.cave_regions.specs.Grouping.{IsPlaceOfLabel}
 use Rattle.cave_regions.proofs.BucketLemmas.{grouping_push, grouping_skip, grouping_all}
 use Rattle.cave_regions.proofs.grouping.places_by.Goals.{in-Some+in_ok-push, in_default}
 use Rattle.cave_regions.proofs.grouping.places_by.Goals as goal
@@ -12,19 +12,19 @@ loop-place-preserved c = elim c.match-first.branch [
       let inside : c.loop-place.place < length c.args.instance.now.places =
       omega (arith, c.loop-place-test.true, c.count_of-place-end.ensures.count, ap length c.places.ensures.places)
       in
-      rw w.buckets-is (grouping_push (IsPlaceOf c.args.instance.now c.args.labels.now)
+      rw w.buckets-is (grouping_push (IsPlaceOfLabel c.args.instance.now c.args.labels.now)
       (length c.args.labels.now) c.loop-place.place _ c.loop-place.buckets w.push.new.self
       (record { inside = inside; cell = w.in-Some.cell; lit = lit; there = refl })
       (λ other is. sym is.there ∙ c.requires.labels.linked c.loop-place.place inside is.cell w.in-Some.cell is.lit lit)
       w.in_ok-push.ensures c.loop-place.invariant))
-  | in_default w ↦ rw w.buckets-is (grouping_skip (IsPlaceOf c.args.instance.now c.args.labels.now)
+  | in_default w ↦ rw w.buckets-is (grouping_skip (IsPlaceOfLabel c.args.instance.now c.args.labels.now)
       (length c.args.labels.now) c.loop-place.place c.loop-place.buckets
       (λ other is. w.in_default.ensures is.cell
       (subst (λ (row : List ℕ). Has row is.cell) (sym c.row_at.ensures.row) is.lit)) c.loop-place.invariant)
 ]
 
 pub returns : goal.returns
-returns c = grouping_all (IsPlaceOf c.args.instance.now c.args.labels.now)
+returns c = grouping_all (IsPlaceOfLabel c.args.instance.now c.args.labels.now)
     (length c.args.labels.now) c.loop-place.place c.loop-place.buckets
     (λ key i is. (let inside = is.inside in
     omega (arith, c.count_of-place-end.ensures.count, ap length c.places.ensures.places)))

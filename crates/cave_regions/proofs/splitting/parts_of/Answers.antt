@@ -2,8 +2,8 @@ use Rattle.std.proofs.Common.{◌<◌, ◌≤◌, ◌≡◌, ℕ, List, length, 
 use Rattle.std.proofs.lemmas.Bool.Decides.{nat_tests}
 use Rattle.cave_model.specs.Listing.{Lists}
 use Rattle.set_cover.proofs.OrderLemmas.{element_of}
-use Rattle.cave_regions.specs.Grouping.{IsCellOf, IsPlaceOf, AreGroups, bucket}
-use Rattle.cave_regions.specs.Restricting.{IsClosed}
+use Rattle.cave_regions.specs.Grouping.{IsCellOf, IsPlaceOfLabel, AreGroups, bucket}
+use Rattle.cave_regions.specs.Restricting.{IsSelfContained}
 use Rattle.cave_regions.proofs.SplitLemmas.{splitting_push, splitting_skip, regions_of}
 use Rattle.cave_regions.proofs.LabelLemmas.{closed_label, region_of, is_label}
 use Rattle.cave_regions.proofs.splitting.parts_of.Goals.{After-as_mut_slice-ranks}
@@ -17,16 +17,16 @@ cells c label = (subst (λ (labels : List ℕ). AreGroups (IsCellOf labels) (len
     c.deref.ensures.value c.in_ok-cells.ensures).each label
 
 places : (c : After-as_mut_slice-ranks) (label : ℕ)
-    → Lists (IsPlaceOf c.args.instance.now c.in_ok-labels.labels.items label) (bucket c.in_ok-places.places label)
-places c label = (subst (λ (labels : List ℕ). AreGroups (IsPlaceOf c.args.instance.now labels)
+    → Lists (IsPlaceOfLabel c.args.instance.now c.in_ok-labels.labels.items label) (bucket c.in_ok-places.places label)
+places c label = (subst (λ (labels : List ℕ). AreGroups (IsPlaceOfLabel c.args.instance.now labels)
     (length labels) c.in_ok-places.places) c.deref-2.ensures.value c.in_ok-places.ensures).each label
 
 closed : (c : After-as_mut_slice-ranks) (label : ℕ) (own placed : List ℕ) → own ≡ bucket c.in_ok-cells.cells label
-    → placed ≡ bucket c.in_ok-places.places label → 0 < length own → IsClosed c.args.instance.now own placed
+    → placed ≡ bucket c.in_ok-places.places label → 0 < length own → IsSelfContained c.args.instance.now own placed
 closed c label own placed e f filled = closed_label c.args.instance.now c.in_ok-labels.labels.items own placed label
     c.requires.kept c.in_ok-labels.ensures.labels
     (subst (Lists (IsCellOf c.in_ok-labels.labels.items label)) (sym e) (cells c label))
-    (subst (Lists (IsPlaceOf c.args.instance.now c.in_ok-labels.labels.items label)) (sym f) (places c label))
+    (subst (Lists (IsPlaceOfLabel c.args.instance.now c.in_ok-labels.labels.items label)) (sym f) (places c label))
     filled
 
 pub restrict-requires-clause-closed : goal.restrict-requires-clause-closed
@@ -47,8 +47,8 @@ loop-label-preserved c =
           (let filled : 0 < length c.at-own.result.now =
           grind (arith, nat_tests, c.is_empty.ensures, w.if-not-is_empty.true) in
           let shut = closed before label c.at-own.result.now w.at.result.now c.at-own.ensures w.at.ensures filled in
-          let placed : Lists (IsPlaceOf c.args.instance.now c.in_ok-labels.labels.items label) w.at.result.now
-          = subst (Lists (IsPlaceOf c.args.instance.now c.in_ok-labels.labels.items label)) (sym w.at.ensures)
+          let placed : Lists (IsPlaceOfLabel c.args.instance.now c.in_ok-labels.labels.items label) w.at.result.now
+          = subst (Lists (IsPlaceOfLabel c.args.instance.now c.in_ok-labels.labels.items label)) (sym w.at.ensures)
           (places before label) in
           let first = (own.exact _).0 (element_of c.at-own.result.now (slice_index c.at-own.result.now 0) 0 filled refl)
           in

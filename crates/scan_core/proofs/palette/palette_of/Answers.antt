@@ -1,7 +1,7 @@
 use Rattle.std.proofs.Common.{inl, codes}
 use Rattle.nbt_core.specs.Value.{field}
 use Rattle.scan_core.specs.Faults.{name_fault}
-use Rattle.scan_core.specs.Scan.{IsStateOf}
+use Rattle.scan_core.specs.Scan.{IsEntryState}
 use Rattle.scan_core.specs.declared.fault.Field.TheVariants as fields
 use Rattle.scan_core.proofs.ListLemmas.{list_wrong, tells_list}
 use Rattle.scan_core.proofs.palette.palette_of.Goals as goal
@@ -13,6 +13,6 @@ returns-in_default-compounds c =
 
 pub returns : goal.returns
 returns c =
-    tells_list IsStateOf (λ states. states.items) fields.PaletteField name_fault
+    tells_list IsEntryState (λ states. states.items) fields.PaletteField name_fault
     (field (codes "palette") c.args.root.now) c.in-Some.value c.in-Some-compounds.entries c.states_of.result
     c.in-Some.ensures c.in-Some-compounds.ensures c.states_of.ensures

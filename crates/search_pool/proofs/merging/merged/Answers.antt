@@ -5,7 +5,7 @@ use Rattle.proof_rules.specs.Tree.{Tree}
 use Rattle.gathering.specs.Gathered.{IsGathered}
 use Rattle.schedule_law.specs.Worked.{Worked}
 use Rattle.search_pool.specs.Reports.{sum_of}
-use Rattle.search_pool.specs.Tallies.{AreCounted}
+use Rattle.search_pool.specs.Tallies.{AreTallied}
 use Rattle.search_pool.proofs.ReportLemmas.{all_by_workers, all_came, all_gleaned, counted_at}
 use Rattle.search_pool.proofs.merging.merged.Goals as goal
 
@@ -16,7 +16,7 @@ report-requires-clause-gleaned c =
     let all = counted_at (arc_value c.args.region.now) c.args.first.places c.args.root.now works left
     c.requires.run.joined c.cell.result _ c.cell.ensures c.in-Ok.ensures.gathered in
     let tally = c.counted-counts.result in
-    let told = subst (λ (l : List Worked). AreCounted l tally) c.deref.ensures.value c.counted-counts.ensures.counted in
+    let told = subst (λ (l : List Worked). AreTallied l tally) c.deref.ensures.value c.counted-counts.ensures.counted in
     let gleaned = all_gleaned works left _ tally all told in
     let long = c.len-left.ensures in
     omega (arith, gleaned, long)
@@ -26,7 +26,7 @@ returns-in-Ok-clause-counts c =
     let works = c.args.ran.joined.works.items in
     let left = c.args.ran.joined.left.items in
     let tally = c.counted-counts.result in
-    let told = subst (λ (l : List Worked). AreCounted l tally) c.deref.ensures.value c.counted-counts.ensures.counted in
+    let told = subst (λ (l : List Worked). AreTallied l tally) c.deref.ensures.value c.counted-counts.ensures.counted in
     let all = counted_at (arc_value c.args.region.now) c.args.first.places c.args.root.now works left
     c.requires.run.joined c.cell.result _ c.cell.ensures c.in-Ok.ensures.gathered in
     let gleaned = all_gleaned works left _ tally all told in
@@ -46,7 +46,7 @@ returns-in-Ok-clause-report c =
     let left = c.args.ran.joined.left.items in
     let root = c.args.root.now in
     let tally = c.counted-counts.result in
-    let told = subst (λ (l : List Worked). AreCounted l tally) c.deref.ensures.value c.counted-counts.ensures.counted in
+    let told = subst (λ (l : List Worked). AreTallied l tally) c.deref.ensures.value c.counted-counts.ensures.counted in
     let run = c.requires.run in
     let gathered = c.in-Ok.gathered in
     let came = all_came region c.args.first.places root works left run.joined tally c.requires.root told in

@@ -3,7 +3,7 @@ use Rattle.proof_tree.specs.Piece.{Subproblem}
 use Rattle.proof_tree.specs.Shape.{tree_of}
 use Rattle.event_core.specs.State.{closed}
 use Rattle.event_core.specs.Events.{Turns}
-use Rattle.event_core.specs.Sound.{IsSound}
+use Rattle.event_core.specs.Sound.{IsSoundState}
 use Rattle.event_core.specs.Shape.{settled}
 use Rattle.event_core.specs.Kept.{Kept, state_of, put_kept}
 use Rattle.event_core.specs.declared.event.Event.TheVariants.{Close}
@@ -19,7 +19,7 @@ turn-requires-clause-sound c =
     ∙ ap (λ (p : Subproblem). p.name) c.piece.ensures.piece in
     let same = close_same kept k c.deref.result.now c.floor_of-floor.result (tree_of c.into_proof.result) named
     c.floor_of-floor.ensures.floor c.into_proof.ensures.tree in
-    subst (λ (x : Kept). IsSound (state_of x)) (sym same)
+    subst (λ (x : Kept). IsSoundState (state_of x)) (sym same)
     (does_sound (state_of kept) (Close w k) (state_of (put_kept kept k.piece.name (settled k.floor k.tree)))
     c.in_ok-may.ensures.kept.sound may (close_turns kept w k may))
 

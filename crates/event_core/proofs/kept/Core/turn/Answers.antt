@@ -1,6 +1,6 @@
 use Rattle.std.proofs.Common.{◌≡◌, sym, ap, ◌∙◌, subst}
 use Rattle.std.specs.Arc.{arc_value}
-use Rattle.event_core.specs.Sound.{IsSound}
+use Rattle.event_core.specs.Sound.{IsSoundState}
 use Rattle.event_core.specs.Shape.{Shape, put_in}
 use Rattle.event_core.specs.Nodes.{shape_of}
 use Rattle.event_core.specs.Kept.{Kept, IsKept, state_of, put_kept}
@@ -19,7 +19,7 @@ invariant_of-self c =
     } in
     let is : shape_of c.put.result ≡ put_in (shape_of inside.root) name shape = c.put.ensures
     ∙ ap (λ (n : Node). put_in (shape_of n) name shape) c.replace-root.ensures.value in
-    let sound = subst (λ (k : Kept). IsSound (state_of (put_kept k name shape)))
+    let sound = subst (λ (k : Kept). IsSoundState (state_of (put_kept k name shape)))
     (sym c.self.view_is) c.requires.sound in (
       c.self.invariant.0,
       subst (λ (s : Shape). IsKept (record v { root = s })) (sym is)

@@ -1,13 +1,14 @@
 use Rattle.std.proofs.Common.{◌≡◌, ◌<◌, length, slice_index, sym, subst, ◌∙◌}
 use Rattle.std.proofs.lemmas.Grind.{get_or_default_zero}
-use Rattle.light_flood.specs.Dense.{Kept}
+use Rattle.light_flood.specs.Dense.{DenseLevels}
 use Rattle.light_flood.proofs.DenseLemmas.{kept_lit, kept_new}
 use Rattle.light_flood.proofs.dense.DenseStore.raise.Goals.{then-index-eq0+in_ok-push, else-index-eq0}
 use Rattle.light_flood.proofs.dense.DenseStore.raise.Goals as goal
 
 pub invariant_of-self-2 : goal.invariant_of-self-2
 invariant_of-self-2 c =
-    let inside : c.args.cell < length c.self.inside.levels.items = subst (λ (k : Kept). c.args.cell < length k.levels)
+    let inside : c.args.cell < length c.self.inside.levels.items = subst
+    (λ (k : DenseLevels). c.args.cell < length k.levels)
     (sym c.self.view_is) c.requires.in_box in
     let level : c.index.result.now ≡ slice_index c.self.inside.levels.items c.args.cell = c.index.ensures
     ∙ get_or_default_zero c.self.inside.levels.items c.args.cell c.index.result.now inside in
