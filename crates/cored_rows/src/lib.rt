@@ -11,12 +11,8 @@ mod deques;
 #[cfg(test)]
 mod desks;
 #[cfg(test)]
-mod enabled;
-#[cfg(test)]
 mod felt;
 #[cfg(test)]
 mod gathered;
 #[cfg(test)]
 mod kids;
-#[cfg(test)]
-mod refused;

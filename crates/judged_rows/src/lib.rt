@@ -2,11 +2,7 @@
 #![tactic(auto)]
 
 #[cfg(test)]
-mod bars;
-#[cfg(test)]
 mod caves;
-#[cfg(test)]
-mod changed;
 #[cfg(test)]
 mod faults;
 #[cfg(test)]

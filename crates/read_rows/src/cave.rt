@@ -2,7 +2,6 @@
 ghost use Rattle.std.specs.Prelude.{◌<◌};
 ghost use Rattle.scan_core.specs.Box.{cell_count};
 
-mod build;
 mod large;
 
 use block_rows::Rows;

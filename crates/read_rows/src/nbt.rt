@@ -5,6 +5,4 @@ mod faults;
 mod files;
 mod hostile;
 mod large;
-mod leaves;
 mod memory;
-mod names;

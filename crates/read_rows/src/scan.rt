@@ -1,6 +1,5 @@
 //! What no clause shows: the structures that whole files mean, each fault and its text, and memory.
 mod boxes;
-mod caves;
 mod large;
 mod memory;
 mod printed;

@@ -1,6 +1,5 @@
 mod faults;
 mod large;
-mod shipped;
 
 use block_rows::{Class, Rows};
 use nbt_core::Sequence;

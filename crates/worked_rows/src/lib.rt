@@ -8,10 +8,6 @@ mod caves;
 #[cfg(test)]
 mod check_streams;
 #[cfg(test)]
-mod coverage;
-#[cfg(test)]
-mod dark;
-#[cfg(test)]
 mod failing;
 #[cfg(test)]
 mod headroom;
@@ -35,7 +31,5 @@ mod running;
 mod shelf;
 #[cfg(test)]
 mod streams;
-#[cfg(test)]
-mod tables;
 #[cfg(test)]
 mod words;
