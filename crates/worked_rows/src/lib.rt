@@ -8,6 +8,8 @@ mod caves;
 #[cfg(test)]
 mod check_streams;
 #[cfg(test)]
+mod dark;
+#[cfg(test)]
 mod failing;
 #[cfg(test)]
 mod headroom;
@@ -31,5 +33,7 @@ mod running;
 mod shelf;
 #[cfg(test)]
 mod streams;
+#[cfg(test)]
+mod tables;
 #[cfg(test)]
 mod words;
