@@ -12,3 +12,4 @@ pub use crew::Crew;
 pub use drawing::plan_text;
 pub use fault::PlanFault;
 pub use outline::{Outline, plan_cave};
+pub use search_pool::{Gate, Open, Workers};

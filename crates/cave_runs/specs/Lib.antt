@@ -1,7 +1,6 @@
 -- public clauses cite
 pub mod Limits
 pub mod DarkText
-pub mod Reading
 pub mod Faults
 pub mod Runs
 pub mod PlanRuns

@@ -3,11 +3,11 @@ ghost use Rattle.std.specs.Prelude.{◌≡◌, ◌≢◌, ◌<◌, IfOk, IfErr, 
 ghost use Rattle.nbt_core.specs.Answer.{IsRefusal};
 ghost use Rattle.cave_model.specs.RuleOf.{rule_of};
 ghost use Rattle.cave_plan.specs.Outline.{IsOutlineOf, IsPlanned};
+ghost use Rattle.proof_check.specs.Reading.{GivesAtMost};
 ghost use Rattle.proof_tree.specs.PlanOf.{plans_of};
 ghost use Rattle.cave_runs.specs.Limits.{structure_limit};
 ghost use Rattle.cave_runs.specs.PlanRuns.{EndsIn, IsNoPlan, IsNoPlanOfInput, NamesUnlit, Leaves};
 ghost use Rattle.cave_runs.specs.PlanRuns.{LeavesIn, LeavesProved, Plans, TellsPlans, WritesBest};
-ghost use Rattle.cave_runs.specs.Reading.{GivesAtMost};
 ghost use Rattle.cave_runs.specs.Runs.{IsOfInput, IsRefusedRun};
 ghost use Rattle.cave_runs.specs.declared.fault.RunFault.{RunFault};
 
@@ -16,10 +16,9 @@ use crate::limits::STRUCTURE_LIMIT;
 use crate::reading::read_all;
 use crate::writing::put_all;
 use cave_model::{Rule, World, read_cave};
-use cave_plan::{Crew, Outline, PlanFault, plan_cave};
+use cave_plan::{Crew, Gate, Outline, PlanFault, Workers, plan_cave};
 use proof_tree::write_certificate;
 use scan_core::coordinates;
-use search_pool::{Gate, Workers};
 use std::alloc::Global;
 use std::io::{Read, Write};
 use std::sync::Wait;

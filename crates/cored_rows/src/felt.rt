@@ -1,20 +1,19 @@
-//! The felt ring, its covers, and pieces that are closed. Places 111, 114 and 118 leave the cells 188, 185 and 181
-//! dark, and each lights the other 27.
+//! The felt ring and others, and cores over them. Places 111, 114 and 118 leave the cells 188, 185 and 181 dark, and
+//! each lights the other 27.
 use block_rows::Rows;
 use cave_files::{Block, Fill, Structure};
 use cave_model::{Rule, World, build};
-use cave_regions::{Cover, Region, split};
+use cave_regions::{Region, split};
 use cover_rows::Problem;
 use event_core::{Core, Event};
-use pack_bound::{cover_of, first_plan, is_cover};
-use proof_tree::{Closed, Name, Piece, Proof};
+use pack_bound::first_plan;
+use proof_tree::Name;
 use scan_core::read_scan;
-use search_core::{AloneDesk, close_piece};
 use std::alloc::{AllocError, Global};
 use std::sync::Arc;
 use std::test::Fail;
 
-const TABLE: &[u8] = b"[[row]]\nname = \"cave:felt\"\nopacity = 15\nstand = true\n";
+pub(crate) const TABLE: &[u8] = b"[[row]]\nname = \"cave:felt\"\nopacity = 15\nstand = true\n";
 
 /// The same, but it holds torches on its top and on its sides.
 const STONY_TABLE: &[u8] =
@@ -63,7 +62,7 @@ fn world(alloc: Global, stones: &[i32], table: &[u8]) -> Result<World, Fail> {
 }
 
 /// Its region.
-fn ring(alloc: Global, stones: &[i32], table: &[u8]) -> Result<Arc<Region>, Fail> {
+pub(crate) fn ring(alloc: Global, stones: &[i32], table: &[u8]) -> Result<Arc<Region>, Fail> {
     let world = world(alloc, stones, table)?;
     let problem = Problem::new(alloc, &world)?;
     match split(alloc, &problem)?.pop() {
@@ -82,28 +81,9 @@ pub(crate) fn felt_ring(alloc: Global) -> Result<Arc<Region>, Fail> {
     ring(alloc, &[1, 4, 8], TABLE)
 }
 
-/// The places 111 and 118 alone.
-pub(crate) fn other_ring(alloc: Global) -> Result<Arc<Region>, Fail> {
-    ring(alloc, &[1, 8], TABLE)
-}
-
 /// Torches may hang all about it: each cell is lit by 52 places, and two places are fewest.
 pub(crate) fn stone_ring(alloc: Global) -> Result<Arc<Region>, Fail> {
     ring(alloc, &[], STONY_TABLE)
-}
-
-/// The cover by the places 111 and 114.
-pub(crate) fn small_cover(alloc: Global, region: &Arc<Region>) -> Result<Cover, Fail> {
-    Ok(first_plan(alloc, region)?)
-}
-
-/// The cover by all three places.
-pub(crate) fn large_cover(alloc: Global, region: &Arc<Region>) -> Result<Cover, Fail> {
-    let all = [0, 1, 2];
-    if !is_cover(alloc, region.as_ref(), &all)? {
-        return Err(AllocError.into());
-    }
-    Ok(cover_of(alloc, region, &all)?)
 }
 
 /// A core of two workers.
@@ -111,24 +91,6 @@ pub(crate) fn core_of(alloc: Global, region: &Arc<Region>) -> Result<Core, Fail>
     let cover = first_plan(alloc, region)?;
     let shared = Arc::try_clone(cover.region())?;
     Ok(Core::new(alloc, shared, cover, 2)?)
-}
-
-/// A core of one worker, which begins with the cover by all three places.
-pub(crate) fn large_core(alloc: Global, region: &Arc<Region>) -> Result<Core, Fail> {
-    let cover = large_cover(alloc, region)?;
-    let shared = Arc::try_clone(cover.region())?;
-    Ok(Core::new(alloc, shared, cover, 1)?)
-}
-
-/// The root, closed at a floor of 2.
-pub(crate) fn closed_root(alloc: Global, region: &Arc<Region>) -> Result<Closed, Fail> {
-    let piece = Piece::root(alloc, region)?;
-    let cover = first_plan(alloc, region)?;
-    let mut desk = AloneDesk::new(cover, None);
-    match close_piece(alloc, piece, &mut desk) {
-        Ok(closed) => Ok(closed),
-        Err(_) => Err(AllocError.into()),
-    }
 }
 
 /// What the core answers to these events.
@@ -139,22 +101,6 @@ pub(crate) fn play(alloc: Global, core: &mut Core, events: Vec<Event>) -> Result
         answers.push(done)?;
     }
     Ok(answers)
-}
-
-/// The size of the best cover, and how many kids the tree has; none where the core isn't done.
-pub(crate) fn assembled(core: Core) -> Option<(u64, usize)> {
-    match core.assemble() {
-        Ok((cover, proof)) => Some((cover.size(), kids_of(&proof))),
-        Err(_) => None,
-    }
-}
-
-fn kids_of(proof: &Proof) -> usize {
-    match proof {
-        Proof::Leaf(_) => 0,
-        Proof::Branch { cell: _, kids } => kids.trees().len(),
-        Proof::Bar { .. } => 1,
-    }
 }
 
 pub(crate) fn root_name(alloc: Global) -> Name {

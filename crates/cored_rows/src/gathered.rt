@@ -33,15 +33,24 @@ fn first_kid(alloc: Global, region: &Arc<Region>) -> Result<Vec<Closed>, Fail> {
     Ok(found)
 }
 
-/// The results of a worker that closed these pieces.
-fn work(alloc: Global, closed: Vec<Closed>) -> Work {
-    Work {
-        cover: None,
-        closed,
-        opened: Vec::new(alloc),
-        held: Vec::new(alloc),
-        refused: Vec::new(alloc),
+/// The results of workers, of which each has closed the first kid or nothing.
+fn works_of(alloc: Global, region: &Arc<Region>, closing: &[bool]) -> Result<Vec<Work>, Fail> {
+    let mut works = Vec::new(alloc);
+    for closes in closing {
+        let closed = if *closes {
+            first_kid(alloc, region)?
+        } else {
+            Vec::new(alloc)
+        };
+        works.push(Work {
+            cover: None,
+            closed,
+            opened: Vec::new(alloc),
+            held: Vec::new(alloc),
+            refused: Vec::new(alloc),
+        })?;
     }
+    Ok(works)
 }
 
 /// The size of the cover, how many pieces of each work counted, and how many were gleaned.
@@ -52,45 +61,60 @@ fn counts(answer: Result<Gathered, PoolFault>) -> Option<(u64, Vec<u64>, usize)>
     }
 }
 
-#[test]
-fn with_no_works_all_is_gleaned(rt: HostRuntime) -> Result<(), Fail> {
-    let alloc = rt.alloc();
-    let region = stone_ring(alloc)?;
-    let answer = gathered(alloc, &region, Vec::new(alloc), None)?;
-    assert_eq!(rt; counts(answer), Some((2, Vec::new(alloc), 52)));
-    Ok(())
+/// Which workers have closed the first kid, of the stone ring or of the other one, how many pieces of each counted,
+/// and how many were gleaned.
+#[derive(Clone, Copy)]
+struct Counted {
+    is_other: bool,
+    closing: &'static [bool],
+    closed_by: &'static [u64],
+    gleaned: usize,
 }
 
-#[test]
-fn two_empty_works_leave_all_to_be_gleaned(rt: HostRuntime) -> Result<(), Fail> {
-    let alloc = rt.alloc();
-    let region = stone_ring(alloc)?;
-    let none = work(alloc, Vec::new(alloc));
-    let works = vec![in alloc; none, work(alloc, Vec::new(alloc))]?;
-    let answer = gathered(alloc, &region, works, None)?;
-    assert_eq!(rt; counts(answer), Some((2, vec![in alloc; 0, 0]?, 52)));
-    Ok(())
-}
+const COUNTED: [Counted; 4] = [
+    Counted {
+        is_other: false,
+        closing: &[],
+        closed_by: &[],
+        gleaned: 52,
+    },
+    Counted {
+        is_other: false,
+        closing: &[false, false],
+        closed_by: &[0, 0],
+        gleaned: 52,
+    },
+    // A piece that is closed in two works counts for the first.
+    Counted {
+        is_other: false,
+        closing: &[true, true],
+        closed_by: &[1, 0],
+        gleaned: 51,
+    },
+    // A work of another region counts nothing.
+    Counted {
+        is_other: true,
+        closing: &[true],
+        closed_by: &[0],
+        gleaned: 52,
+    },
+];
 
 #[test]
-fn a_piece_closed_in_two_works_counts_for_the_first(rt: HostRuntime) -> Result<(), Fail> {
+fn pieces_count_once_and_what_no_work_has_is_gleaned(rt: HostRuntime) -> Result<(), Fail> {
     let alloc = rt.alloc();
     let region = stone_ring(alloc)?;
-    let first = work(alloc, first_kid(alloc, &region)?);
-    let works = vec![in alloc; first, work(alloc, first_kid(alloc, &region)?)]?;
-    let answer = gathered(alloc, &region, works, None)?;
-    assert_eq!(rt; counts(answer), Some((2, vec![in alloc; 1, 0]?, 51)));
-    Ok(())
-}
-
-#[test]
-fn a_work_of_another_region_counts_nothing(rt: HostRuntime) -> Result<(), Fail> {
-    let alloc = rt.alloc();
-    let region = stone_ring(alloc)?;
-    let stranger = felt_ring(alloc)?;
-    let works = vec![in alloc; work(alloc, first_kid(alloc, &stranger)?)]?;
-    let answer = gathered(alloc, &region, works, None)?;
-    assert_eq!(rt; counts(answer), Some((2, vec![in alloc; 0]?, 52)));
+    let other = felt_ring(alloc)?;
+    for row in COUNTED {
+        let works = if row.is_other {
+            works_of(alloc, &other, row.closing)?
+        } else {
+            works_of(alloc, &region, row.closing)?
+        };
+        let closed_by = Vec::from_slice(alloc, row.closed_by)?;
+        let answer = gathered(alloc, &region, works, None)?;
+        assert_eq!(rt; counts(answer), Some((2, closed_by, row.gleaned)));
+    }
     Ok(())
 }
 

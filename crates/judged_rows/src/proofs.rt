@@ -21,6 +21,15 @@ pub const PILLAR: &[&str] = &[
     "end",
 ];
 
+/// Its first five lines.
+pub const PILLAR_FRONT: &[&str] = &[
+    "torchproof 1",
+    "box 1 3 1",
+    "headroom 2",
+    "regions 1",
+    "region 1 1",
+];
+
 /// The pillar's, by a branch.
 pub const PILLAR_BRANCH: &[&str] = &[
     "torchproof 1",

@@ -1,7 +1,6 @@
 //! Certificates from readers.
 
-use crate::judging::{Case, plain, rule, said_of, text};
-use crate::worked::{BEFORE, RING};
+use crate::judging::{Case, rule, said_of, text};
 use crate::{caves, proofs};
 use proof_check::{CheckFault, Verdict, check_from};
 use std::alloc::Global;
@@ -57,7 +56,7 @@ const fn reader_of(rest: &[u8], fails_at: usize) -> Reading<'_> {
 }
 
 /// What is printed of a certificate that comes byte by byte, and of the same in one piece.
-fn both_ways(alloc: Global, case: Case<'_>, lines: &[&str]) -> Result<(String, String), Fail> {
+pub fn both_ways(alloc: Global, case: Case<'_>, lines: &[&str]) -> Result<(String, String), Fail> {
     let structure = case.cave.bytes(alloc)?;
     let bytes = text(alloc, lines)?;
     let limit = bytes.len() as u64;
@@ -85,57 +84,6 @@ fn of_pillar(
     let bytes = text(alloc, proofs::PILLAR)?;
     let mut reader = reader_of(&bytes, fails_at);
     check_from(alloc, structure, None, rule(1), &mut reader, limit)
-}
-
-/// Whether both ways this is printed.
-fn is_said(alloc: Global, case: Case<'_>, lines: &[&str], due: &str) -> Result<bool, Fail> {
-    let (slow, whole) = both_ways(alloc, case, lines)?;
-    Ok(slow.as_str() == due && whole.as_str() == due)
-}
-
-#[test]
-fn worked_certificates_may_come_byte_by_byte(rt: HostRuntime) -> Result<(), Fail> {
-    let alloc = rt.alloc();
-    let corridor = plain(&caves::CORRIDOR_27);
-    assert!(rt; is_said(alloc, plain(&caves::EMPTY), proofs::EMPTY, "accepted 0")?);
-    assert!(rt; is_said(alloc, plain(&caves::PILLAR), proofs::PILLAR, "accepted 1")?);
-    assert!(rt;
-        is_said(
-            alloc,
-            plain(&caves::PILLAR),
-            proofs::PILLAR_BRANCH,
-            "accepted 1"
-        )?
-    );
-    assert!(rt; is_said(alloc, corridor, proofs::CORRIDOR_27, "accepted 1")?);
-    assert!(rt; is_said(alloc, corridor, proofs::BARRED, "accepted 1")?);
-    Ok(())
-}
-
-#[test]
-fn larger_certificates_may_come_byte_by_byte(rt: HostRuntime) -> Result<(), Fail> {
-    let alloc = rt.alloc();
-    let long = plain(&caves::CORRIDOR_28);
-    let two = plain(&caves::TWO_CORRIDORS);
-    assert!(rt; is_said(alloc, long, proofs::CORRIDOR_28, "accepted 2")?);
-    assert!(rt; is_said(alloc, RING, proofs::FELT_RING, "accepted 2")?);
-    assert!(rt; is_said(alloc, two, proofs::TWO_CORRIDORS, "accepted 2")?);
-    assert!(rt; is_said(alloc, BEFORE, proofs::NEED_8, "accepted 3")?);
-    Ok(())
-}
-
-#[test]
-fn refused_certificates_may_come_byte_by_byte(rt: HostRuntime) -> Result<(), Fail> {
-    let (slow, whole) = both_ways(rt.alloc(), plain(&caves::CORRIDOR_28), proofs::CUT_28)?;
-    assert_eq!(rt; slow.as_str(), "rejected: bad regions 122");
-    assert_eq!(rt; whole.as_str(), "rejected: bad regions 122");
-    let (slow, whole) = both_ways(rt.alloc(), plain(&caves::PILLAR), proofs::CORRIDOR_28)?;
-    assert_eq!(rt; slow.as_str(), "rejected: wrong box");
-    assert_eq!(rt; whole.as_str(), "rejected: wrong box");
-    let (slow, whole) = both_ways(rt.alloc(), plain(&caves::PILLAR), &proofs::PILLAR[..5])?;
-    assert_eq!(rt; slow.as_str(), "rejected: syntax line 6");
-    assert_eq!(rt; whole.as_str(), "rejected: syntax line 6");
-    Ok(())
 }
 
 #[test]
@@ -188,17 +136,5 @@ fn the_reader_is_judged_before_the_structure(rt: HostRuntime) -> Result<(), Fail
     assert!(rt; matches!(&ended, Err(CheckFault::TooLong)));
     let ended = of_pillar(alloc, &none, 10, 1000);
     assert!(rt; matches!(&ended, Err(CheckFault::ReadFailed)));
-    Ok(())
-}
-
-#[test]
-fn the_texts_of_faults_in_reading(rt: HostRuntime) -> Result<(), Fail> {
-    let alloc = rt.alloc();
-    let failed = format!(in alloc; "{}", CheckFault::ReadFailed)?;
-    assert_eq!(rt; failed.as_str(), "cannot read");
-    let long = format!(in alloc; "{}", CheckFault::TooLong)?;
-    assert_eq!(rt; long.as_str(), "proof: file too long");
-    let memory = format!(in alloc; "{}", CheckFault::OutOfMemory)?;
-    assert_eq!(rt; memory.as_str(), "out of memory");
     Ok(())
 }

@@ -1,86 +1,129 @@
-//! Certificates that are accepted.
+//! Certificates and their verdicts, each read in one piece and byte by byte.
 
-use crate::judging::{Case, plain, said};
+use crate::judging::Case;
+use crate::streams::both_ways;
 use crate::{caves, proofs};
+use cave_files::Structure;
 use std::test::Fail;
 
-/// The ring of felt, with its table.
-pub const RING: Case<'static> = Case {
-    cave: &caves::FELT_RING,
-    table: Some(caves::FELT_TABLE),
-    need: 1,
-};
-
-/// The corridor of 27 cells before 1.18.
-pub const BEFORE: Case<'static> = Case {
-    cave: &caves::CORRIDOR_27,
-    table: None,
-    need: 8,
-};
-
-#[test]
-fn an_empty_box_needs_no_torch(rt: HostRuntime) -> Result<(), Fail> {
-    let answer = said(rt.alloc(), plain(&caves::EMPTY), proofs::EMPTY)?;
-    assert_eq!(rt; answer.as_str(), "accepted 0");
-    Ok(())
+/// A cave, its table and the need, a certificate, and what is printed of it.
+#[derive(Clone, Copy)]
+struct Judged {
+    cave: &'static Structure<'static>,
+    table: Option<&'static [u8]>,
+    need: u8,
+    lines: &'static [&'static str],
+    said: &'static str,
 }
 
-#[test]
-fn the_pillar_is_proved_by_a_leaf(rt: HostRuntime) -> Result<(), Fail> {
-    let answer = said(rt.alloc(), plain(&caves::PILLAR), proofs::PILLAR)?;
-    assert_eq!(rt; answer.as_str(), "accepted 1");
-    Ok(())
-}
+const JUDGED: [Judged; 13] = [
+    Judged {
+        cave: &caves::EMPTY,
+        table: None,
+        need: 1,
+        lines: proofs::EMPTY,
+        said: "accepted 0",
+    },
+    // By a leaf.
+    Judged {
+        cave: &caves::PILLAR,
+        table: None,
+        need: 1,
+        lines: proofs::PILLAR,
+        said: "accepted 1",
+    },
+    // By a branch.
+    Judged {
+        cave: &caves::PILLAR,
+        table: None,
+        need: 1,
+        lines: proofs::PILLAR_BRANCH,
+        said: "accepted 1",
+    },
+    Judged {
+        cave: &caves::CORRIDOR_27,
+        table: None,
+        need: 1,
+        lines: proofs::CORRIDOR_27,
+        said: "accepted 1",
+    },
+    Judged {
+        cave: &caves::CORRIDOR_27,
+        table: None,
+        need: 1,
+        lines: proofs::BARRED,
+        said: "accepted 1",
+    },
+    Judged {
+        cave: &caves::CORRIDOR_28,
+        table: None,
+        need: 1,
+        lines: proofs::CORRIDOR_28,
+        said: "accepted 2",
+    },
+    Judged {
+        cave: &caves::PLUS,
+        table: None,
+        need: 1,
+        lines: proofs::PLUS,
+        said: "accepted 4",
+    },
+    Judged {
+        cave: &caves::FELT_RING,
+        table: Some(caves::FELT_TABLE),
+        need: 1,
+        lines: proofs::FELT_RING,
+        said: "accepted 2",
+    },
+    Judged {
+        cave: &caves::TWO_CORRIDORS,
+        table: None,
+        need: 1,
+        lines: proofs::TWO_CORRIDORS,
+        said: "accepted 2",
+    },
+    // Before 1.18 the corridor of 27 cells needs three.
+    Judged {
+        cave: &caves::CORRIDOR_27,
+        table: None,
+        need: 8,
+        lines: proofs::NEED_8,
+        said: "accepted 3",
+    },
+    Judged {
+        cave: &caves::CORRIDOR_28,
+        table: None,
+        need: 1,
+        lines: proofs::CUT_28,
+        said: "rejected: bad regions 122",
+    },
+    Judged {
+        cave: &caves::PILLAR,
+        table: None,
+        need: 1,
+        lines: proofs::CORRIDOR_28,
+        said: "rejected: wrong box",
+    },
+    Judged {
+        cave: &caves::PILLAR,
+        table: None,
+        need: 1,
+        lines: proofs::PILLAR_FRONT,
+        said: "rejected: syntax line 6",
+    },
+];
 
 #[test]
-fn the_pillar_is_proved_by_a_branch(rt: HostRuntime) -> Result<(), Fail> {
-    let answer = said(rt.alloc(), plain(&caves::PILLAR), proofs::PILLAR_BRANCH)?;
-    assert_eq!(rt; answer.as_str(), "accepted 1");
-    Ok(())
-}
-
-#[test]
-fn a_corridor_of_27_needs_one_torch(rt: HostRuntime) -> Result<(), Fail> {
-    let answer = said(rt.alloc(), plain(&caves::CORRIDOR_27), proofs::CORRIDOR_27)?;
-    assert_eq!(rt; answer.as_str(), "accepted 1");
-    Ok(())
-}
-
-#[test]
-fn a_corridor_of_28_needs_two_torches(rt: HostRuntime) -> Result<(), Fail> {
-    let answer = said(rt.alloc(), plain(&caves::CORRIDOR_28), proofs::CORRIDOR_28)?;
-    assert_eq!(rt; answer.as_str(), "accepted 2");
-    Ok(())
-}
-
-#[test]
-fn a_plus_needs_four(rt: HostRuntime) -> Result<(), Fail> {
-    let answer = said(rt.alloc(), plain(&caves::PLUS), proofs::PLUS)?;
-    assert_eq!(rt; answer.as_str(), "accepted 4");
-    Ok(())
-}
-
-#[test]
-fn a_ring_of_felt_needs_two(rt: HostRuntime) -> Result<(), Fail> {
-    let answer = said(rt.alloc(), RING, proofs::FELT_RING)?;
-    assert_eq!(rt; answer.as_str(), "accepted 2");
-    Ok(())
-}
-
-#[test]
-fn two_corridors_are_two_regions(rt: HostRuntime) -> Result<(), Fail> {
-    let answer = said(
-        rt.alloc(),
-        plain(&caves::TWO_CORRIDORS),
-        proofs::TWO_CORRIDORS,
-    )?;
-    assert_eq!(rt; answer.as_str(), "accepted 2");
-    Ok(())
-}
-
-#[test]
-fn before_1_18_the_corridor_of_27_needs_three(rt: HostRuntime) -> Result<(), Fail> {
-    let answer = said(rt.alloc(), BEFORE, proofs::NEED_8)?;
-    assert_eq!(rt; answer.as_str(), "accepted 3");
+fn worked_certificates_have_these_verdicts(rt: HostRuntime) -> Result<(), Fail> {
+    for row in JUDGED {
+        let case = Case {
+            cave: row.cave,
+            table: row.table,
+            need: row.need,
+        };
+        let (slow, whole) = both_ways(rt.alloc(), case, row.lines)?;
+        assert_eq!(rt; slow.as_str(), row.said);
+        assert_eq!(rt; whole.as_str(), row.said);
+    }
     Ok(())
 }

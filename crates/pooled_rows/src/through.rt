@@ -13,11 +13,10 @@ fn planned<X: Threads + Wait + Sync, G: Gate>(
     rt: &X,
     alloc: Global,
     workers: u32,
-    turns: Option<u64>,
     gate: &G,
 ) -> Result<(Result<Outcome, RunFault>, Vec<u8>, Vec<u8>), Fail> {
     let bytes = ring_bytes(alloc)?;
-    planned_file(rt, alloc, &bytes, workers, turns, gate)
+    planned_file(rt, alloc, &bytes, workers, None, gate)
 }
 
 /// The same of a file.
@@ -76,7 +75,7 @@ fn accepted(alloc: Global, bytes: &[u8], proof: &[u8]) -> Result<u64, Fail> {
 fn both_workers_enter_where_a_file_is_planned(rt: HostRuntime) -> Result<(), Fail> {
     let alloc = rt.alloc();
     let gate = Meeting::of([true, true]);
-    let (ended, text, proof) = planned(&rt, alloc, 2, None, &gate)?;
+    let (ended, text, proof) = planned(&rt, alloc, 2, &gate)?;
     assert!(rt; matches!(ended, Ok(Outcome::Done)));
     assert!(rt; text.starts_with(b"torches 2\ndark 28\n"));
     assert!(rt; is_accepted(alloc, &proof)?);
@@ -89,21 +88,11 @@ fn both_workers_enter_where_a_file_is_planned(rt: HostRuntime) -> Result<(), Fai
 fn any_number_of_workers_plans_the_ring(rt: HostRuntime) -> Result<(), Fail> {
     let alloc = rt.alloc();
     for workers in [1, 2, 3, 64] {
-        let (ended, text, proof) = planned(&rt, alloc, workers, None, &Open)?;
+        let (ended, text, proof) = planned(&rt, alloc, workers, &Open)?;
         assert!(rt; matches!(ended, Ok(Outcome::Done)));
         assert!(rt; text.starts_with(b"torches 2\ndark 28\n"));
         assert!(rt; is_accepted(alloc, &proof)?);
     }
-    Ok(())
-}
-
-#[test]
-fn two_turns_of_two_workers_stop_the_run(rt: HostRuntime) -> Result<(), Fail> {
-    let alloc = rt.alloc();
-    let (ended, text, proof) = planned(&rt, alloc, 2, Some(2), &Open)?;
-    assert!(rt; matches!(ended, Ok(Outcome::Stopped)));
-    assert!(rt; text.starts_with(b"torches "));
-    assert!(rt; proof.is_empty());
     Ok(())
 }
 
@@ -124,12 +113,14 @@ fn a_ring_two_wide_takes_as_many_torches_by_many_workers(rt: HostRuntime) -> Res
 }
 
 #[test]
-fn two_turns_stop_the_ring_two_wide_too(rt: HostRuntime) -> Result<(), Fail> {
+fn two_turns_of_two_workers_stop_the_run_of_each_ring(rt: HostRuntime) -> Result<(), Fail> {
     let alloc = rt.alloc();
-    let bytes = wide_ring_bytes(alloc)?;
-    let (ended, text, proof) = planned_file(&rt, alloc, &bytes, 2, Some(2), &Open)?;
-    assert!(rt; matches!(ended, Ok(Outcome::Stopped)));
-    assert!(rt; text.starts_with(b"torches "));
-    assert!(rt; proof.is_empty());
+    let (narrow, wide) = (ring_bytes(alloc)?, wide_ring_bytes(alloc)?);
+    for bytes in [narrow, wide] {
+        let (ended, text, proof) = planned_file(&rt, alloc, &bytes, 2, Some(2), &Open)?;
+        assert!(rt; matches!(ended, Ok(Outcome::Stopped)));
+        assert!(rt; text.starts_with(b"torches "));
+        assert!(rt; proof.is_empty());
+    }
     Ok(())
 }

@@ -3,4 +3,3 @@ mod boxes;
 mod large;
 mod memory;
 mod printed;
-mod writer;

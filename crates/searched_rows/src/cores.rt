@@ -7,14 +7,7 @@ use std::sync::Arc;
 use std::test::Fail;
 
 #[test]
-fn a_ring_is_its_own_core(rt: HostRuntime) -> Result<(), Fail> {
-    let region = ring(rt.alloc(), 6)?;
-    assert!(rt; core_region(rt.alloc(), region.as_ref())?.is_none());
-    Ok(())
-}
-
-#[test]
-fn a_dominated_place_is_not_of_the_core(rt: HostRuntime) -> Result<(), Fail> {
+fn a_dominated_place_is_not_of_the_core_and_a_ring_is_its_own(rt: HostRuntime) -> Result<(), Fail> {
     // Places 0 and 1 light cells 0, 1 and 1, 2; place 2 lights cell 2 alone.
     let region = region(rt.alloc(), 3, &[[0, 1], [1, 2], [2, 2]])?;
     let Some(core) = core_region(rt.alloc(), region.as_ref())? else {
@@ -22,6 +15,8 @@ fn a_dominated_place_is_not_of_the_core(rt: HostRuntime) -> Result<(), Fail> {
     };
     assert_eq!(rt; core.places(), [0, 1].as_slice());
     assert_eq!(rt; core.cells(), [0, 1, 2].as_slice());
+    let ring = ring(rt.alloc(), 6)?;
+    assert!(rt; core_region(rt.alloc(), ring.as_ref())?.is_none());
     Ok(())
 }
 

@@ -18,18 +18,15 @@ fn a_ring_of_six_has_three_scattered_cells(rt: HostRuntime) -> Result<(), Fail> 
 }
 
 #[test]
-fn a_place_is_dominated_where_another_lights_its_cells(rt: HostRuntime) -> Result<(), Fail> {
+fn a_place_is_dominated_where_another_lights_its_cells_and_in_a_ring_none_is(
+    rt: HostRuntime,
+) -> Result<(), Fail> {
     // Places 0 and 1 light cells 0, 1 and 1, 2; place 2 lights cell 2 alone.
     let region = region(rt.alloc(), 3, &[[0, 1], [1, 2], [2, 2]])?;
     let piece = Piece::root(rt.alloc(), &region)?;
     assert_eq!(rt; dominated(rt.alloc(), &piece)?, Some((2, 1)));
-    Ok(())
-}
-
-#[test]
-fn no_place_of_a_ring_is_dominated(rt: HostRuntime) -> Result<(), Fail> {
-    let region = ring(rt.alloc(), 6)?;
-    let piece = Piece::root(rt.alloc(), &region)?;
+    let ring = ring(rt.alloc(), 6)?;
+    let piece = Piece::root(rt.alloc(), &ring)?;
     assert_eq!(rt; dominated(rt.alloc(), &piece)?, None);
     Ok(())
 }

@@ -47,33 +47,55 @@ fn kids_of(proof: &Proof) -> usize {
     }
 }
 
+/// A ring of so many cells, with how many turns it is planned, and the number of the plan's places with how many kids
+/// the root of its tree has or, where the turns are spent, with the floor.
+#[derive(Clone, Copy)]
+struct RingPlan {
+    cells: u32,
+    turns: Option<u64>,
+    said: (u64, usize),
+}
+
+/// An even ring is one leaf, which takes one turn; an odd one needs a branch, and stops at its floor without turns.
+const RING_PLANS: [RingPlan; 6] = [
+    RingPlan {
+        cells: 5,
+        turns: None,
+        said: (3, 2),
+    },
+    RingPlan {
+        cells: 7,
+        turns: None,
+        said: (4, 2),
+    },
+    RingPlan {
+        cells: 9,
+        turns: None,
+        said: (5, 2),
+    },
+    RingPlan {
+        cells: 6,
+        turns: None,
+        said: (3, 0),
+    },
+    RingPlan {
+        cells: 6,
+        turns: Some(1),
+        said: (3, 0),
+    },
+    RingPlan {
+        cells: 5,
+        turns: Some(1),
+        said: (3, 2),
+    },
+];
+
 #[test]
-fn an_odd_ring_needs_a_branch(rt: HostRuntime) -> Result<(), Fail> {
-    for (count, fewest) in [(5, 3), (7, 4), (9, 5)] {
-        let region = ring(rt.alloc(), count)?;
-        assert_eq!(rt; planned(rt.alloc(), &region, None)?, (fewest, 2));
+fn rings_are_planned_in_one_leaf_or_a_branch(rt: HostRuntime) -> Result<(), Fail> {
+    for row in RING_PLANS {
+        let region = ring(rt.alloc(), row.cells)?;
+        assert_eq!(rt; planned(rt.alloc(), &region, row.turns)?, row.said);
     }
-    Ok(())
-}
-
-#[test]
-fn an_even_ring_is_one_leaf(rt: HostRuntime) -> Result<(), Fail> {
-    let region = ring(rt.alloc(), 6)?;
-    assert_eq!(rt; planned(rt.alloc(), &region, None)?, (3, 0));
-    Ok(())
-}
-
-#[test]
-fn one_leaf_takes_one_turn(rt: HostRuntime) -> Result<(), Fail> {
-    let region = ring(rt.alloc(), 6)?;
-    assert_eq!(rt; planned(rt.alloc(), &region, Some(1))?, (3, 0));
-    Ok(())
-}
-
-#[test]
-fn a_search_out_of_turns_tells_a_floor(rt: HostRuntime) -> Result<(), Fail> {
-    let region = ring(rt.alloc(), 5)?;
-    assert_eq!(rt; planned(rt.alloc(), &region, Some(1))?, (3, 2));
     Ok(())
 }
 

@@ -1,16 +1,11 @@
 //! The caves of the worked examples.
 
 use block_rows::Rows;
-use cave_files::{Block, Entry, Fill, Structure};
+use cave_files::{Block, Fill, Structure};
 use cave_model::{Rule, World, build};
 use scan_core::read_scan;
 use std::alloc::Global;
 use std::test::Fail;
-
-/// A block without properties.
-pub const fn block(name: &str) -> Block<'_> {
-    Block { name, props: &[] }
-}
 
 /// A state of the palette, from one corner to the other.
 pub const fn fill(from: [i32; 3], to: [i32; 3], state: i32) -> Fill {
@@ -18,20 +13,6 @@ pub const fn fill(from: [i32; 3], to: [i32; 3], state: i32) -> Fill {
         from,
         to,
         state: Some(state),
-    }
-}
-
-/// The palette's third state in one cell.
-pub const fn third_at(at: [i32; 3]) -> Fill {
-    fill(at, at, 2)
-}
-
-/// No entry, from one corner to the other.
-pub const fn gap(from: [i32; 3], to: [i32; 3]) -> Fill {
-    Fill {
-        from,
-        to,
-        state: None,
     }
 }
 
@@ -82,19 +63,33 @@ pub const DUG: Fill = Fill {
     state: Some(1),
 };
 
-/// A box of 29 x 4 x 3 with these fills.
-pub const fn long_box<'a>(
-    palette: &'a [Block<'a>],
-    fills: &'a [Fill],
-    more: &'a [Entry],
-) -> Structure<'a> {
-    Structure {
-        size: [29, 4, 3],
-        palette,
-        fills,
-        more,
-    }
-}
+/// The palette's third state in a corner of the box.
+pub const IN_A_CORNER: Fill = Fill {
+    from: [0, 0, 0],
+    to: [0, 0, 0],
+    state: Some(2),
+};
+
+/// The same in the ground of the corridor's middle.
+pub const BELOW_THE_MIDDLE: Fill = Fill {
+    from: [14, 0, 1],
+    to: [14, 0, 1],
+    state: Some(2),
+};
+
+/// No entry in the lower cell of the corridor's middle.
+pub const VOID_OF_ONE: Fill = Fill {
+    from: [14, 1, 1],
+    to: [14, 1, 1],
+    state: None,
+};
+
+/// No entry in both cells of the corridor's middle.
+pub const VOID_OF_TWO: Fill = Fill {
+    from: [14, 1, 1],
+    to: [14, 2, 1],
+    state: None,
+};
 
 pub const EMPTY: Structure<'static> = Structure {
     size: [0, 0, 0],
@@ -146,6 +141,61 @@ pub const PILLAR: Structure<'static> = Structure {
     more: &[],
 };
 
+/// A corridor of 27 cells.
+pub const CORRIDOR_27: Structure<'static> = Structure {
+    size: [29, 4, 3],
+    palette: &[STONE, AIR],
+    fills: &[ROCK, DUG],
+    more: &[],
+};
+
+/// A corridor of 27 cells with a torch in its middle.
+pub const LIT_27: Structure<'static> = Structure {
+    size: [29, 4, 3],
+    palette: &[STONE, AIR, TORCH],
+    fills: &[
+        ROCK,
+        DUG,
+        Fill {
+            from: [14, 1, 1],
+            to: [14, 1, 1],
+            state: Some(2),
+        },
+    ],
+    more: &[],
+};
+
+/// A corridor of 27 cells in felt, where nothing holds a torch.
+pub const FELT_27: Structure<'static> = Structure {
+    size: [29, 4, 3],
+    palette: &[FELT, AIR],
+    fills: &[ROCK, DUG],
+    more: &[],
+};
+
+/// A corridor of 27 cells, one high.
+pub const LOW_27: Structure<'static> = Structure {
+    size: [29, 4, 3],
+    palette: &[STONE, AIR],
+    fills: &[
+        ROCK,
+        Fill {
+            from: [1, 1, 1],
+            to: [27, 1, 1],
+            state: Some(1),
+        },
+    ],
+    more: &[],
+};
+
+/// A corridor of 27 cells with a block in a corner of its box that no shipped row names.
+pub const STAIRS_27: Structure<'static> = Structure {
+    size: [29, 4, 3],
+    palette: &[STONE, AIR, STAIRS],
+    fills: &[ROCK, DUG, IN_A_CORNER],
+    more: &[],
+};
+
 pub const CORRIDOR_28: Structure<'static> = Structure {
     size: [30, 4, 3],
     palette: &[STONE, AIR],
@@ -164,13 +214,8 @@ pub const CORRIDOR_28: Structure<'static> = Structure {
     more: &[],
 };
 
-/// The cave of a structure by a user's table; by the shipped rows alone where it is empty.
-pub fn world_by(alloc: Global, structure: &Structure<'_>, table: &[u8]) -> Result<World, Fail> {
-    world_under(alloc, structure, table, Rule::new(2, 1))
-}
-
-/// The same under another rule.
-pub fn world_under(
+/// The cave of a structure by a user's table and under a rule; by the shipped rows alone where the table is empty.
+pub fn world_by(
     alloc: Global,
     structure: &Structure<'_>,
     table: &[u8],

@@ -72,13 +72,7 @@ fn a_verdict_may_go_byte_by_byte_and_a_failed_write_leaves_its_beginning(
             assert_eq!(rt; writer.taken.as_slice(), &line[..fails_at]);
         }
     }
-    Ok(())
-}
-
-#[test]
-fn a_writer_of_a_verdict_that_takes_nothing_has_failed(rt: HostRuntime) -> Result<(), Fail> {
-    let alloc = rt.alloc();
-    let bytes = PILLAR.bytes(alloc)?;
+    // A writer that takes nothing has failed.
     let mut reader = bytes.as_slice();
     let mut certificate = PROOF;
     let mut writer = idle_writer(alloc);

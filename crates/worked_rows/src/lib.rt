@@ -12,13 +12,13 @@ mod dark;
 #[cfg(test)]
 mod failing;
 #[cfg(test)]
-mod headroom;
+mod failing_once;
 #[cfg(test)]
-mod large_numbers;
+mod faults;
 #[cfg(test)]
 mod limits;
 #[cfg(test)]
-mod long_streams;
+mod long_texts;
 #[cfg(test)]
 mod plan;
 #[cfg(test)]
@@ -26,7 +26,7 @@ mod plan_streams;
 #[cfg(test)]
 mod planning;
 #[cfg(test)]
-mod rule;
+mod rules;
 #[cfg(test)]
 mod running;
 #[cfg(test)]

@@ -1,7 +1,8 @@
-//! Inputs at their limits and past them, a reader without end, and an input without bytes.
+//! Inputs at their limits and past them, a reader without end, and a table without bytes.
 
 use crate::caves::PILLAR;
 use crate::planning::freely;
+use crate::running::prints;
 use nbt_core::NbtFault;
 use scan_core::ScanFault;
 use std::io::{Read, Result as Done};
@@ -42,44 +43,24 @@ const TABLE_LIMIT: usize = 1_048_576;
 const BUFFER: usize = 8_192;
 
 #[test]
-fn a_structure_of_the_limit_is_judged_and_one_byte_more_is_too_long(
+fn a_structure_of_the_limit_is_judged_and_one_byte_more_is_too_long_to_each_command(
     rt: HostRuntime,
 ) -> Result<(), Fail> {
     let alloc = rt.alloc();
     let rule = Rule::new(2, 1);
-    let mut written = Vec::new(alloc);
-    let ended = run_dark(
-        alloc,
-        &mut zeros_of(STRUCTURE_LIMIT),
-        None,
-        rule,
-        &mut written,
-    );
+    let mut text = Vec::new(alloc);
+    let mut proof = Vec::new(alloc);
+    let mut reader = zeros_of(STRUCTURE_LIMIT);
+    let ended = run_dark(alloc, &mut reader, None, rule, &mut text);
     assert!(rt;
         matches!(
             &ended,
             Err(RunFault::Scan(ScanFault::Nbt(NbtFault::NotCompound)))
         )
     );
-    let ended = run_dark(
-        alloc,
-        &mut zeros_of(STRUCTURE_LIMIT + 1),
-        None,
-        rule,
-        &mut written,
-    );
+    let mut reader = zeros_of(STRUCTURE_LIMIT + 1);
+    let ended = run_dark(alloc, &mut reader, None, rule, &mut text);
     assert!(rt; matches!(&ended, Err(RunFault::TooLong(Input::StructureInput))));
-    assert!(rt; written.is_empty());
-    Ok(())
-}
-
-#[test]
-fn a_structure_that_is_too_long_is_neither_planned_nor_checked(
-    rt: HostRuntime,
-) -> Result<(), Fail> {
-    let alloc = rt.alloc();
-    let mut text = Vec::new(alloc);
-    let mut proof = Vec::new(alloc);
     let ended = run_plan(
         &rt,
         alloc,
@@ -91,17 +72,17 @@ fn a_structure_that_is_too_long_is_neither_planned_nor_checked(
         &mut proof,
     );
     assert!(rt; matches!(&ended, Err(RunFault::TooLong(Input::StructureInput))));
-    assert!(rt; proof.is_empty());
     let ended = run_check(
         alloc,
         &mut zeros_of(STRUCTURE_LIMIT + 1),
         None,
-        Rule::new(2, 1),
+        rule,
         &mut zeros_of(usize::MAX),
         &mut text,
     );
     assert!(rt; matches!(&ended, Err(RunFault::TooLong(Input::StructureInput))));
     assert!(rt; text.is_empty());
+    assert!(rt; proof.is_empty());
     Ok(())
 }
 
@@ -124,21 +105,22 @@ fn a_reader_without_end_is_left_one_buffer_past_the_limit(rt: HostRuntime) -> Re
 }
 
 #[test]
-fn an_empty_table_file_is_a_table_without_rows(rt: HostRuntime) -> Result<(), Fail> {
+fn a_table_may_be_empty_or_of_the_limit(rt: HostRuntime) -> Result<(), Fail> {
     let alloc = rt.alloc();
     let table = read_table(alloc, &mut zeros_of(0))?;
     assert!(rt; table.is_empty());
-    let bytes = PILLAR.bytes(alloc)?;
-    let mut reader = bytes.as_slice();
-    let mut written = Vec::new(alloc);
-    let ended = run_dark(
-        alloc,
-        &mut reader,
-        Some(&table),
-        Rule::new(2, 1),
-        &mut written,
-    );
-    assert!(rt; ended.is_ok());
-    assert_eq!(rt; written.as_slice(), b"dark 1\n0 1 0\n".as_slice());
+    let rule = Rule::new(2, 1);
+    prints(&rt, alloc, &PILLAR, Some(&table), rule, "dark 1\n0 1 0\n")?;
+    let mut spaces = Vec::new(alloc);
+    for _ in 0..TABLE_LIMIT {
+        spaces.push(b' ')?;
+    }
+    let mut reader = spaces.as_slice();
+    let table = read_table(alloc, &mut reader)?;
+    assert_eq!(rt; table.len(), TABLE_LIMIT);
+    spaces.push(b' ')?;
+    let mut reader = spaces.as_slice();
+    let refused = read_table(alloc, &mut reader);
+    assert!(rt; matches!(refused, Err(RunFault::TooLong(Input::TableInput))));
     Ok(())
 }

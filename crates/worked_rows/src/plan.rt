@@ -1,103 +1,309 @@
 //! The worked examples, by `plan`.
 
 use crate::caves::{
-    AIR, CORRIDOR_28, DUG, EMPTY, FELT, FELT_TABLE, PILLAR, RING, ROCK, STAIRS, STONE, TORCH, fill,
-    gap, long_box, third_at,
+    AIR, CORRIDOR_27, CORRIDOR_28, DUG, EMPTY, FELT, FELT_27, FELT_TABLE, LIT_27, PILLAR, RING,
+    ROCK, STAIRS_27, STONE, VOID_OF_ONE, VOID_OF_TWO,
 };
-use crate::planning::{alone, freely, is_accepted, lines_with, plan, plans, plans_so_many};
-use cave_files::Structure;
+use crate::planning::{alone, freely, is_accepted, lines_with, plan};
+use cave_files::{Fill, Structure};
 use std::test::Fail;
 use torch_plan::{Outcome, Rule};
 
-const WALL: &str = "#############################\n";
+/// Two corridors of 27 cells side by side, with a wall between.
+const TWO_CORRIDORS: Structure<'static> = Structure {
+    size: [29, 4, 5],
+    palette: &[STONE, AIR],
+    fills: &[
+        Fill {
+            from: [0, 0, 0],
+            to: [28, 3, 4],
+            state: Some(0),
+        },
+        Fill {
+            from: [1, 1, 1],
+            to: [27, 2, 1],
+            state: Some(1),
+        },
+        Fill {
+            from: [1, 1, 3],
+            to: [27, 2, 3],
+            state: Some(1),
+        },
+    ],
+    more: &[],
+};
+
+/// A cave, a user's table where there is one, and the text of its plan.
+#[derive(Clone, Copy)]
+struct Drawn {
+    cave: Structure<'static>,
+    table: Option<&'static [u8]>,
+    text: &'static str,
+}
+
+const DRAWN: [Drawn; 6] = [
+    Drawn {
+        cave: EMPTY,
+        table: None,
+        text: "torches 0\ndark 0\n",
+    },
+    Drawn {
+        cave: CORRIDOR_27,
+        table: None,
+        text: "torches 1\ndark 27\nT 14 1 1 floor\nlayer 1\n\
+            #############################\n\
+            #.............T.............#\n\
+            #############################\n",
+    },
+    Drawn {
+        cave: TWO_CORRIDORS,
+        table: None,
+        text: "torches 2\ndark 54\nT 14 1 1 floor\nT 14 1 3 floor\nlayer 1\n\
+            #############################\n\
+            #.............T.............#\n\
+            #############################\n\
+            #.............T.............#\n\
+            #############################\n",
+    },
+    // A torch that is there is enough.
+    Drawn {
+        cave: LIT_27,
+        table: None,
+        text: "torches 0\ndark 0\n",
+    },
+    Drawn {
+        cave: PILLAR,
+        table: None,
+        text: "torches 1\ndark 1\nT 0 1 0 floor\nlayer 1\nT\n",
+    },
+    // Over felt a torch hangs on a wall.
+    Drawn {
+        cave: Structure {
+            size: [29, 4, 3],
+            palette: &[STONE, AIR, FELT],
+            fills: &[
+                ROCK,
+                DUG,
+                Fill {
+                    from: [0, 0, 0],
+                    to: [28, 0, 2],
+                    state: Some(2),
+                },
+            ],
+            more: &[],
+        },
+        table: Some(FELT_TABLE),
+        text: "torches 1\ndark 27\nT 14 1 1 north\nlayer 1\n\
+            #############################\n\
+            #.............^.............#\n\
+            #############################\n",
+    },
+];
 
 #[test]
-fn an_empty_box_needs_no_torch(rt: HostRuntime) -> Result<(), Fail> {
+fn caves_that_have_one_plan_have_this_text(rt: HostRuntime) -> Result<(), Fail> {
     let alloc = rt.alloc();
-    plans(&rt, alloc, &EMPTY, None, "torches 0\ndark 0\n")?;
-    let planned = plan(&rt, alloc, &EMPTY.bytes(alloc)?, None, &freely(&rt))?;
-    let proof = b"torchproof 1\nbox 0 0 0\nheadroom 2\nregions 0\nend\n";
-    assert_eq!(rt; planned.proof.as_slice(), proof.as_slice());
+    let opts = freely(&rt);
+    for row in DRAWN {
+        let bytes = row.cave.bytes(alloc)?;
+        let planned = plan(&rt, alloc, &bytes, row.table, &opts)?;
+        assert!(rt; planned.outcome == Some(Outcome::Done));
+        assert_eq!(rt; planned.text.as_slice(), row.text.as_bytes());
+        is_accepted(&rt, alloc, &bytes, row.table, opts.rule, &planned)?;
+    }
+    Ok(())
+}
+
+/// A cave, a user's table where there is one, and how many torches and dark cells its plan has.
+#[derive(Clone, Copy)]
+struct Counted {
+    cave: Structure<'static>,
+    table: Option<&'static [u8]>,
+    torches: usize,
+    dark: usize,
+}
+
+const COUNTED: [Counted; 7] = [
+    Counted {
+        cave: CORRIDOR_28,
+        table: None,
+        torches: 2,
+        dark: 28,
+    },
+    // A plus, where largest first takes five.
+    Counted {
+        cave: Structure {
+            size: [31, 4, 31],
+            palette: &[STONE, AIR],
+            fills: &[
+                Fill {
+                    from: [0, 0, 0],
+                    to: [30, 3, 30],
+                    state: Some(0),
+                },
+                Fill {
+                    from: [1, 1, 15],
+                    to: [29, 2, 15],
+                    state: Some(1),
+                },
+                Fill {
+                    from: [15, 1, 1],
+                    to: [15, 2, 29],
+                    state: Some(1),
+                },
+            ],
+            more: &[],
+        },
+        table: None,
+        torches: 4,
+        dark: 57,
+    },
+    Counted {
+        cave: RING,
+        table: None,
+        torches: 2,
+        dark: 28,
+    },
+    // A ring of felt with three places.
+    Counted {
+        cave: Structure {
+            size: [10, 4, 10],
+            palette: &[FELT, AIR, STONE],
+            fills: &[
+                Fill {
+                    from: [0, 0, 0],
+                    to: [9, 3, 9],
+                    state: Some(0),
+                },
+                Fill {
+                    from: [1, 1, 1],
+                    to: [8, 2, 8],
+                    state: Some(1),
+                },
+                Fill {
+                    from: [2, 1, 2],
+                    to: [7, 2, 7],
+                    state: Some(0),
+                },
+                Fill {
+                    from: [1, 0, 1],
+                    to: [1, 0, 1],
+                    state: Some(2),
+                },
+                Fill {
+                    from: [4, 0, 1],
+                    to: [4, 0, 1],
+                    state: Some(2),
+                },
+                Fill {
+                    from: [8, 0, 1],
+                    to: [8, 0, 1],
+                    state: Some(2),
+                },
+            ],
+            more: &[],
+        },
+        table: Some(FELT_TABLE),
+        torches: 2,
+        dark: 28,
+    },
+    // Void in a corridor parts it only where no light passes.
+    Counted {
+        cave: Structure {
+            size: [29, 4, 3],
+            palette: &[STONE, AIR],
+            fills: &[ROCK, DUG, VOID_OF_ONE],
+            more: &[],
+        },
+        table: None,
+        torches: 2,
+        dark: 26,
+    },
+    Counted {
+        cave: Structure {
+            size: [29, 4, 3],
+            palette: &[STONE, AIR],
+            fills: &[ROCK, DUG, VOID_OF_TWO],
+            more: &[],
+        },
+        table: None,
+        torches: 2,
+        dark: 26,
+    },
+    // A wildcard row gives stairs the opacity of stone.
+    Counted {
+        cave: STAIRS_27,
+        table: Some(b"[[row]]\nname = \"*\"\nopacity = 15\n"),
+        torches: 1,
+        dark: 27,
+    },
+];
+
+#[test]
+fn each_cave_needs_so_many_torches(rt: HostRuntime) -> Result<(), Fail> {
+    let alloc = rt.alloc();
+    let opts = freely(&rt);
+    for row in COUNTED {
+        let bytes = row.cave.bytes(alloc)?;
+        let planned = plan(&rt, alloc, &bytes, row.table, &opts)?;
+        let torches = row.torches;
+        let dark = row.dark;
+        let head = format!(in alloc; "torches {torches}\ndark {dark}\nT ")?;
+        assert!(rt; planned.outcome == Some(Outcome::Done));
+        assert!(rt; planned.text.starts_with(head.as_bytes()));
+        assert_eq!(rt; lines_with(&planned.text, b'T'), torches);
+        is_accepted(&rt, alloc, &bytes, row.table, opts.rule, &planned)?;
+    }
+    Ok(())
+}
+
+/// A cave, a user's table where there is one, and the words in which its plan is refused.
+#[derive(Clone, Copy)]
+struct Refused {
+    cave: Structure<'static>,
+    table: Option<&'static [u8]>,
+    line: &'static str,
+}
+
+const REFUSED: [Refused; 2] = [
+    Refused {
+        cave: STAIRS_27,
+        table: None,
+        line: "unknown block minecraft:oak_stairs",
+    },
+    // Nothing holds a torch, and the first dark cell is told.
+    Refused {
+        cave: FELT_27,
+        table: Some(FELT_TABLE),
+        line: "unlightable 1 1 1",
+    },
+];
+
+#[test]
+fn unknown_blocks_and_cells_that_no_torch_lights_are_refused(rt: HostRuntime) -> Result<(), Fail> {
+    let alloc = rt.alloc();
+    for row in REFUSED {
+        let bytes = row.cave.bytes(alloc)?;
+        let refused = plan(&rt, alloc, &bytes, row.table, &freely(&rt))?;
+        assert!(rt; matches!(&refused.refusal, Some(line) if line.as_str() == row.line));
+        assert!(rt; refused.text.is_empty());
+        assert!(rt; refused.proof.is_empty());
+    }
     Ok(())
 }
 
 #[test]
-fn corridor_of_27_needs_one_torch_in_its_middle(rt: HostRuntime) -> Result<(), Fail> {
+fn certificates_name_their_regions_and_torches(rt: HostRuntime) -> Result<(), Fail> {
     let alloc = rt.alloc();
-    let text = format!(in alloc;
-        "torches 1\ndark 27\nT 14 1 1 floor\nlayer 1\n{WALL}#.............T.............#\n{WALL}"
-    )?;
-    plans(
-        &rt,
-        alloc,
-        &long_box(&[STONE, AIR], &[ROCK, DUG], &[]),
-        None,
-        text.as_str(),
-    )
-}
-
-#[test]
-fn corridor_of_28_needs_two_torches(rt: HostRuntime) -> Result<(), Fail> {
-    plans_so_many(&rt, rt.alloc(), &CORRIDOR_28, None, [2, 28])
-}
-
-#[test]
-fn plus_needs_four_torches_where_largest_first_takes_five(rt: HostRuntime) -> Result<(), Fail> {
-    let plus = Structure {
-        size: [31, 4, 31],
-        palette: &[STONE, AIR],
-        fills: &[
-            fill([0, 0, 0], [30, 3, 30], 0),
-            fill([1, 1, 15], [29, 2, 15], 1),
-            fill([15, 1, 1], [15, 2, 29], 1),
-        ],
-        more: &[],
-    };
-    plans_so_many(&rt, rt.alloc(), &plus, None, [4, 57])
-}
-
-#[test]
-fn ring_needs_two_torches(rt: HostRuntime) -> Result<(), Fail> {
-    plans_so_many(&rt, rt.alloc(), &RING, None, [2, 28])
-}
-
-#[test]
-fn felt_ring_needs_two_of_its_three_places(rt: HostRuntime) -> Result<(), Fail> {
-    let ring = Structure {
-        size: [10, 4, 10],
-        palette: &[FELT, AIR, STONE],
-        fills: &[
-            fill([0, 0, 0], [9, 3, 9], 0),
-            fill([1, 1, 1], [8, 2, 8], 1),
-            fill([2, 1, 2], [7, 2, 7], 0),
-            fill([1, 0, 1], [1, 0, 1], 2),
-            fill([4, 0, 1], [4, 0, 1], 2),
-            fill([8, 0, 1], [8, 0, 1], 2),
-        ],
-        more: &[],
-    };
-    plans_so_many(&rt, rt.alloc(), &ring, Some(FELT_TABLE), [2, 28])
-}
-
-#[test]
-fn two_corridors_are_two_regions(rt: HostRuntime) -> Result<(), Fail> {
-    let alloc = rt.alloc();
-    let corridors = Structure {
-        size: [29, 4, 5],
-        palette: &[STONE, AIR],
-        fills: &[
-            fill([0, 0, 0], [28, 3, 4], 0),
-            fill([1, 1, 1], [27, 2, 1], 1),
-            fill([1, 1, 3], [27, 2, 3], 1),
-        ],
-        more: &[],
-    };
-    let row = "#.............T.............#\n";
-    let text = format!(in alloc;
-        "torches 2\ndark 54\nT 14 1 1 floor\nT 14 1 3 floor\nlayer 1\n{WALL}{row}{WALL}{row}{WALL}"
-    )?;
-    plans(&rt, alloc, &corridors, None, text.as_str())?;
-    let planned = plan(&rt, alloc, &corridors.bytes(alloc)?, None, &freely(&rt))?;
+    let planned = plan(&rt, alloc, &EMPTY.bytes(alloc)?, None, &freely(&rt))?;
+    let proof = b"torchproof 1\nbox 0 0 0\nheadroom 2\nregions 0\nend\n";
+    assert_eq!(rt; planned.proof.as_slice(), proof.as_slice());
+    let planned = plan(&rt, alloc, &PILLAR.bytes(alloc)?, None, &freely(&rt))?;
+    let head = b"torchproof 1\nbox 1 3 1\nheadroom 2\nregions 1\nregion 1 1\nD 1\nT 1\n";
+    assert!(rt; planned.proof.starts_with(head));
+    let tree = &planned.proof[head.len()..];
+    assert!(rt; tree == b"L 1 1\nend\n".as_slice() || tree == b"B 1 1\nL 0\nend\n".as_slice());
+    let planned = plan(&rt, alloc, &TWO_CORRIDORS.bytes(alloc)?, None, &freely(&rt))?;
     let mut lines = planned.proof.split(|byte| *byte == b'\n');
     assert!(rt; lines.any(|line| line == b"regions 2".as_slice()));
     assert!(rt; lines.any(|line| line == b"region 27 1".as_slice()));
@@ -108,89 +314,10 @@ fn two_corridors_are_two_regions(rt: HostRuntime) -> Result<(), Fail> {
 }
 
 #[test]
-fn a_torch_that_is_there_is_enough(rt: HostRuntime) -> Result<(), Fail> {
-    let fills = [ROCK, DUG, third_at([14, 1, 1])];
-    let lit = long_box(&[STONE, AIR, TORCH], &fills, &[]);
-    plans(&rt, rt.alloc(), &lit, None, "torches 0\ndark 0\n")
-}
-
-#[test]
-fn void_in_a_corridor_parts_it_only_where_no_light_passes(rt: HostRuntime) -> Result<(), Fail> {
-    let alloc = rt.alloc();
-    let palette = [STONE, AIR];
-    let below = [ROCK, DUG, gap([14, 1, 1], [14, 1, 1])];
-    plans_so_many(&rt, alloc, &long_box(&palette, &below, &[]), None, [2, 26])?;
-    let both = [ROCK, DUG, gap([14, 1, 1], [14, 2, 1])];
-    plans_so_many(&rt, alloc, &long_box(&palette, &both, &[]), None, [2, 26])
-}
-
-#[test]
-fn a_wildcard_row_gives_stairs_the_opacity_of_stone(rt: HostRuntime) -> Result<(), Fail> {
-    let alloc = rt.alloc();
-    let fills = [ROCK, DUG, third_at([0, 0, 0])];
-    let stairs = long_box(&[STONE, AIR, STAIRS], &fills, &[]);
-    let refused = plan(&rt, alloc, &stairs.bytes(alloc)?, None, &freely(&rt))?;
-    assert!(rt;
-        matches!(&refused.refusal, Some(line) if line.as_str() == "unknown block minecraft:oak_stairs")
-    );
-    assert!(rt; refused.text.is_empty());
-    assert!(rt; refused.proof.is_empty());
-    let table = b"[[row]]\nname = \"*\"\nopacity = 15\n";
-    plans_so_many(&rt, alloc, &stairs, Some(table), [1, 27])
-}
-
-#[test]
-fn the_pillar_has_one_torch_and_one_proof(rt: HostRuntime) -> Result<(), Fail> {
-    let alloc = rt.alloc();
-    plans(
-        &rt,
-        alloc,
-        &PILLAR,
-        None,
-        "torches 1\ndark 1\nT 0 1 0 floor\nlayer 1\nT\n",
-    )?;
-    let planned = plan(&rt, alloc, &PILLAR.bytes(alloc)?, None, &freely(&rt))?;
-    let head = b"torchproof 1\nbox 1 3 1\nheadroom 2\nregions 1\nregion 1 1\nD 1\nT 1\n";
-    assert!(rt; planned.proof.starts_with(head));
-    let tree = &planned.proof[head.len()..];
-    assert!(rt; tree == b"L 1 1\nend\n".as_slice() || tree == b"B 1 1\nL 0\nend\n".as_slice());
-    Ok(())
-}
-
-#[test]
-fn over_felt_a_torch_hangs_on_a_wall(rt: HostRuntime) -> Result<(), Fail> {
-    let alloc = rt.alloc();
-    let fills = [ROCK, DUG, fill([0, 0, 0], [28, 0, 2], 2)];
-    let hung = long_box(&[STONE, AIR, FELT], &fills, &[]);
-    let text = format!(in alloc;
-        "torches 1\ndark 27\nT 14 1 1 north\nlayer 1\n{WALL}#.............^.............#\n{WALL}"
-    )?;
-    plans(&rt, alloc, &hung, Some(FELT_TABLE), text.as_str())
-}
-
-#[test]
-fn where_nothing_holds_a_torch_the_first_dark_cell_is_told(rt: HostRuntime) -> Result<(), Fail> {
-    let alloc = rt.alloc();
-    let felt = long_box(&[FELT, AIR], &[ROCK, DUG], &[]);
-    let refused = plan(
-        &rt,
-        alloc,
-        &felt.bytes(alloc)?,
-        Some(FELT_TABLE),
-        &freely(&rt),
-    )?;
-    assert!(rt; matches!(&refused.refusal, Some(line) if line.as_str() == "unlightable 1 1 1"));
-    assert!(rt; refused.text.is_empty());
-    assert!(rt; refused.proof.is_empty());
-    Ok(())
-}
-
-#[test]
 fn before_1_18_the_corridor_needs_three_torches(rt: HostRuntime) -> Result<(), Fail> {
     let alloc = rt.alloc();
     let before = alone(&rt, Rule::new(2, 8), None);
-    let corridor = long_box(&[STONE, AIR], &[ROCK, DUG], &[]);
-    let bytes = corridor.bytes(alloc)?;
+    let bytes = CORRIDOR_27.bytes(alloc)?;
     let planned = plan(&rt, alloc, &bytes, None, &before)?;
     is_accepted(&rt, alloc, &bytes, None, before.rule, &planned)?;
     assert!(rt; planned.text.starts_with(b"torches 3\ndark 27\n"));
@@ -199,9 +326,7 @@ fn before_1_18_the_corridor_needs_three_torches(rt: HostRuntime) -> Result<(), F
             .proof
             .starts_with(b"torchproof 2\nbox 29 4 3\nheadroom 2\nneed 8\n")
     );
-    let fills = [ROCK, DUG, third_at([14, 1, 1])];
-    let lit = long_box(&[STONE, AIR, TORCH], &fills, &[]);
-    let planned = plan(&rt, alloc, &lit.bytes(alloc)?, None, &before)?;
+    let planned = plan(&rt, alloc, &LIT_27.bytes(alloc)?, None, &before)?;
     assert!(rt; planned.text.starts_with(b"torches 2\ndark 14\n"));
     Ok(())
 }
@@ -222,13 +347,9 @@ fn one_turn_stops_the_ring_and_a_million_do_not(rt: HostRuntime) -> Result<(), F
     let ended = plan(&rt, alloc, &bytes, None, &alone(&rt, rule, Some(1_000_000)))?;
     assert!(rt; ended.outcome == Some(Outcome::Done));
     assert!(rt; ended.text.starts_with(b"torches 2\ndark 28\n"));
-    let one_leaf = plan(
-        &rt,
-        alloc,
-        &long_box(&[STONE, AIR], &[ROCK, DUG], &[]).bytes(alloc)?,
-        None,
-        &alone(&rt, rule, Some(1)),
-    )?;
+    // One leaf takes one turn.
+    let bytes = CORRIDOR_27.bytes(alloc)?;
+    let one_leaf = plan(&rt, alloc, &bytes, None, &alone(&rt, rule, Some(1)))?;
     assert!(rt; one_leaf.outcome == Some(Outcome::Done));
     Ok(())
 }

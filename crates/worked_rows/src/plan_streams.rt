@@ -1,9 +1,8 @@
 //! Readers and writers that fail, by `plan`.
 
-use crate::caves::{AIR, PILLAR, STONE, fill};
+use crate::caves::{PILLAR, RING};
 use crate::failing::{idle_writer, reader_of, writer_of};
 use crate::planning::{alone, freely, plan};
-use cave_files::Structure;
 use std::alloc::{AllocError, Global};
 use std::io::{Read, Write};
 use std::sync::Wait;
@@ -137,17 +136,7 @@ fn a_failed_write_of_a_stopped_plan_leaves_a_beginning_and_no_certificate(
     rt: HostRuntime,
 ) -> Result<(), Fail> {
     let alloc = rt.alloc();
-    let ring = Structure {
-        size: [10, 4, 10],
-        palette: &[STONE, AIR],
-        fills: &[
-            fill([0, 0, 0], [9, 3, 9], 0),
-            fill([1, 1, 1], [8, 2, 8], 1),
-            fill([2, 1, 2], [7, 2, 7], 0),
-        ],
-        more: &[],
-    };
-    let bytes = ring.bytes(alloc)?;
+    let bytes = RING.bytes(alloc)?;
     let opts = alone(&rt, Rule::new(2, 1), Some(1));
     let whole = plan(&rt, alloc, &bytes, None, &opts)?;
     assert!(rt; whole.outcome == Some(Outcome::Stopped));

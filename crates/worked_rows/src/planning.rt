@@ -1,7 +1,6 @@
 //! One run of `plan`, and what is expected of it.
 
 use crate::running::line_of;
-use cave_files::Structure;
 use std::alloc::{AllocError, Global};
 use std::process::Abort;
 use std::sync::Wait;
@@ -104,41 +103,6 @@ pub fn is_accepted(
     let said = check(alloc, bytes, table, rule, &planned.proof)?;
     assert_eq!(rt; said.as_slice(), accepted.as_bytes());
     Ok(())
-}
-
-/// The plan has this text.
-pub fn plans<X: Abort + Threads + Wait + Sync>(
-    rt: &X,
-    alloc: Global,
-    structure: &Structure<'_>,
-    table: Option<&[u8]>,
-    text: &str,
-) -> Result<(), Fail> {
-    let bytes = structure.bytes(alloc)?;
-    let opts = freely(rt);
-    let planned = plan(rt, alloc, &bytes, table, &opts)?;
-    assert!(rt; planned.outcome == Some(Outcome::Done));
-    assert_eq!(rt; planned.text.as_slice(), text.as_bytes());
-    is_accepted(rt, alloc, &bytes, table, opts.rule, &planned)
-}
-
-/// The plan has so many torches and dark cells.
-pub fn plans_so_many<X: Abort + Threads + Wait + Sync>(
-    rt: &X,
-    alloc: Global,
-    structure: &Structure<'_>,
-    table: Option<&[u8]>,
-    numbers: [usize; 2],
-) -> Result<(), Fail> {
-    let bytes = structure.bytes(alloc)?;
-    let opts = freely(rt);
-    let planned = plan(rt, alloc, &bytes, table, &opts)?;
-    let [torches, dark] = numbers;
-    let head = format!(in alloc; "torches {torches}\ndark {dark}\nT ")?;
-    assert!(rt; planned.outcome == Some(Outcome::Done));
-    assert!(rt; planned.text.starts_with(head.as_bytes()));
-    assert_eq!(rt; lines_with(&planned.text, b'T'), torches);
-    is_accepted(rt, alloc, &bytes, table, opts.rule, &planned)
 }
 
 /// How many lines begin with this byte and a space.

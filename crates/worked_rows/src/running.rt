@@ -13,13 +13,8 @@ pub struct Shown {
     pub written: Vec<u8>,
 }
 
-/// Runs `dark` on these bytes by the shipped rows.
-pub fn dark(alloc: Global, bytes: &[u8], rule: Rule) -> Result<Shown, AllocError> {
-    dark_by(alloc, bytes, None, rule)
-}
-
-/// Runs `dark` on these bytes by a user's table.
-pub fn dark_by(
+/// Runs `dark` on these bytes by the user's table, where there is one.
+pub fn dark(
     alloc: Global,
     bytes: &[u8],
     table: Option<&[u8]>,
@@ -44,18 +39,25 @@ pub fn prints(
     rt: &impl Abort,
     alloc: Global,
     structure: &Structure<'_>,
+    table: Option<&[u8]>,
     rule: Rule,
     text: &str,
 ) -> Result<(), Fail> {
-    let shown = dark(alloc, &structure.bytes(alloc)?, rule)?;
+    let shown = dark(alloc, &structure.bytes(alloc)?, table, rule)?;
     assert!(rt; shown.refusal.is_none());
     assert_eq!(rt; shown.written.as_slice(), text.as_bytes());
     Ok(())
 }
 
 /// The run is refused in these words, and prints nothing.
-pub fn refuses(rt: &impl Abort, alloc: Global, bytes: &[u8], line: &str) -> Result<(), Fail> {
-    let shown = dark(alloc, bytes, Rule::new(2, 1))?;
+pub fn refuses(
+    rt: &impl Abort,
+    alloc: Global,
+    bytes: &[u8],
+    table: Option<&[u8]>,
+    line: &str,
+) -> Result<(), Fail> {
+    let shown = dark(alloc, bytes, table, Rule::new(2, 1))?;
     assert!(rt; matches!(&shown.refusal, Some(words) if words.as_str() == line));
     assert!(rt; shown.written.is_empty());
     Ok(())

@@ -8,20 +8,15 @@ use torch_plan::{Rule, RunFault, read_table, run_dark};
 const TEXT: &[u8] = b"dark 1\n0 1 0\n";
 
 #[test]
-fn a_reader_may_give_one_byte_a_call(rt: HostRuntime) -> Result<(), Fail> {
+fn a_reader_may_give_one_byte_a_call_and_a_read_that_fails_anywhere_is_told(
+    rt: HostRuntime,
+) -> Result<(), Fail> {
     let alloc = rt.alloc();
     let bytes = PILLAR.bytes(alloc)?;
     let mut reader = reader_of(&bytes, usize::MAX);
     let mut written = Vec::new(alloc);
     assert!(rt; run_dark(alloc, &mut reader, None, Rule::new(2, 1), &mut written).is_ok());
     assert_eq!(rt; written.as_slice(), TEXT);
-    Ok(())
-}
-
-#[test]
-fn a_read_that_fails_anywhere_is_told_and_nothing_is_written(rt: HostRuntime) -> Result<(), Fail> {
-    let alloc = rt.alloc();
-    let bytes = PILLAR.bytes(alloc)?;
     for fails_at in 0..=bytes.len() {
         let mut reader = reader_of(&bytes, fails_at);
         let mut written = Vec::new(alloc);
@@ -33,32 +28,15 @@ fn a_read_that_fails_anywhere_is_told_and_nothing_is_written(rt: HostRuntime) ->
 }
 
 #[test]
-fn a_writer_may_take_one_byte_a_call(rt: HostRuntime) -> Result<(), Fail> {
+fn a_writer_may_take_one_byte_a_call_and_a_write_that_fails_leaves_a_beginning(
+    rt: HostRuntime,
+) -> Result<(), Fail> {
     let alloc = rt.alloc();
     let bytes = PILLAR.bytes(alloc)?;
     let mut reader = bytes.as_slice();
     let mut writer = writer_of(alloc, usize::MAX);
     assert!(rt; run_dark(alloc, &mut reader, None, Rule::new(2, 1), &mut writer).is_ok());
     assert_eq!(rt; writer.taken.as_slice(), TEXT);
-    Ok(())
-}
-
-#[test]
-fn a_writer_that_takes_nothing_has_failed(rt: HostRuntime) -> Result<(), Fail> {
-    let alloc = rt.alloc();
-    let bytes = PILLAR.bytes(alloc)?;
-    let mut reader = bytes.as_slice();
-    let mut writer = idle_writer(alloc);
-    let ended = run_dark(alloc, &mut reader, None, Rule::new(2, 1), &mut writer);
-    assert!(rt; matches!(&ended, Err(RunFault::WriteFailed)));
-    assert!(rt; writer.taken.is_empty());
-    Ok(())
-}
-
-#[test]
-fn a_write_that_fails_leaves_a_beginning(rt: HostRuntime) -> Result<(), Fail> {
-    let alloc = rt.alloc();
-    let bytes = PILLAR.bytes(alloc)?;
     for fails_at in 0..TEXT.len() {
         let mut reader = bytes.as_slice();
         let mut writer = writer_of(alloc, fails_at);
@@ -66,6 +44,12 @@ fn a_write_that_fails_leaves_a_beginning(rt: HostRuntime) -> Result<(), Fail> {
         assert!(rt; matches!(&ended, Err(RunFault::WriteFailed)));
         assert_eq!(rt; writer.taken.as_slice(), &TEXT[..fails_at]);
     }
+    // One that takes nothing has failed.
+    let mut reader = bytes.as_slice();
+    let mut writer = idle_writer(alloc);
+    let ended = run_dark(alloc, &mut reader, None, Rule::new(2, 1), &mut writer);
+    assert!(rt; matches!(&ended, Err(RunFault::WriteFailed)));
+    assert!(rt; writer.taken.is_empty());
     Ok(())
 }
 

@@ -1,17 +1,36 @@
 //! The largest box, every cell of which has an entry, and a palette with more states than a byte counts.
-use super::{air, cave, cave_of, cell_at, structure};
+use super::{cave_of, cell_at};
+use cave_files::{Block, Fill, Structure};
 use cave_model::{BuildFault, Rule};
 use std::alloc::Global;
 use std::test::Fail;
 
-/// The sides of a box of 262,144 cells.
-const LARGEST: [u32; 3] = [128, 16, 128];
+fn block(name: &str) -> Block<'_> {
+    Block { name, props: &[] }
+}
+
+fn fill(from: [i32; 3], to: [i32; 3], state: i32) -> Fill {
+    Fill {
+        from,
+        to,
+        state: Some(state),
+    }
+}
 
 #[test]
 fn a_floor_in_the_largest_box_is_ground_in_each_cell(rt: HostRuntime) -> Result<(), Fail> {
-    let above = air([0, 1, 0], [127, 15, 127]);
-    let world = cave(rt.alloc(), Rule::new(2, 1), LARGEST, &[], &[above])?;
-    assert_eq!(rt; world.size(), LARGEST);
+    // 262,144 cells.
+    let floor = Structure {
+        size: [128, 16, 128],
+        palette: &[block("minecraft:stone"), block("minecraft:air")],
+        fills: &[
+            fill([0, 0, 0], [127, 15, 127], 0),
+            fill([0, 1, 0], [127, 15, 127], 1),
+        ],
+        more: &[],
+    };
+    let world = cave_of(rt.alloc(), &floor.bytes(rt.alloc())?, Rule::new(2, 1))??;
+    assert_eq!(rt; world.size(), [128, 16, 128]);
     assert_eq!(rt; world.cell_count(), 262_144);
     for y in 0..16 {
         for z in 0..128 {
@@ -29,18 +48,23 @@ fn a_floor_in_the_largest_box_is_ground_in_each_cell(rt: HostRuntime) -> Result<
 
 /// The fault of a box of two cells whose palette has this name at the index 256, for the second cell.
 fn at_256(alloc: Global, name: &str) -> Result<Option<BuildFault>, Fail> {
-    let mut names = Vec::new(alloc);
+    let mut palette = Vec::new(alloc);
+    palette.push(block("minecraft:stone"))?;
+    palette.push(block("minecraft:air"))?;
     for _ in 0..254u32 {
-        names.push("minecraft:granite")?;
+        palette.push(block("minecraft:granite"))?;
     }
-    names.push(name)?;
-    let part = super::Part {
-        from: [1, 0, 0],
-        to: [1, 0, 0],
-        state: Some(256),
+    palette.push(block(name))?;
+    let structure = Structure {
+        size: [2, 1, 1],
+        palette: &palette,
+        fills: &[
+            fill([0, 0, 0], [0, 0, 0], 0),
+            fill([1, 0, 0], [1, 0, 0], 256),
+        ],
+        more: &[],
     };
-    let bytes = structure(alloc, [2, 1, 1], &names, &[part])?;
-    Ok(cave_of(alloc, &bytes, Rule::new(2, 1))?.err())
+    Ok(cave_of(alloc, &structure.bytes(alloc)?, Rule::new(2, 1))?.err())
 }
 
 #[test]

@@ -15,24 +15,6 @@ pub fn root_with(alloc: Global, id: u8, payload: &[u8]) -> Result<Vec<u8>, Alloc
     Ok(bytes)
 }
 
-/// The same bytes so many times.
-pub fn repeated(alloc: Global, part: &[u8], times: usize) -> Result<Vec<u8>, AllocError> {
-    let mut bytes = Vec::new(alloc);
-    for _ in 0..times {
-        bytes.extend_from_slice(part)?;
-    }
-    Ok(bytes)
-}
-
-/// The parts one after another.
-pub fn joined(alloc: Global, parts: &[&[u8]]) -> Result<Vec<u8>, AllocError> {
-    let mut bytes = Vec::new(alloc);
-    for part in parts {
-        bytes.extend_from_slice(part)?;
-    }
-    Ok(bytes)
-}
-
 /// The fault of bytes that are no root, as the reader and the view answer it. Where the two differ, it is out of
 /// memory, which no row wants.
 pub fn fault_of(alloc: Global, bytes: &[u8]) -> Option<NbtFault> {

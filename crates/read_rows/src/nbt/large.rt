@@ -1,76 +1,83 @@
 //! Arrays of hundreds of numbers.
 use super::build::root_with;
 use nbt_core::{Tag, read_root};
+use std::alloc::{AllocError, Global};
 use std::test::Fail;
 
 /// As many numbers as each array below has.
 const COUNT: u32 = 1000;
 
-#[test]
-fn an_array_of_a_thousand_bytes(rt: HostRuntime) -> Result<(), Fail> {
-    let mut payload = Vec::from_slice(rt.alloc(), &COUNT.to_be_bytes())?;
+/// An array's id, and how many bytes each of its numbers has.
+#[derive(Clone, Copy)]
+struct Kind {
+    id: u8,
+    width: usize,
+}
+
+const KINDS: [Kind; 3] = [
+    Kind { id: 7, width: 1 },
+    Kind { id: 11, width: 4 },
+    Kind { id: 12, width: 8 },
+];
+
+/// The number at this place: bytes from 0 up and then from -128 up, over and over; Ints and Longs from far below zero
+/// to far above, no two equal.
+fn number_at(id: u8, n: u32) -> i64 {
+    let n = i64::from(n);
+    match id {
+        7 if n % 256 < 128 => n % 256,
+        7 => (n % 256).wrapping_sub(256),
+        11 => n.wrapping_sub(500).wrapping_mul(4_000_003),
+        _ => n.wrapping_sub(500).wrapping_mul(10_000_000_000_000_061),
+    }
+}
+
+/// A count, and so many numbers.
+fn payload_of(alloc: Global, kind: Kind) -> Result<Vec<u8>, AllocError> {
+    let mut payload = Vec::from_slice(alloc, &COUNT.to_be_bytes())?;
     for n in 0..COUNT {
-        payload.push((n % 256) as u8)?;
+        for byte in number_at(kind.id, n)
+            .to_be_bytes()
+            .iter()
+            .skip(8usize.wrapping_sub(kind.width))
+        {
+            payload.push(*byte)?;
+        }
     }
-    let root = read_root(rt.alloc(), &root_with(rt.alloc(), 7, &payload)?)?;
-    let Some(Tag::Bytes(bytes)) = root.field(b"a") else {
-        return Err(Fail::from("no bytes"));
-    };
-    assert_eq!(rt; bytes.as_slice().len(), 1000);
-    for (n, byte) in (0..COUNT).zip(bytes.as_slice()) {
-        let unsigned = (n % 256) as i32;
-        let signed = if unsigned < 128 {
-            unsigned
-        } else {
-            unsigned.wrapping_sub(256)
-        };
-        assert_eq!(rt; i32::from(*byte), signed, "at {n}");
-    }
-    Ok(())
+    Ok(payload)
 }
 
-/// Numbers from far below zero to far above, no two equal.
-fn int_at(n: i32) -> i32 {
-    n.wrapping_sub(500).wrapping_mul(4_000_003)
-}
-
-#[test]
-fn an_array_of_a_thousand_ints(rt: HostRuntime) -> Result<(), Fail> {
-    let mut payload = Vec::from_slice(rt.alloc(), &COUNT.to_be_bytes())?;
-    for n in 0..1000i32 {
-        payload.extend_from_slice(&int_at(n).to_be_bytes())?;
+/// The numbers of an array with this id; none of another tag.
+fn numbers(alloc: Global, id: u8, tag: Option<&Tag>) -> Result<Vec<i64>, AllocError> {
+    let mut found = Vec::new(alloc);
+    match tag {
+        Some(Tag::Bytes(bytes)) if id == 7 => {
+            for byte in bytes.as_slice() {
+                found.push(i64::from(*byte))?;
+            }
+        }
+        Some(Tag::Ints(ints)) if id == 11 => {
+            for int in ints.as_slice() {
+                found.push(i64::from(*int))?;
+            }
+        }
+        Some(Tag::Longs(longs)) if id == 12 => found.extend_from_slice(longs.as_slice())?,
+        _ => {}
     }
-    let root = read_root(rt.alloc(), &root_with(rt.alloc(), 11, &payload)?)?;
-    let Some(Tag::Ints(ints)) = root.field(b"a") else {
-        return Err(Fail::from("no ints"));
-    };
-    assert_eq!(rt; ints.as_slice().len(), 1000);
-    for (n, int) in (0..1000i32).zip(ints.as_slice()) {
-        assert_eq!(rt; *int, int_at(n), "at {n}");
-    }
-    Ok(())
-}
-
-/// The same in 64 bits.
-fn long_at(n: u32) -> i64 {
-    i64::from(n)
-        .wrapping_sub(500)
-        .wrapping_mul(10_000_000_000_000_061)
+    Ok(found)
 }
 
 #[test]
-fn an_array_of_a_thousand_longs(rt: HostRuntime) -> Result<(), Fail> {
-    let mut payload = Vec::from_slice(rt.alloc(), &COUNT.to_be_bytes())?;
-    for n in 0..COUNT {
-        payload.extend_from_slice(&long_at(n).to_be_bytes())?;
-    }
-    let root = read_root(rt.alloc(), &root_with(rt.alloc(), 12, &payload)?)?;
-    let Some(Tag::Longs(longs)) = root.field(b"a") else {
-        return Err(Fail::from("no longs"));
-    };
-    assert_eq!(rt; longs.as_slice().len(), 1000);
-    for (n, long) in (0..COUNT).zip(longs.as_slice()) {
-        assert_eq!(rt; *long, long_at(n), "at {n}");
+fn arrays_of_a_thousand_numbers(rt: HostRuntime) -> Result<(), Fail> {
+    let alloc = rt.alloc();
+    for kind in KINDS {
+        let payload = payload_of(alloc, kind)?;
+        let root = read_root(alloc, &root_with(alloc, kind.id, &payload)?)?;
+        let told = numbers(alloc, kind.id, root.field(b"a"))?;
+        assert_eq!(rt; told.len(), 1000);
+        for (n, number) in (0..COUNT).zip(&told) {
+            assert_eq!(rt; *number, number_at(kind.id, n), "at {n}");
+        }
     }
     Ok(())
 }

@@ -1,5 +1,5 @@
-//! Memory may be refused each time; the answer is then OutOfMemory and no other. These tests hold also
-//! where `rt try --test --fail-alloc N` refuses one.
+//! Memory may be refused each time; the answer is then OutOfMemory and no other. This holds also where
+//! `rt try --test --fail-alloc N` refuses one.
 use nbt_core::{NbtFault, read_root};
 
 /// A root with each kind that takes memory.
@@ -10,15 +10,12 @@ const KINDS: [u8; 62] = [
 ];
 
 #[test]
-fn a_refused_growth_is_out_of_memory(rt: HostRuntime) {
+fn a_refused_growth_alone_is_out_of_memory(rt: HostRuntime) {
     match read_root(rt.alloc(), &KINDS) {
         Ok(root) => assert!(rt; root.field(b"c").is_some()),
         Err(fault) => assert_eq!(rt; fault, NbtFault::OutOfMemory),
     }
-}
-
-#[test]
-fn faults_before_any_growth_need_no_memory(rt: HostRuntime) {
+    // A fault before any growth needs no memory.
     let bytes = [10, 0, 1, b'a', 11, 0];
     let want = NbtFault::Truncated { at: 6 };
     assert_eq!(rt; read_root(rt.alloc(), &bytes).err(), Some(want));

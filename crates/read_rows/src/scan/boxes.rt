@@ -1,47 +1,115 @@
 //! Boxes at the limits, and the numbers of cells.
-use super::writer::{File, cells_of, fault_of};
-use scan_core::{Field, ScanFault, coordinates, number};
-use std::alloc::Global;
+use cave_files::{Block, Entry, Structure};
+use scan_core::{Field, ScanFault, coordinates, number, read_scan};
+use std::alloc::{AllocError, Global};
 use std::test::Fail;
 
-/// The fault of a root that has a size alone.
-fn fault_at(alloc: Global, size: [i32; 3]) -> Result<Option<ScanFault>, Fail> {
-    let mut file = File::new(alloc)?;
-    file.ints("size", size)?;
-    file.end()?;
-    Ok(fault_of(alloc, &file))
+/// A size, and the fault of a root that has it alone.
+#[derive(Clone, Copy)]
+struct Size {
+    sides: [i32; 3],
+    fault: ScanFault,
 }
+
+const TAKEN: ScanFault = ScanFault::Missing(Field::PaletteField);
+
+const SIZES: [Size; 14] = [
+    Size {
+        sides: [128, 128, 16],
+        fault: TAKEN,
+    },
+    Size {
+        sides: [16, 128, 128],
+        fault: TAKEN,
+    },
+    Size {
+        sides: [128, 16, 128],
+        fault: TAKEN,
+    },
+    Size {
+        sides: [128, 0, 128],
+        fault: TAKEN,
+    },
+    Size {
+        sides: [128, 128, 17],
+        fault: ScanFault::TooLarge,
+    },
+    Size {
+        sides: [129, 0, 0],
+        fault: ScanFault::TooLarge,
+    },
+    Size {
+        sides: [0, 129, 0],
+        fault: ScanFault::TooLarge,
+    },
+    Size {
+        sides: [0, 0, 129],
+        fault: ScanFault::TooLarge,
+    },
+    Size {
+        sides: [128, 128, 128],
+        fault: ScanFault::TooLarge,
+    },
+    Size {
+        sides: [i32::MAX, i32::MAX, i32::MAX],
+        fault: ScanFault::TooLarge,
+    },
+    Size {
+        sides: [-1, 129, 0],
+        fault: ScanFault::BadSize,
+    },
+    Size {
+        sides: [129, -1, 0],
+        fault: ScanFault::BadSize,
+    },
+    Size {
+        sides: [129, 0, -1],
+        fault: ScanFault::BadSize,
+    },
+    Size {
+        sides: [i32::MIN, 0, 0],
+        fault: ScanFault::BadSize,
+    },
+];
+
+/// The bytes of a root that has a size alone.
+fn of_size(alloc: Global, sides: [i32; 3]) -> Result<Vec<u8>, AllocError> {
+    let front = [10, 0, 0, 9, 0, 4, b's', b'i', b'z', b'e', 3, 0, 0, 0, 3];
+    let mut bytes = Vec::from_slice(alloc, &front)?;
+    for side in sides {
+        bytes.extend_from_slice(&side.to_be_bytes())?;
+    }
+    bytes.push(0)?;
+    Ok(bytes)
+}
+
+/// The largest box, whose last cell alone has an entry.
+const LARGEST: Structure<'static> = Structure {
+    size: [128, 128, 16],
+    palette: &[Block {
+        name: "minecraft:stone",
+        props: &[],
+    }],
+    fills: &[],
+    more: &[Entry {
+        at: [127, 127, 15],
+        state: 0,
+    }],
+};
 
 #[test]
 fn sides_and_boxes_have_limits(rt: HostRuntime) -> Result<(), Fail> {
-    let taken = ScanFault::Missing(Field::PaletteField);
-    for (size, want) in [
-        ([128, 128, 16], taken),
-        ([16, 128, 128], taken),
-        ([128, 16, 128], taken),
-        ([128, 0, 128], taken),
-        ([128, 128, 17], ScanFault::TooLarge),
-        ([129, 0, 0], ScanFault::TooLarge),
-        ([0, 129, 0], ScanFault::TooLarge),
-        ([0, 0, 129], ScanFault::TooLarge),
-        ([128, 128, 128], ScanFault::TooLarge),
-        ([i32::MAX, i32::MAX, i32::MAX], ScanFault::TooLarge),
-        ([-1, 129, 0], ScanFault::BadSize),
-        ([129, -1, 0], ScanFault::BadSize),
-        ([129, 0, -1], ScanFault::BadSize),
-        ([i32::MIN, 0, 0], ScanFault::BadSize),
-    ] {
-        let [x, y, z] = size;
-        assert_eq!(rt; fault_at(rt.alloc(), size)?, Some(want), "at {x} {y} {z}");
+    for row in SIZES {
+        let bytes = of_size(rt.alloc(), row.sides)?;
+        let [x, y, z] = row.sides;
+        assert_eq!(rt;
+            read_scan(rt.alloc(), &bytes).err(),
+            Some(row.fault),
+            "at {x} {y} {z}"
+        );
     }
-    Ok(())
-}
-
-#[test]
-fn the_largest_box_is_taken(rt: HostRuntime) -> Result<(), Fail> {
-    let mut file = File::of(rt.alloc(), [128, 128, 16], &["minecraft:stone"])?;
-    file.blocks(&[([127, 127, 15], 0)])?;
-    let cells = cells_of(rt.alloc(), &file)?;
+    let scan = read_scan(rt.alloc(), &LARGEST.bytes(rt.alloc())?)?;
+    let cells = scan.cells();
     assert_eq!(rt; cells.len(), 262_144);
     assert_eq!(rt; cells.last().copied(), Some(Some(0)));
     assert_eq!(rt; cells.first().copied(), Some(None));

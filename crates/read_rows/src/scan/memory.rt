@@ -1,30 +1,27 @@
 //! A refused allocation is answered as such, and as nothing else.
-use super::writer::{COMPOUND, File};
+use cave_files::{Block, Entry, Structure};
 use scan_core::{ScanFault, read_scan};
-use std::alloc::{AllocError, Global};
 
 /// A box of two cells, with properties of which one is named twice.
-fn written(alloc: Global) -> Result<File, AllocError> {
-    let mut file = File::new(alloc)?;
-    file.ints("size", [2, 1, 1])?;
-    file.list("palette", COMPOUND, 1)?;
-    file.text("Name", "minecraft:redstone_lamp")?;
-    file.name(COMPOUND, "Properties")?;
-    file.text("lit", "true")?;
-    file.text("lit", "false")?;
-    file.text("age", "1")?;
-    file.end()?;
-    file.end()?;
-    file.blocks(&[([1, 0, 0], 0)])?;
-    Ok(file)
-}
+const TWO_CELLS: Structure<'static> = Structure {
+    size: [2, 1, 1],
+    palette: &[Block {
+        name: "minecraft:redstone_lamp",
+        props: &[("lit", "true"), ("lit", "false"), ("age", "1")],
+    }],
+    fills: &[],
+    more: &[Entry {
+        at: [1, 0, 0],
+        state: 0,
+    }],
+};
 
 #[test]
 fn an_answer_or_out_of_memory(rt: HostRuntime) {
-    let Ok(file) = written(rt.alloc()) else {
+    let Ok(bytes) = TWO_CELLS.bytes(rt.alloc()) else {
         return;
     };
-    match read_scan(rt.alloc(), file.bytes()) {
+    match read_scan(rt.alloc(), &bytes) {
         Ok(scan) => assert_eq!(rt; scan.cells(), [None, Some(0)].as_slice()),
         Err(fault) => assert_eq!(rt; fault, ScanFault::OutOfMemory),
     }

@@ -49,18 +49,14 @@ fn faults_are_printed(rt: HostRuntime) -> Result<(), Fail> {
             "structure: block 12 has no such state",
         ),
         (ScanFault::Palettes, "structure: palettes"),
+        (
+            ScanFault::Nbt(NbtFault::BadTag { at: 3, id: 13 }),
+            "nbt: bad tag 13 at 3",
+        ),
         (ScanFault::OutOfMemory, "out of memory"),
     ] {
         let text = format!(in rt.alloc(); "{fault}")?;
         assert_eq!(rt; text.as_str(), want);
     }
-    Ok(())
-}
-
-#[test]
-fn a_fault_of_the_bytes_has_its_own_text(rt: HostRuntime) -> Result<(), Fail> {
-    let inner = NbtFault::BadTag { at: 3, id: 13 };
-    let text = format!(in rt.alloc(); "{}", ScanFault::Nbt(inner))?;
-    assert_eq!(rt; text.as_str(), "nbt: bad tag 13 at 3");
     Ok(())
 }

@@ -39,22 +39,9 @@ fn a_table_of_hundreds_of_rows(rt: HostRuntime) -> Result<(), Fail> {
 }
 
 #[test]
-fn a_fault_in_the_last_of_hundreds_of_rows_is_told(rt: HostRuntime) -> Result<(), Fail> {
+fn long_texts_that_are_no_tables(rt: HostRuntime) -> Result<(), Fail> {
     let alloc = rt.alloc();
-    let want = RowsFault::BadRow {
-        index: 499,
-        fault: RowFault::BadNumber,
-    };
-    match Rows::with_table(alloc, rows_and(alloc, 16)?.as_bytes()) {
-        Ok(_) => assert!(rt; false),
-        Err(fault) => assert_eq!(rt; fault, want),
-    }
-    Ok(())
-}
-
-#[test]
-fn a_long_text_that_is_no_document(rt: HostRuntime) -> Result<(), Fail> {
-    let alloc = rt.alloc();
+    let sixteen = rows_and(alloc, 16)?;
     let rows = rows_and(alloc, 3)?;
     let cut = format!(in alloc; "{rows}[[row]\n")?;
     let twice = format!(in alloc; "{rows}name = \"cave:felt\"\n")?;
@@ -62,50 +49,96 @@ fn a_long_text_that_is_no_document(rt: HostRuntime) -> Result<(), Fail> {
     for _ in 0..20_000u32 {
         word.push_str("a")?;
     }
-    for text in [cut, twice, word] {
-        match Rows::with_table(alloc, text.as_bytes()) {
-            Ok(_) => assert!(rt; false),
-            Err(fault) => assert_eq!(rt; fault, RowsFault::Toml),
-        }
+    let in_the_last_row = RowsFault::BadRow {
+        index: 499,
+        fault: RowFault::BadNumber,
+    };
+    for (text, want) in [
+        (sixteen, in_the_last_row),
+        (cut, RowsFault::Toml),
+        (twice, RowsFault::Toml),
+        (word, RowsFault::Toml),
+    ] {
+        assert_eq!(rt; Rows::with_table(alloc, text.as_bytes()).err(), Some(want));
     }
     Ok(())
 }
 
-#[test]
-fn each_of_three_conditions_has_to_hold(rt: HostRuntime) -> Result<(), Fail> {
-    let alloc = rt.alloc();
-    let text = r#"
+const VINE: &str = r#"
 [[row]]
 name = "cave:vine"
 when = { north = "true", up = "false", age = "7" }
 opacity = 9
 "#;
-    let rows = Rows::with_table(alloc, text.as_bytes())?;
-    let north = ("north", "true");
-    let up = ("up", "false");
-    let age = ("age", "7");
-    for props in [
-        [north, up, age].as_slice(),
-        &[age, north, up],
-        &[("south", "true"), up, age, ("wet", ""), north],
-    ] {
-        let vine = class_in(alloc, &rows, "cave:vine", props)?;
-        assert_eq!(rt; vine, Some(class(9, 0, "")), "{props:?}");
-    }
-    for props in [
-        [north, up].as_slice(),
-        &[north, age],
-        &[up, age],
-        &[("north", "false"), up, age],
-        &[north, ("up", "true"), age],
-        &[north, up, ("age", "17")],
-        &[],
-    ] {
-        assert_eq!(rt;
-            class_in(alloc, &rows, "cave:vine", props)?,
-            None,
-            "{props:?}"
-        );
+
+const NORTH: (&str, &str) = ("north", "true");
+
+const UP: (&str, &str) = ("up", "false");
+
+const AGE: (&str, &str) = ("age", "7");
+
+/// The properties of a vine, and whether the row fits.
+#[derive(Clone, Copy)]
+struct Vine {
+    props: &'static [(&'static str, &'static str)],
+    fits: bool,
+}
+
+const VINES: [Vine; 10] = [
+    Vine {
+        props: &[NORTH, UP, AGE],
+        fits: true,
+    },
+    Vine {
+        props: &[AGE, NORTH, UP],
+        fits: true,
+    },
+    Vine {
+        props: &[("south", "true"), UP, AGE, ("wet", ""), NORTH],
+        fits: true,
+    },
+    Vine {
+        props: &[NORTH, UP],
+        fits: false,
+    },
+    Vine {
+        props: &[NORTH, AGE],
+        fits: false,
+    },
+    Vine {
+        props: &[UP, AGE],
+        fits: false,
+    },
+    Vine {
+        props: &[("north", "false"), UP, AGE],
+        fits: false,
+    },
+    Vine {
+        props: &[NORTH, ("up", "true"), AGE],
+        fits: false,
+    },
+    Vine {
+        props: &[NORTH, UP, ("age", "17")],
+        fits: false,
+    },
+    Vine {
+        props: &[],
+        fits: false,
+    },
+];
+
+#[test]
+fn each_of_three_conditions_has_to_hold(rt: HostRuntime) -> Result<(), Fail> {
+    let alloc = rt.alloc();
+    let rows = Rows::with_table(alloc, VINE.as_bytes())?;
+    for row in VINES {
+        let vine = class_in(alloc, &rows, "cave:vine", row.props)?;
+        let want = if row.fits {
+            Some(class(9, 0, ""))
+        } else {
+            None
+        };
+        assert_eq!(rt; vine, want, "{:?}", row.props);
     }
     Ok(())
 }
