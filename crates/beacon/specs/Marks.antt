@@ -67,6 +67,7 @@ together seat other = record {
 abbrev pub nobody : Known
 nobody = record { first = false; spent = true; seen = 0; told = None; out = 0 }
 
+-- the code by which seats are told apart by what they know
 abbrev pub known_coded : Coded Known
 known_coded = code_by (Bool × (Bool × (ℕ × (Option ℕ × ℕ))))
     (coded× coded_bool (coded× coded_bool (coded× coded_ℕ (coded× (coded_option coded_ℕ) coded_ℕ))))
@@ -74,6 +75,7 @@ known_coded = code_by (Bool × (Bool × (ℕ × (Option ℕ × ℕ))))
     (λ p. record { first = p.0; spent = p.1.0; seen = p.1.1.0; told = p.1.1.1.0; out = p.1.1.1.1 })
     (λ _. refl)
 
+-- the code by which seats are told apart by their beacon and by what they know
 abbrev pub seated_coded : Coded Seated
 seated_coded = code_by (TableId × Known) (coded× table_id_coded known_coded)
     (λ s. (s.beacon, s.knows)) (λ p. record { beacon = p.0; knows = p.1 }) (λ _. refl)

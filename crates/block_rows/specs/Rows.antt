@@ -23,11 +23,11 @@ has_prop state asked = list_any (λ told. bytes_eq told.0 asked.0 && bytes_eq to
 abbrev pub conditions_hold : BlockState → Row → Bool
 conditions_hold state row = list_all (has_prop state) row.when
 
--- the row fits by its name
+-- the row, no wildcard, names the block of the state, and its conditions hold
 abbrev pub fits : BlockState → Row → Bool
 fits state row = not (is_wildcard row) && bytes_eq row.name state.name && conditions_hold state row
 
--- the row fits whatever the name
+-- the row is a wildcard, and its conditions hold
 abbrev pub fits_as_wildcard : BlockState → Row → Bool
 fits_as_wildcard state row = is_wildcard row && conditions_hold state row
 

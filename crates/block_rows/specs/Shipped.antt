@@ -20,7 +20,7 @@ plain opacity emission = record {
   side = false;
 }
 
--- a class with one more of its columns set
+-- the same class, but room for a mob
 abbrev pub with_free : Class → Class
 with_free class = record {
   opacity = class.opacity;
@@ -32,6 +32,7 @@ with_free class = record {
   side = class.side;
 }
 
+-- the same class, but ground for a mob
 abbrev pub with_stand : Class → Class
 with_stand class = record {
   opacity = class.opacity;
@@ -43,6 +44,7 @@ with_stand class = record {
   side = class.side;
 }
 
+-- the same class, but a torch may take its place
 abbrev pub with_put : Class → Class
 with_put class = record {
   opacity = class.opacity;
@@ -54,6 +56,7 @@ with_put class = record {
   side = class.side;
 }
 
+-- the same class, but a torch may stand on it
 abbrev pub with_top : Class → Class
 with_top class = record {
   opacity = class.opacity;
@@ -65,6 +68,7 @@ with_top class = record {
   side = class.side;
 }
 
+-- the same class, but a torch may hang on its side
 abbrev pub with_side : Class → Class
 with_side class = record {
   opacity = class.opacity;

@@ -8,14 +8,17 @@ use Rattle.cave_model.specs.declared.fault.BuildFault.TheVariants as building
 use Rattle.cave_model.specs.declared.cave_fault.CaveFault.{CaveFault}
 use Rattle.cave_model.specs.declared.cave_fault.CaveFault.TheVariants.{Scan, Table, Build, OutOfMemory}
 
+-- the fault of a cave whose structure has this one
 abbrev pub of_scan : ScanFault → CaveFault
 of_scan scan.OutOfMemory = OutOfMemory
 of_scan fault = Scan fault
 
+-- the fault of a cave whose table has this one
 abbrev pub of_rows : RowsFault → CaveFault
 of_rows rows.OutOfMemory = OutOfMemory
 of_rows fault = Table fault
 
+-- the fault of a cave in whose building this one was met
 abbrev pub of_build : BuildFault → CaveFault
 of_build building.OutOfMemory = OutOfMemory
 of_build fault = Build fault

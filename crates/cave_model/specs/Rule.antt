@@ -2,6 +2,7 @@
 -- Source: Minecraft Wiki, "Spawn": from 1.18 on most hostile mobs spawn at block light 0 alone, before at up to 7.
 use Rattle.std.specs.Prelude.{ℕ, ◌||◌, Bool, nat_eq, IsTrue}
 
+-- how high a mob is, and the light that keeps it away
 pub record Rule : Type 0 where
   -- how many cells above its ground a mob takes up
   pub headroom : ℕ

@@ -16,6 +16,7 @@ pub record Course : Type 0 where
   pub stopped : Bool
   pub plans : List Plan
 
+-- the course of these parts
 abbrev pub course : List ℕ → ℕ → Bool → List Plan → Course
 course torches floor stopped plans = record { torches = torches; floor = floor; stopped = stopped; plans = plans }
 

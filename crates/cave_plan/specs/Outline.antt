@@ -55,5 +55,6 @@ pub record IsStoppedAt (cave : Cave) (turns : Option ℕ) (text : List ℕ) : Ty
   pub within : IsPlanWithin cave torches floor
   pub prints : Prints cave torches (Some floor) text
 
+-- what a plan shows: where it stopped safe torches and what none are fewer than, else the fewest torches, with plans
 abbrev pub IsOutlineOf : Cave → Option ℕ → List ℕ → Bool → List Plan → Type 0
 IsOutlineOf cave turns text stopped plans = MatchBool stopped (IsStoppedAt cave turns text) (IsPlanned cave text plans)

@@ -11,6 +11,7 @@ use Rattle.cave_model.specs.Torches.{hang_of}
 use Rattle.cave_model.specs.declared.hang.Hang.{Hang}
 use Rattle.cave_model.specs.declared.hang.Hang.TheVariants.{Floor, North, East, South, West}
 
+-- how a torch hangs, in a word
 abbrev pub hang_word : Hang → List ℕ
 hang_word Floor = codes "floor"
 hang_word North = codes "north"
@@ -18,6 +19,7 @@ hang_word East = codes "east"
 hang_word South = codes "south"
 hang_word West = codes "west"
 
+-- how a torch hangs, as it is drawn in a layer
 abbrev pub hang_mark : Hang → List ℕ
 hang_mark Floor = codes "T"
 hang_mark North = codes "^"
@@ -29,6 +31,7 @@ hang_mark West = codes "<"
 abbrev pub hang_at : Cave → ℕ → Hang
 hang_at cave cell = unwrap_or (hang_of cave cell) Floor
 
+-- whether one of the torches is in the cell
 abbrev pub is_torch : List ℕ → ℕ → Bool
 is_torch torches cell = list_any (λ torch. nat_eq torch cell) torches
 

@@ -4,6 +4,7 @@ use Rattle.std.specs.Prelude.{◌≡◌, ◌<◌, ◌≤◌, ◌^◌, ℕ, List,
 use Rattle.set_cover.specs.Instance.{Instance, IsInstance, LightsAt}
 use Rattle.cave_regions.specs.Splitting.{AreChained}
 
+-- the parent of each cell is the cell itself or one before it
 abbrev pub IsForest : List ℕ → Type 0
 IsForest parents = (cell : ℕ) → cell < length parents → slice_index parents cell ≤ cell
 

@@ -21,6 +21,7 @@ pub record IsPartOf (problem region : Instance) : Type 0 where
   pub of_it : (cell : ℕ) → Contains region.cells cell → Contains problem.cells cell
   pub exact : (place cell : ℕ) → LightsIn region place cell ↔ (Contains region.cells cell × LightsIn problem place cell)
 
+-- the cells of each region, a list for each
 abbrev pub cells_of_each : List Instance → List (List ℕ)
 cells_of_each regions = map (λ region. region.cells) regions
 

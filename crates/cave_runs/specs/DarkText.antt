@@ -7,6 +7,7 @@ use Rattle.scan_core.specs.Box.{Point, coordinates}
 use Rattle.cave_model.specs.Cave.{Cave}
 use Rattle.cave_model.specs.Spawn.{AreDarkCells}
 
+-- the line feed that ends a line
 abbrev pub new_line : List ℕ
 new_line = 10 ∷ []
 
@@ -18,6 +19,7 @@ point_line at = decimal at.x ++ (codes " " ++ (decimal at.y ++ (codes " " ++ (de
 abbrev pub cell_line : Point → ℕ → List ℕ
 cell_line size cell = point_line (coordinates size cell)
 
+-- how many cells there are, and each of them on a line of its own, by its coordinates in a box of this size
 abbrev pub dark_text : Point → List ℕ → List ℕ
 dark_text size cells = codes "dark " ++ decimal (length cells) ++ new_line ++ flat_map (cell_line size) cells
 

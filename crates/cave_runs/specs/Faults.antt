@@ -10,16 +10,19 @@ use Rattle.cave_runs.specs.declared.fault.RunFault.{RunFault}
 use Rattle.cave_runs.specs.declared.fault.RunFault.TheVariants.{ReadFailed, TooLong, WriteFailed, Scan, Table, Build}
 use Rattle.cave_runs.specs.declared.fault.RunFault.TheVariants.{OutOfMemory}
 
+-- a cave's fault, as one of the run
 abbrev pub run_fault_of : CaveFault → RunFault
 run_fault_of (cave.Scan fault) = Scan fault
 run_fault_of (cave.Table fault) = Table fault
 run_fault_of (cave.Build fault) = Build fault
 run_fault_of cave.OutOfMemory = OutOfMemory
 
+-- a fault of writing, as one of the run
 abbrev pub of_write : WriteFault → RunFault
 of_write writing.WriteFailed = WriteFailed
 of_write writing.OutOfMemory = OutOfMemory
 
+-- a fault of a check, as one of the run; what is too long there is the certificate
 abbrev pub of_check : CheckFault → RunFault
 of_check (check.Scan fault) = Scan fault
 of_check (check.Table fault) = Table fault

@@ -48,6 +48,7 @@ pub record WritesFloor (cave : Cave) (turns : Option ℕ) (old new proof_old pro
   pub written : Appends old new text
   pub unproved : Keeps proof_old proof_new
 
+-- what was written of the cave: where the plan is done the fewest torches and a certificate, else safe torches alone
 abbrev pub EndsIn : Outcome → Cave → Option ℕ → Option (List ℕ) → Option (List ℕ) → Option (List ℕ)
     → Option (List ℕ) → Type 0
 EndsIn Done cave turns old new proof_old proof_new = WritesBest cave old new proof_old proof_new
@@ -76,6 +77,7 @@ pub record BeginsTexts (cave : Cave) (turns : Option ℕ) (old new proof_old pro
   pub written : AppendsPart old new text
   pub proved : AppendsPart proof_old proof_new proof
 
+-- a beginning of a plan's text and of its certificate was written, or all, of the cave that the bytes tell
 pub record BeginsPlan (bytes : List ℕ) (table : Option (List ℕ)) (rule : Rule) (turns : Option ℕ)
     (old new proof_old proof_new : Option (List ℕ)) : Type 0 where
   pub cave : Cave

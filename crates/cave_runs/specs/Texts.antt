@@ -3,6 +3,7 @@ use Rattle.std.specs.Prelude.{ℕ, List, codes}
 use Rattle.cave_runs.specs.declared.fault.Input.{Input}
 use Rattle.cave_runs.specs.declared.fault.Input.TheVariants.{StructureInput, TableInput, ProofInput}
 
+-- the name of an input, as it is printed
 abbrev pub input_text : Input → List ℕ
 input_text StructureInput = codes "structure"
 input_text TableInput = codes "table"

@@ -51,6 +51,7 @@ pub record Overlong (bytes : List ℕ) (number : ℕ) : Type 0 where
   pub long : longest_line < length front
   pub counted : number ≡ taken + 1
 
+-- without a misfit all lines so far fit; with one, this line doesn't fit or is longer than any that fits
 abbrev pub HoldsOr : List ℕ → List Said → HeldText → Option ℕ → Type 0
 HoldsOr bytes all kept None = Going bytes all kept.stage kept.taken kept.last
 HoldsOr bytes all kept (Some number) = Stuck bytes number ⊎ Overlong bytes number

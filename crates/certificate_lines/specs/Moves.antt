@@ -14,6 +14,7 @@ pub record Fits (text : List ℕ) (kind : Kind) (numbers : List ℕ) (old new : 
   pub said : IsLineOf text (word_of kind) numbers
   pub counted : now_taken ≡ taken + 1
 
+-- the line doesn't fit, and neither the stage nor the count of lines changes
 pub record FitsNot (text : List ℕ) (old new : Stage) (taken now_taken : ℕ) : Type 0 where
   pub none : IsNone (Takes old text)
   pub stays : new ≡ old

@@ -13,28 +13,34 @@ pub record Said : Type 0 where
   pub kind : Kind
   pub numbers : List ℕ
 
+-- a line of this kind with these numbers
 abbrev pub said : Kind → List ℕ → Said
 said k numbers = record { kind = k; numbers = numbers }
 
+-- the line's text: the word of its kind, and its numbers, each after a space
 abbrev pub text_of : Said → List ℕ
 text_of s = line (word_of s.kind) s.numbers
 
 abbrev mutual
+  -- what the lines of a tree say, a node before its kids, and the kids in order
   pub tree_said : Tree → List Said
   tree_said (leaf cells) = said kind.Leaf (length cells ∷ cells) ∷ []
   tree_said (branch cell kids) = said kind.Branch (cell ∷ tree_count kids ∷ []) ∷ forest_said kids
   tree_said (bar place by kid) = said kind.Bar (place ∷ by ∷ []) ∷ tree_said kid
 
+  -- what the lines of the trees say, one tree after another
   pub forest_said : Forest → List Said
   forest_said none = []
   forest_said (more tree trees) = tree_said tree ++ forest_said trees
 
+-- what the lines of a region say: how many cells and torches it has, its cells, its torches, and its tree
 abbrev pub section_said : Section → List Said
 section_said section = said kind.Region (length section.cells ∷ length section.torches ∷ [])
     ∷ said kind.Dark section.cells
     ∷ said kind.Torches section.torches
     ∷ tree_said section.tree
 
+-- what the first lines say, up to the headroom and what is needed
 abbrev pub head_said : Version → Said → Said → List Said
 head_said first box headroom = said kind.Version (1 ∷ []) ∷ box ∷ headroom ∷ []
 head_said (second need) box headroom = said kind.Version (2 ∷ []) ∷ box ∷ headroom ∷ said kind.Need (need ∷ []) ∷ []

@@ -3,6 +3,8 @@ use Rattle.std.specs.Prelude.{ℕ, ◌<◌, ◌≤◌}
 use Rattle.certificate_lines.specs.declared.stage.Stage.{Stage}
 use Rattle.certificate_lines.specs.declared.stage.Stage.TheVariants as stage
 
+-- the box is no larger than one may be, no more regions, cells or torches are to come than it has cells, and where
+-- cells, torches or trees are to come they are at least one
 abbrev pub IsSoundStage : Stage → Type 0
 IsSoundStage stage.Start = Unit {0}
 IsSoundStage (stage.Box second) = Unit {0}

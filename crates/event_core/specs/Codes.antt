@@ -6,6 +6,7 @@ use Rattle.proof_tree.specs.Codes.{tree_coded}
 use Rattle.event_core.specs.Shape.{Shape, Shapes, at_rest, in_hand, settled, parted, no_shape, one_shape}
 
 abbrev mutual
+  -- a shape as its kind and what it holds
   pub code_shape : Shape → Gv
   code_shape at_rest = gcons (gnum 0) gnil
   code_shape (in_hand worker) = gcons (gnum 1) (gnum worker)
@@ -14,11 +15,13 @@ abbrev mutual
       gcons (gnum 3) (gcons (gnum cell)
       (gcons ((coded_list coded_ℕ).code places) (gcons (gnum room) (code_shapes kids))))
 
+  -- the codes of the shapes, one after another
   pub code_shapes : Shapes → Gv
   code_shapes no_shape = gnil
   code_shapes (one_shape kid kids) = gcons (code_shape kid) (code_shapes kids)
 
 mutual
+  -- two shapes with one code are one
   pub shape_inj : (x y : Shape) → code_shape x ≡ code_shape y → x ≡ y
   shape_inj at_rest at_rest p = refl
   shape_inj at_rest (in_hand w) p = absurd (cc)
@@ -40,6 +43,7 @@ mutual
       let cells : b ≡ c = cc in let places : os ≡ ps = (coded_list coded_ℕ).inj os ps (cc) in let rooms : q ≡ r = cc in
       let kids : js ≡ ks = shapes_inj js ks (cc) in cc
 
+  -- and so are two lists of shapes
   pub shapes_inj : (x y : Shapes) → code_shapes x ≡ code_shapes y → x ≡ y
   shapes_inj no_shape no_shape p = refl
   shapes_inj no_shape (one_shape k ks) p = absurd (cc)
@@ -47,8 +51,10 @@ mutual
   shapes_inj (one_shape k ks) (one_shape l ls) p =
       let here : k ≡ l = shape_inj k l (cc) in let rest : ks ≡ ls = shapes_inj ks ls (cc) in cc
 
+-- the code by which shapes are told apart
 abbrev pub shape_coded : Coded Shape
 shape_coded = record { code = code_shape; inj = shape_inj }
 
+-- the code by which lists of shapes are told apart
 abbrev pub shapes_coded : Coded Shapes
 shapes_coded = record { code = code_shapes; inj = shapes_inj }

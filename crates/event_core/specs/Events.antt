@@ -11,6 +11,7 @@ use Rattle.event_core.specs.declared.event.Event.TheVariants.{Look, Offer, Take,
 
 -- ---- when an event is enabled
 
+-- there is a worker with this number
 abbrev pub IsWorker : State → ℕ → Type 0
 IsWorker state worker = worker < length state.seen
 
@@ -51,6 +52,7 @@ pub record MayLeave (state : State) (worker : ℕ) (name : List ℕ) : Type 0 wh
   pub barred : List ℕ
   pub holds : HasPart state name chosen barred (held worker)
 
+-- the event may happen in this state, by what its kind asks
 abbrev pub IsEnabled : State → Event → Type 0
 IsEnabled state (Look worker) = IsWorker state worker
 IsEnabled state (Offer worker cover) = MayOffer state worker cover
@@ -91,6 +93,7 @@ pub record Opens (old : State) (name : List ℕ) (cell : ℕ) (new : State) : Ty
       → (places : List ℕ) × AreOpen (of_instance old.region) barred cell places
       × IsParted old name chosen barred cell places new
 
+-- the event makes the new state of the old: it changes what a worker saw, the best cover, or what became of a piece
 abbrev pub Does : State → Event → State → Type 0
 Does old (Look worker) new = new ≡ record old { seen = set old.seen worker (length old.best) }
 Does old (Offer worker cover) new = new ≡ record old { best = smaller cover.places old.best }

@@ -12,6 +12,7 @@ abbrev mutual
   IsWhole (parted cell places room kids) =
       (shape_count kids ≡ length places) × (room ≡ length places) × AreWhole kids
 
+  -- each of the kids is such
   pub AreWhole : Shapes → Type 0
   AreWhole no_shape = Unit {0}
   AreWhole (one_shape kid kids) = IsWhole kid × AreWhole kids
@@ -24,6 +25,7 @@ abbrev mutual
   is_done (settled floor tree) = true
   is_done (parted cell places room kids) = are_done kids
 
+  -- nothing waits or is held in any of the kids
   pub are_done : Shapes → Bool
   are_done no_shape = true
   are_done (one_shape kid kids) = is_done kid && are_done kids
@@ -36,6 +38,7 @@ abbrev mutual
   assembled (settled floor tree) = tree
   assembled (parted cell places room kids) = branch cell (all_assembled kids)
 
+  -- the trees of the kids, in their order
   pub all_assembled : Shapes → Forest
   all_assembled no_shape = none
   all_assembled (one_shape kid kids) = more (assembled kid) (all_assembled kids)

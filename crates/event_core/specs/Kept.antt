@@ -14,12 +14,14 @@ use Rattle.event_core.specs.Finished.{IsWhole}
 use Rattle.event_core.specs.Codes.{shape_coded}
 use Rattle.event_core.specs.declared.event.Event.{Event}
 
+-- a region, its smallest cover so far, the size that each worker saw last, and the pieces from the root on
 pub record Kept : Type 0 where
   pub region : Instance
   pub best : List ℕ
   pub seen : List ℕ
   pub root : Shape
 
+-- the code by which such cores are told apart, made of those of their parts
 abbrev pub kept_coded : Coded Kept
 kept_coded = code_by (Instance × (List ℕ × (List ℕ × Shape)))
     (coded× instance_coded (coded× (coded_list coded_ℕ) (coded× (coded_list coded_ℕ) shape_coded)))

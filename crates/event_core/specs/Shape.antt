@@ -4,32 +4,40 @@ use Rattle.proof_rules.specs.Tree.{Tree}
 use Rattle.event_core.specs.State.{Status, waiting, held, opened, closed, Part}
 
 mutual
+  -- a piece that waits, is held, is closed, or is opened, with the kids below it
   pub data Shape : Type 0 where
     at_rest : Shape
+    -- by this worker
     in_hand : ℕ → Shape
+    -- at this floor, by this tree
     settled : ℕ → Tree → Shape
     -- on a cell, with the places of its kids, and room for so many trees
     parted : ℕ → List ℕ → ℕ → Shapes → Shape
 
+  -- shapes, one after another: those of the kids of a piece
   pub data Shapes : Type 0 where
     no_shape : Shapes
     one_shape : Shape → Shapes → Shapes
 
 abbrev mutual
+  -- a number that falls from a shape to its kids
   pub shape_size : Shape → ℕ
   shape_size at_rest = 1
   shape_size (in_hand worker) = 1
   shape_size (settled floor tree) = 1
   shape_size (parted cell places room kids) = shapes_size kids + 1
 
+  -- a number that falls from shapes to each of them
   pub shapes_size : Shapes → ℕ
   shapes_size no_shape = 0
   shapes_size (one_shape kid kids) = shape_size kid + shapes_size kids + 1
 
+-- how many shapes there are
 abbrev pub shape_count : Shapes → ℕ
 shape_count no_shape = 0
 shape_count (one_shape kid kids) = shape_count kids + 1
 
+-- what became of the piece, without the kids below it
 abbrev pub status_of : Shape → Status
 status_of at_rest = waiting
 status_of (in_hand worker) = held worker
@@ -56,7 +64,7 @@ abbrev mutual
       part_below chosen (barred ++ place ∷ []) places kids number rest
 
 abbrev mutual
-  -- the same with the new shape at this name
+  -- the shape with the new one at this name; all stays where the name leads nowhere
   pub put_in : Shape → List ℕ → Shape → Shape
   put_in shape [] new = new
   put_in at_rest (number ∷ rest) new = at_rest
@@ -64,6 +72,7 @@ abbrev mutual
   put_in (settled floor tree) (number ∷ rest) new = settled floor tree
   put_in (parted cell places room kids) (number ∷ rest) new = parted cell places room (put_below kids number rest new)
 
+  -- the same among kids, of which the first number of the name says one and the rest leads on
   pub put_below : Shapes → ℕ → List ℕ → Shape → Shapes
   put_below no_shape number rest new = no_shape
   put_below (one_shape kid kids) zero rest new = one_shape (put_in kid rest new) kids

@@ -26,6 +26,8 @@ pub record HasKids (state : State) (name chosen barred : List ℕ) (cell : ℕ) 
       (barred ++ take number places) status
   pub no_more : (number : ℕ) → length places ≤ number → state.part_at (name ++ number ∷ []) ≡ None
 
+-- what holds of each state: names lead from the root on, what is closed is proved at the best size or more, and a
+-- smaller cover of the region covers some piece that waits or is held
 pub record IsSoundState (state : State) : Type 0 where
   pub seen : (worker : ℕ) → worker < length state.seen → length state.best ≤ slice_index state.seen worker
   pub rooted : (status : Status) × HasPart state [] [] [] status

@@ -19,6 +19,7 @@ pub record Part : Type 0 where
   pub barred : List ℕ
   pub status : Status
 
+-- a region, its smallest cover so far, the size that each worker saw last, and the pieces by their names
 pub record State : Type 0 where
   pub region : Instance
   -- the places of the smallest cover so far

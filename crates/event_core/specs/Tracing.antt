@@ -6,6 +6,7 @@ use Rattle.event_core.specs.declared.tracing.Standing.{Standing}
 use Rattle.event_core.specs.declared.tracing.Standing.TheVariants.{Waiting, Held, Past}
 use Rattle.event_core.specs.declared.tracing.Traced.{Traced}
 
+-- so the status stands: the piece waits, is held by this worker, or is neither
 abbrev pub StandsAs : Standing → Status → Type 0
 StandsAs Waiting status = status ≡ waiting
 StandsAs (Held worker) status = status ≡ held worker
@@ -17,6 +18,7 @@ IsTracedTo chosen barred standing None = ⊥
 IsTracedTo chosen barred standing (Some part) =
     (part.chosen ≡ chosen) × (part.barred ≡ barred) × StandsAs standing part.status
 
+-- from this shape, in which these places are chosen and barred, the name leads to just this piece, or to none
 abbrev pub IsTraced : List ℕ → List ℕ → Shape → List ℕ → Option Traced → Type 0
 IsTraced chosen barred shape name None = part_in chosen barred shape name ≡ None
 IsTraced chosen barred shape name (Some traced) =

@@ -32,6 +32,7 @@ abbrev pub Gleans : State → ℕ → List (List ℕ) → State → Type 0
 Gleans old caller [] new = new ≡ old
 Gleans old caller (name ∷ names) new = (next : State) × GleansOne old caller name next × Gleans next caller names new
 
+-- a cover, a tree, how many pieces of each worker's closing were taken over, and which the caller's thread closed
 pub record Gathering : Type 0 where
   pub cover : Covering
   pub tree : Tree

@@ -44,6 +44,7 @@ pub record TriesClose (old : State) (worker : ℕ) (closed : Fathomed) (done : B
   pub left : Bool
   pub leaves : Steps tried (Leave worker closed.piece.name) left new
 
+-- 1 where it holds, and else 0
 abbrev pub one_if : Bool → ℕ
 one_if true = 1
 one_if false = 0

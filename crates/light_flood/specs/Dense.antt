@@ -2,6 +2,7 @@
 -- This is the project's own.
 use Rattle.std.specs.Prelude.{◌≡◌, ◌≢◌, ◌<◌, ◌≤◌, ◌↔◌, ℕ, List, length, slice_index, AllPairs, Contains}
 
+-- the level of each cell by its number, and a list for the cells that have light
 pub record DenseLevels : Type 0 where
   pub levels : List ℕ
   pub lit : List ℕ

@@ -43,7 +43,7 @@ pub record Queues (cave : Cave) (levels : ℕ → ℕ) (queue : List ℕ) : Type
   pub lit : (cell : ℕ) → 0 < levels cell → Contains queue cell
   pub inside : (cell : ℕ) → Contains queue cell → cell < cell_count cave.size
 
--- levels before a relaxation
+-- levels of at most 15, and a queue of cells of the box that has each with light
 pub record IsSeeded (cave : Cave) (levels : ℕ → ℕ) (queue : List ℕ) : Type 0 where
   pub low : (cell : ℕ) → levels cell ≤ 15
   pub queued : Queues cave levels queue

@@ -5,7 +5,7 @@ use Rattle.cave_model.specs.Cave.{Cave, class_at}
 use Rattle.cave_model.specs.Plan.{AreDistinct}
 use Rattle.lit_lists.specs.Relaxing.{Queues}
 
--- each cell has its emission
+-- each cell has its emission, no level is above 15, and the queue has each cell with light, all of the box
 pub record AreSeeded (cave : Cave) (levels queue : List ℕ) : Type 0 where
   pub each : (cell : ℕ) → cell < cell_count cave.size → slice_index levels cell ≡ (class_at cave cell).emission
   pub queued : Queues cave (slice_index levels) queue

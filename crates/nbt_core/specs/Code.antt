@@ -86,9 +86,10 @@ mutual
 abbrev pub coded_nbt : Coded Nbt
 coded_nbt = record { code = code; inj = inj }
 
--- the codes of what a list holds, and of what a compound holds
+-- the code of what a list holds
 abbrev pub coded_nbts : Coded (List Nbt)
 coded_nbts = coded_list coded_nbt
 
+-- the code of what a compound holds
 abbrev pub coded_entries : Coded (List (List ℕ × Nbt))
 coded_entries = coded_list (coded× (coded_list coded_ℕ) coded_nbt)

@@ -25,12 +25,12 @@ tag_falls (tags.List ts) = omega (arith, items_weight-items_of ts)
 tag_falls (tags.Compound ms) = omega (arith, members_weight-members_of ms)
 tag_falls t = omega arith
 
--- no tag of a list weighs more than the list
+-- no tag of a list measures more than the list weighs
 pub tags_fall : (ts : List Tag) → most (λ t. deep-Tag t) ts ≤ weight_of_list (nbts ts)
 tags_fall [] = omega arith
 tags_fall (t ∷ ts) = omega (arith, tag_falls t, tags_fall ts)
 
--- no entry of a compound weighs more than the compound
+-- no entry of a compound measures more than the entries weigh
 pub entries_fall : (ms : List (List ℕ × Tag))
     → most (λ m. max 0 (max (deep-Tag m.1) 0)) ms ≤ weight_of_entries (entries_of ms)
 entries_fall [] = omega arith

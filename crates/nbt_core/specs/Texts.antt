@@ -4,6 +4,7 @@ use Rattle.nbt_core.specs.declared.fault.NbtFault.{NbtFault}
 use Rattle.nbt_core.specs.declared.fault.NbtFault.TheVariants.{Compressed, Truncated, BadTag, NotCompound, BadLength}
 use Rattle.nbt_core.specs.declared.fault.NbtFault.TheVariants.{TooDeep, OutOfMemory}
 
+-- what is printed of a fault of NBT
 abbrev pub fault_text : NbtFault → List ℕ
 fault_text Compressed = codes "nbt: compressed"
 fault_text (Truncated at) = codes "nbt: truncated at " ++ decimal at

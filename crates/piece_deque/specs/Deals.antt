@@ -56,6 +56,7 @@ together_with pass other = record {
   taken = pass.taken ++ other.taken;
 }
 
+-- the code by which passes are told apart by what they have done
 abbrev pub dealt_coded : Coded Dealt
 dealt_coded = code_by (Bool × (Bool × (ℕ × (List Subproblem × List Subproblem))))
     (coded× coded_bool (coded× coded_bool (coded× coded_ℕ

@@ -9,6 +9,7 @@ use Rattle.set_cover.specs.Instance.{Instance, of_instance}
 use Rattle.proof_rules.specs.Good.{IsCoverOfPiece}
 use Rattle.cave_regions.specs.Cover.{IsCoverOfRegion}
 
+-- a region, torches that are to cover it, and a number that none of its covers is to be below
 pub record Bounded : Type 0 where
   pub region : Instance
   pub torches : List ℕ
@@ -30,6 +31,7 @@ pub record AreBoundedIn (cave : Cave) (parts : List Bounded) : Type 0 where
 abbrev pub all_torches : List Bounded → List ℕ
 all_torches parts = all_cells (map (λ part. part.torches) parts)
 
+-- the floors of all parts, added up
 abbrev pub total_floor : List Bounded → ℕ
 total_floor [] = 0
 total_floor (part ∷ parts) = part.floor + total_floor parts

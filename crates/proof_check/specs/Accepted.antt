@@ -31,6 +31,8 @@ abbrev pub AreProved : Cave → (Section → ℕ) → List Section → Type 0
 AreProved cave floor sections = All (λ section. Good (of_cave cave) section.cells [] []
     (floor section) section.tree) sections
 
+-- it speaks of this cave, its torches are distinct places that leave no cell dark, its regions are the cave's, and each
+-- tree proves that no cover of its region has fewer places than that has torches
 pub record Proves (cave : Cave) (certificate : Certificate) : Type 0 where
   pub of_cave : IsOfCave cave certificate
   pub places : AreDistinctPlaces cave (torches_of certificate.sections)

@@ -14,6 +14,7 @@ use Rattle.proof_check.specs.declared.homes.Home.TheVariants as home
 abbrev pub home_of : Homes → ℕ → Home
 home_of h cell = slice_index_or h.homes cell home.Nowhere
 
+-- whether the cell stands in any list
 abbrev pub is_somewhere : Home → Bool
 is_somewhere home.Nowhere = false
 is_somewhere (home.Only i) = true
@@ -25,21 +26,23 @@ is_misplaced home.Nowhere allowed = false
 is_misplaced (home.Only i) allowed = not allowed
 is_misplaced home.Several allowed = true
 
--- not in just one list, or in one where it may not be
+-- in no list where it has to be in one, in one where it may not be, or in two
 abbrev pub is_unparted : Home → Bool → Bool
 is_unparted home.Nowhere needed = needed
 is_unparted (home.Only i) needed = not needed
 is_unparted home.Several needed = true
 
--- the first cell of a box for which it holds, or none
+-- it holds of no cell of a box of so many
 pub record IsNoneBelow (Kind : ℕ → Type 0) (count : ℕ) : Type 0 where
   pub each : (cell : ℕ) → cell < count → ¬ Kind cell
 
+-- the first cell of the box of which it holds
 pub record IsFirstBelow (Kind : ℕ → Type 0) (count cell : ℕ) : Type 0 where
   pub inside : cell < count
   pub is : Kind cell
   pub before : IsNoneBelow Kind cell
 
+-- the first cell of the box of which it holds, or none where it holds of none
 abbrev pub IsFirst : (ℕ → Type 0) → ℕ → Option ℕ → Type 0
 IsFirst Kind count result = MatchOption result (IsNoneBelow Kind count) (IsFirstBelow Kind count)
 
@@ -47,6 +50,7 @@ IsFirst Kind count result = MatchOption result (IsNoneBelow Kind count) (IsFirst
 abbrev pub HasTorch : List ℕ → Homes → Type 0
 HasTorch places torches = (place : ℕ) × Contains places place × IsTrue (is_somewhere (home_of torches place))
 
+-- the cell is listed where it isn't marked as allowed, or stands in two lists
 abbrev pub IsMisplaced : List Bool → Homes → ℕ → Type 0
 IsMisplaced allowed torches cell = IsTrue (is_misplaced (home_of torches cell) (is_marked allowed cell))
 
@@ -67,6 +71,7 @@ pub record DecidesBad (cave : Cave) (lists : LitLists) (regions : Homes) (count 
       → length regions.homes ≡ cell_count cave.size
       → IsFirst (IsBadCell cave parts) count result
 
+-- no cell of the box keeps whatever lists the homes are of from being regions
 pub record NoneBad (cave : Cave) (lists : LitLists) (regions : Homes) (count : ℕ) : Type 0 where
   pub each : (parts : List (List ℕ)) → AreListsOf cave lists → AreHomesOf parts regions
       → length regions.homes ≡ cell_count cave.size

@@ -13,21 +13,25 @@ use Rattle.proof_check.specs.Kept.{IsWide, Keeps}
 use Rattle.proof_check.specs.Homes.{AreHomesOf}
 use Rattle.proof_check.specs.declared.judge.Judge.{Judge}
 
--- the list of a line of this kind
+-- the numbers of a line as one list, where they are asked for, and none elsewhere
 abbrev pub part_if : Bool → List ℕ → List (List ℕ)
 part_if b numbers = if b then numbers ∷ [] else []
 
+-- whether such a line lists the cells of a region
 abbrev pub is_dark_line : Kind → Bool
 is_dark_line kind.Dark = true
 is_dark_line other = false
 
+-- whether such a line lists the torches of a region
 abbrev pub is_torch_line : Kind → Bool
 is_torch_line kind.Torches = true
 is_torch_line other = false
 
+-- the cells on each line that lists a region's cells, a list for each such line
 abbrev pub dark_parts : List Said → List (List ℕ)
 dark_parts all = flat_map (λ s. part_if (is_dark_line s.kind) s.numbers) all
 
+-- the torches on each line that lists a region's torches, a list for each such line
 abbrev pub torch_parts : List Said → List (List ℕ)
 torch_parts all = flat_map (λ s. part_if (is_torch_line s.kind) s.numbers) all
 

@@ -5,9 +5,11 @@ use Rattle.proof_check.specs.Refused.{IsInTwo, IsListed}
 use Rattle.proof_check.specs.declared.homes.Home.{Home}
 use Rattle.proof_check.specs.declared.homes.Home.TheVariants as home
 
+-- the list with this number has the cell
 abbrev pub Stands : List (List ℕ) → ℕ → ℕ → Type 0
 Stands lists i cell = Contains (slice_index_or lists i []) cell
 
+-- where the cell stands: in none of the lists, in this one alone, or in two of them
 abbrev pub IsHomeOf : List (List ℕ) → ℕ → Home → Type 0
 IsHomeOf lists cell home.Nowhere = ¬ IsListed lists cell
 IsHomeOf lists cell (home.Only i) = Stands lists i cell × ((j : ℕ) → Stands lists j cell → j ≡ i)
@@ -26,6 +28,7 @@ pub record Homes : Type 0 where
   pub homes : List Home
   pub count : ℕ
 
+-- each cell's home tells where it stands in these lists, and as many are counted as there are
 pub record AreHomesOf (lists : List (List ℕ)) (h : Homes) : Type 0 where
   pub counted : h.count ≡ length lists
   pub each : (cell : ℕ) → cell < length h.homes → IsHomeOf lists cell (slice_index_or h.homes cell home.Nowhere)
@@ -48,6 +51,7 @@ abbrev pub AreInTwo : List (List ℕ) → List ℕ → Type 0
 AreInTwo lists cells = (i j a b : ℕ) × (i < j) × Stands lists i a × Stands lists j b × Contains cells a
     × Contains cells b
 
+-- whether two of these cells, or one of them, stand in two of whatever lists the homes are of
 pub record DecidesTwo (cells : List ℕ) (h : Homes) (result : Bool) : Type 0 where
   pub each : (lists : List (List ℕ)) → AreHomesOf lists h → ((cell : ℕ) → Contains cells cell
       → cell < length h.homes) → IsTrue result ↔ AreInTwo lists cells

@@ -39,6 +39,7 @@ abbrev pub close : List Frame → Spot
 close [] = record { chosen = []; barred = []; frames = [] }
 close (frame ∷ frames) = enter_or frame.chosen (frame.barred ++ frame.place ∷ []) frame.later frames (close frames)
 
+-- where a branch on these places leads: to its first kid, or where it has none to what comes after the branch
 abbrev pub enter : List ℕ → List ℕ → List ℕ → List Frame → Spot
 enter chosen barred places frames = enter_or chosen barred places frames (close frames)
 
@@ -50,9 +51,11 @@ pub record JudgeState : Type 0 where
   pub spot : Spot
   pub weak : Option ℕ
 
+-- the same state, one line further
 abbrev pub next_line : JudgeState → JudgeState
 next_line j = record j { line = j.line + 1 }
 
+-- the state one line further, at this spot
 abbrev pub goes_to : JudgeState → Spot → JudgeState
 goes_to j spot = record j { line = j.line + 1; spot = spot }
 
@@ -61,6 +64,8 @@ pub data Judged : Type 0 where
   at : JudgeState → Judged
   stuck : ℕ → Judged
 
+-- the state after a leaf of so many cells, at what comes after it; its line is the first weak one where none was before
+-- and the cells and the chosen places are fewer than the size to prove
 abbrev pub after_leaf : JudgeState → ℕ → JudgeState
 after_leaf j count = record j {
   line = j.line + 1;
@@ -80,6 +85,7 @@ LeafSteps cave these j new =
     ⊎ ((AreDistinct these → ¬ AreScattered (of_cave cave) j.cells j.spot.chosen j.spot.barred these)
     × (new ≡ stuck j.line))
 
+-- whether the cell is unlit and so many places may light it: the branch on these is entered, or its line is bad
 abbrev pub BranchSteps : Cave → ℕ → ℕ → JudgeState → Judged → Type 0
 BranchSteps cave cell count j new =
     ((places : List ℕ) × IsBranching cave j.cells j.spot.chosen j.spot.barred cell places count
@@ -87,6 +93,7 @@ BranchSteps cave cell count j new =
     ⊎ (((places : List ℕ) → ¬ IsBranching cave j.cells j.spot.chosen j.spot.barred cell places count)
     × (new ≡ stuck j.line))
 
+-- whether the place may be left out for the other: it is barred too, or its line is bad
 abbrev pub BarSteps : Cave → ℕ → ℕ → JudgeState → Judged → Type 0
 BarSteps cave place by j new = Tests (IsDominated (of_cave cave) j.cells j.spot.chosen j.spot.barred place by) j
     (at (goes_to j (record j.spot { barred = j.spot.barred ++ place ∷ [] }))) new
@@ -101,10 +108,12 @@ NodeSteps cave kind.Torches torches j new =
     new ≡ at (record (next_line j) { floor = length torches; spot = record { chosen = []; barred = []; frames = [] } })
 NodeSteps cave other numbers j new = new ≡ at (next_line j)
 
+-- what judging makes of a line more; at a bad line it stands still
 abbrev pub StepsOver : Cave → Said → Judged → Judged → Type 0
 StepsOver cave s (at j) new = NodeSteps cave s.kind s.numbers j new
 StepsOver cave s (stuck bad) new = new ≡ stuck bad
 
+-- what judging makes of these lines, one after another
 abbrev pub Runs : Cave → List Said → Judged → Judged → Type 0
 Runs cave [] old new = old ≡ new
 Runs cave (s ∷ all) old new = (next : Judged) × StepsOver cave s old next × Runs cave all next new

@@ -44,19 +44,22 @@ pub record IsIn (cave : Cave) (lists : LitLists) (nodes : Nodes) (state : JudgeS
   pub spot : IsAt lists state.spot nodes.track.chosen.items nodes.track.barred.items nodes.track.frames.items
   pub dark : (cell : ℕ) → Contains state.cells cell → IsDark cave cell
 
+-- the judge of nodes keeps what judging has come to: its state, or the bad line
 abbrev pub Keeps : Cave → LitLists → Nodes → Judged → Type 0
 Keeps cave lists nodes (at state) = IsIn cave lists nodes state
 Keeps cave lists nodes (stuck bad) = nodes.bad ≡ Some bad
 
--- from any state on this line the judge takes a step of this kind
+-- from any state on this line the judge takes the step of a leaf with these cells
 pub record JudgesLeaf (lists : LitLists) (these : List ℕ) (line : ℕ) (old new : Nodes) : Type 0 where
   pub each : (cave : Cave) (state : JudgeState) → AreListsOf cave lists → IsIn cave lists old state → line ≡ state.line
       → (next : Judged) × LeafSteps cave these state next × Keeps cave lists new next
 
+-- from any state on this line the judge takes the step of a branch on this cell with so many kids
 pub record JudgesBranch (lists : LitLists) (cell count line : ℕ) (old new : Nodes) : Type 0 where
   pub each : (cave : Cave) (state : JudgeState) → AreListsOf cave lists → IsIn cave lists old state → line ≡ state.line
       → (next : Judged) × BranchSteps cave cell count state next × Keeps cave lists new next
 
+-- from any state on this line the judge takes the step of a bar of this place by the other
 pub record JudgesBar (lists : LitLists) (place by line : ℕ) (old new : Nodes) : Type 0 where
   pub each : (cave : Cave) (state : JudgeState) → AreListsOf cave lists → IsIn cave lists old state → line ≡ state.line
       → (next : Judged) × BarSteps cave place by state next × Keeps cave lists new next

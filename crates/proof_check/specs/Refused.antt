@@ -26,6 +26,7 @@ abbrev pub IsInTwo : List (List ℕ) → ℕ → Type 0
 IsInTwo lists cell = (i j : ℕ) × (i < j) × Contains (slice_index_or lists i []) cell
     × Contains (slice_index_or lists j []) cell
 
+-- some list has the cell
 abbrev pub IsListed : List (List ℕ) → ℕ → Type 0
 IsListed lists cell = (i : ℕ) × Contains (slice_index_or lists i []) cell
 
@@ -34,6 +35,7 @@ abbrev pub IsBadTorch : Cave → Certificate → ℕ → Type 0
 IsBadTorch cave certificate cell = IsListed (torch_lists certificate.sections) cell × ((¬ IsPlace cave cell)
     ⊎ IsInTwo (torch_lists certificate.sections) cell)
 
+-- a dark cell that none of the certificate's torches lights
 abbrev pub IsLeftDark : Cave → Certificate → ℕ → Type 0
 IsLeftDark cave certificate cell = IsDark cave cell
     × (¬ IsLitBy (of_cave cave) (torches_of certificate.sections) cell)
@@ -71,6 +73,8 @@ abbrev mutual
       ⊎ (IsDominated (of_cave cave) cells chosen barred place by
       × IsBadAt cave cells chosen (barred ++ place ∷ []) kid (line + 1) bad)
 
+  -- the same for trees of these places in turn, each chosen in its own tree and barred in those after it; the trees
+  -- before that with the bad line are good
   pub AreBadAt : Cave → List ℕ → List ℕ → List ℕ → List ℕ → Forest → ℕ → ℕ → Type 0
   AreBadAt cave cells chosen barred [] trees line bad = ⊥
   AreBadAt cave cells chosen barred (place ∷ places) none line bad = ⊥
@@ -79,6 +83,7 @@ abbrev mutual
       ⊎ (Good (of_cave cave) cells (chosen ++ place ∷ []) barred 0 tree
       × AreBadAt cave cells chosen (barred ++ place ∷ []) places trees (line + node_count tree) bad)
 
+-- of regions of which the first has its first line here, the first line of a tree that is against the rules is that one
 abbrev pub IsFirstBad : Cave → List Section → ℕ → ℕ → Type 0
 IsFirstBad cave [] line bad = ⊥
 IsFirstBad cave (section ∷ sections) line bad =
@@ -93,11 +98,14 @@ abbrev mutual
   weak_leaf floor chosen (branch cell kids) line = weak_leaf_of floor (chosen + 1) kids (line + 1)
   weak_leaf floor chosen (bar place by kid) line = weak_leaf floor chosen kid (line + 1)
 
+  -- the same of trees, one after another
   pub weak_leaf_of : ℕ → ℕ → Forest → ℕ → Option ℕ
   weak_leaf_of floor chosen none line = None
   weak_leaf_of floor chosen (more tree trees) line = option_or (weak_leaf floor chosen tree line)
       (weak_leaf_of floor chosen trees (line + node_count tree))
 
+-- of regions of which the first has its first line here, the line of the first leaf that proves less than its region
+-- has torches
 abbrev pub first_weak : List Section → ℕ → Option ℕ
 first_weak [] line = None
 first_weak (section ∷ sections) line = option_or (weak_leaf (length section.torches) 0 section.tree (line + 3))
@@ -110,23 +118,27 @@ start_line (second need) = 6
 
 -- ---- the order
 
--- the certificate gives no reason up to this step
+-- the certificate gives no reason up to its places: it speaks of this cave, and its torches are at distinct places
 pub record PassesPlaces (cave : Cave) (certificate : Certificate) : Type 0 where
   pub of_cave : IsOfCave cave certificate
   pub places : AreDistinctPlaces cave (torches_of certificate.sections)
 
+-- it gives no reason up to its light either: its torches leave no cell dark
 pub record PassesLight (cave : Cave) (certificate : Certificate) : Type 0 where
   pub before : PassesPlaces cave certificate
   pub lit : LeaveNoneDark cave (torches_of certificate.sections)
 
+-- it gives no reason up to its regions either: they are those of the cave
 pub record PassesRegions (cave : Cave) (certificate : Certificate) : Type 0 where
   pub before : PassesLight cave certificate
   pub regions : AreRegions cave (regions_of certificate)
 
+-- it gives no reason up to its nodes either: each is within the rules, whatever its tree proves
 pub record PassesNodes (cave : Cave) (certificate : Certificate) : Type 0 where
   pub before : PassesRegions cave certificate
   pub nodes : AreProved cave (λ section. 0) certificate.sections
 
+-- the first reason in this order against a certificate, with the cell or line that it names; Syntax is none of them
 abbrev pub IsReasonOf : Cave → Certificate → Reason → Type 0
 IsReasonOf cave certificate (Syntax line) = ⊥
 IsReasonOf cave certificate WrongBox = ¬ IsOfCave cave certificate

@@ -36,6 +36,7 @@ abbrev pub IsServed : LitLists → List ℕ → List ℕ → ℕ → ℕ → Typ
 IsServed lists cells chosen by cell = Contains cells cell → Meet (lit_by lists cell) chosen
     ⊎ Contains (lit_by lists cell) by
 
+-- each of these cells isn't of the region, or is lit by a chosen place or by this one
 abbrev pub AreServed : LitLists → List ℕ → List ℕ → ℕ → List ℕ → Type 0
 AreServed lists cells chosen by these = (cell : ℕ) → Contains these cell → IsServed lists cells chosen by cell
 

@@ -12,6 +12,7 @@ use Rattle.proof_check.specs.declared.reason.Reason.TheVariants.{BadNode, TooWea
 use Rattle.proof_check.specs.declared.verdict.Verdict.{Verdict}
 use Rattle.proof_check.specs.declared.verdict.Verdict.TheVariants.{Accepted, Rejected}
 
+-- what is printed of a reason
 abbrev pub reason_text : Reason → List ℕ
 reason_text (Syntax line) = codes "syntax line " ++ decimal line
 reason_text WrongBox = codes "wrong box"
@@ -21,10 +22,12 @@ reason_text (BadRegions cell) = codes "bad regions " ++ decimal cell
 reason_text (BadNode line) = codes "bad node line " ++ decimal line
 reason_text (TooWeak line) = codes "too weak line " ++ decimal line
 
+-- what is printed of a verdict
 abbrev pub verdict_text : Verdict → List ℕ
 verdict_text (Accepted torches) = codes "accepted " ++ decimal torches
 verdict_text (Rejected reason) = codes "rejected: " ++ reason_text reason
 
+-- what is printed of a fault of a check
 abbrev pub fault_text : CheckFault → List ℕ
 fault_text (Scan fault) = scans.fault_text fault
 fault_text (Table fault) = rows.fault_text fault

@@ -25,6 +25,7 @@ Fits lists chosen barred kept (frame ∷ frames) = (front : List held.Frame) × 
     × IsFrameOf lists last frame × (chosen ≡ frame.chosen ++ frame.place ∷ [])
     × (more : List ℕ) × (barred ≡ frame.barred ++ more) × Fits lists frame.chosen frame.barred front frames
 
+-- the kept lists and frames are those of the spot
 pub record IsAt (lists : LitLists) (spot : Spot) (chosen barred : List ℕ) (kept : List held.Frame) : Type 0 where
   pub chosen_is : chosen ≡ spot.chosen
   pub barred_is : barred ≡ spot.barred

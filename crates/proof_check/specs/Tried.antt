@@ -22,6 +22,7 @@ AgreesOn cave kind.Headroom numbers = numbers ≡ cave.rule.headroom ∷ []
 AgreesOn cave kind.Need numbers = numbers ≡ cave.rule.need ∷ []
 AgreesOn cave other numbers = Unit {0}
 
+-- the line speaks of the cave's box and rule, or of neither
 abbrev pub AgreesWithSaid : Cave → Said → Type 0
 AgreesWithSaid cave s = AgreesOn cave s.kind s.numbers
 
@@ -42,6 +43,7 @@ pub record IsHeard (cave : Cave) (judge : Judge) (torches : ℕ) (all : List Sai
   pub after : IsAfter cave judge all
   pub counted : torches ≡ length (all_cells (torch_parts all))
 
+-- what the trial has told of these lines: one differs from the cave, or none does and all were judged
 abbrev pub Follows : Cave → Trial → List Said → Type 0
 Follows cave t all = MatchBool t.differs (Differs cave all) (IsHeard cave t.judge t.torches all)
 
@@ -87,5 +89,6 @@ pub record IsTheVerdict (cave : Cave) (bytes : List ℕ) (verdict : Verdict) : T
   pub is : IsVerdictOf cave bytes verdict
   pub only : (other : Verdict) → IsVerdictOf cave bytes other → verdict ≡ other
 
+-- the verdict on whatever bytes the trial has tried, and no other is right
 pub record Concludes (cave : Cave) (t : Trial) (verdict : Verdict) : Type 0 where
   pub each : (bytes : List ℕ) → Tried cave bytes t → IsTheVerdict cave bytes verdict

@@ -21,18 +21,22 @@ abbrev pub need_of : Version → ℕ
 need_of first = 1
 need_of (second need) = need
 
+-- the version of its text, the box and headroom of its cave, and a section for each region
 pub record Certificate : Type 0 where
   pub version : Version
   pub size : Point
   pub headroom : ℕ
   pub sections : List Section
 
+-- the cells of each section, a list for each
 abbrev pub regions_of : Certificate → List (List ℕ)
 regions_of certificate = map (λ section. section.cells) certificate.sections
 
+-- the torches of each section, a list for each
 abbrev pub torch_lists : List Section → List (List ℕ)
 torch_lists sections = map (λ section. section.torches) sections
 
+-- the torches of all sections, one section after another
 abbrev pub torches_of : List Section → List ℕ
 torches_of sections = all_cells (torch_lists sections)
 
@@ -44,29 +48,35 @@ pub record AreListed (count : ℕ) (cells : List ℕ) : Type 0 where
   pub below : All (λ cell. cell < count) cells
 
 abbrev mutual
+  -- all its numbers are cells of a box of so many, those of a leaf ascend, and no branch has more kids than that
   pub IsTreeIn : ℕ → Tree → Type 0
   IsTreeIn count (leaf cells) = AreListed count cells
   IsTreeIn count (branch cell kids) = (cell < count) × (tree_count kids ≤ count) × AreTreesIn count kids
   IsTreeIn count (bar place by kid) = (place < count) × (by < count) × IsTreeIn count kid
 
+  -- each of the trees is such
   pub AreTreesIn : ℕ → Forest → Type 0
   AreTreesIn count none = Unit {0}
   AreTreesIn count (more tree trees) = IsTreeIn count tree × AreTreesIn count trees
 
 abbrev mutual
+  -- no place is left out in the tree
   pub HasNoBar : Tree → Type 0
   HasNoBar (leaf cells) = Unit {0}
   HasNoBar (branch cell kids) = HaveNoBar kids
   HasNoBar (bar place by kid) = ⊥
 
+  -- no place is left out in any of the trees
   pub HaveNoBar : Forest → Type 0
   HaveNoBar none = Unit {0}
   HaveNoBar (more tree trees) = HasNoBar tree × HaveNoBar trees
 
+-- the version can speak of these sections: the first of trees without a bar, the second of a need of 1 or 8
 abbrev pub IsVersionOf : List Section → Version → Type 0
 IsVersionOf sections first = All (λ section. HasNoBar section.tree) sections
 IsVersionOf sections (second need) = (need ≡ 1) ⊎ (need ≡ 8)
 
+-- ascending cells and ascending torches of a box of so many cells, some of each, and a tree in it
 pub record IsSectionIn (count : ℕ) (section : Section) : Type 0 where
   pub dark : AreListed count section.cells
   pub filled : 0 < length section.cells
@@ -74,6 +84,7 @@ pub record IsSectionIn (count : ℕ) (section : Section) : Type 0 where
   pub some : 0 < length section.torches
   pub proof : IsTreeIn count section.tree
 
+-- a small box, a headroom of 1 or 2, sections in the box, no more than it has cells, and a version for them
 pub record IsInRange (certificate : Certificate) : Type 0 where
   pub small : IsTrue (is_small certificate.size)
   pub ruled : (certificate.headroom ≡ 1) ⊎ (certificate.headroom ≡ 2)

@@ -7,17 +7,19 @@ use Rattle.proof_rules.specs.Certificate.{Section, Version, first, second, Certi
 abbrev pub line : List ℕ → List ℕ → List ℕ
 line word numbers = word ++ flat_map (λ n. codes " " ++ decimal n) numbers
 
--- a line for each node, a node before its kids, and the kids in order
 abbrev mutual
+  -- a line for each node, a node before its kids, and the kids in order
   pub tree_lines : Tree → List (List ℕ)
   tree_lines (leaf cells) = line (codes "L") (length cells ∷ cells) ∷ []
   tree_lines (branch cell kids) = line (codes "B") (cell ∷ tree_count kids ∷ []) ∷ forest_lines kids
   tree_lines (bar place by kid) = line (codes "E") (place ∷ by ∷ []) ∷ tree_lines kid
 
+  -- the lines of the trees, one tree after another
   pub forest_lines : Forest → List (List ℕ)
   forest_lines none = []
   forest_lines (more tree trees) = tree_lines tree ++ forest_lines trees
 
+-- the lines of a region: how many cells and torches it has, its cells, its torches, and its tree
 abbrev pub section_lines : Section → List (List ℕ)
 section_lines section = line (codes "region") (length section.cells ∷ length section.torches ∷ [])
     ∷ line (codes "D") section.cells
@@ -29,6 +31,7 @@ abbrev pub head_lines : Version → List ℕ → List ℕ → List (List ℕ)
 head_lines first box headroom = codes "torchproof 1" ∷ box ∷ headroom ∷ []
 head_lines (second need) box headroom = codes "torchproof 2" ∷ box ∷ headroom ∷ line (codes "need") (need ∷ []) ∷ []
 
+-- all lines of a certificate: the first ones, how many regions there are, those of each region, and `end`
 abbrev pub lines_of : Certificate → List (List ℕ)
 lines_of certificate = head_lines certificate.version
     (line (codes "box") (certificate.size.x ∷ certificate.size.y ∷ certificate.size.z ∷ []))

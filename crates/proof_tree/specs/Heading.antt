@@ -9,6 +9,7 @@ use Rattle.proof_rules.specs.Text.{ended, line, head_lines}
 abbrev pub version_for : Cave → Bool → Version
 version_for cave is_second = if is_second then second cave.rule.need else first
 
+-- the lines of version, box, rule, and how many regions there are
 abbrev pub heading_lines : Cave → ℕ → Version → List (List ℕ)
 heading_lines cave regions version = head_lines version
     (line (codes "box") (cave.size.x ∷ cave.size.y ∷ cave.size.z ∷ []))

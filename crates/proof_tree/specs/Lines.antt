@@ -9,6 +9,7 @@ use Rattle.proof_tree.specs.Order.{ordered_tree, ordered_trees}
 abbrev pub tree_text : Tree → List ℕ
 tree_text tree = ended (tree_lines (ordered_tree tree))
 
+-- the same for each of the trees, one tree after another
 abbrev pub forest_text : Forest → List ℕ
 forest_text trees = ended (forest_lines (ordered_trees trees))
 
@@ -19,6 +20,7 @@ abbrev mutual
   HasDistinctCells (branch cell kids) = HaveDistinctCells kids
   HasDistinctCells (bar place by kid) = HasDistinctCells kid
 
+  -- no cell stands twice in one leaf of the trees
   pub HaveDistinctCells : Forest → Type 0
   HaveDistinctCells none = Unit {0}
   HaveDistinctCells (more tree trees) = HasDistinctCells tree × HaveDistinctCells trees

@@ -19,6 +19,7 @@ abbrev mutual
   ordered_tree (branch cell kids) = branch cell (ordered_trees kids)
   ordered_tree (bar place by kid) = bar place by (ordered_tree kid)
 
+  -- the same trees with ascending leaves
   pub ordered_trees : Forest → Forest
   ordered_trees none = none
   ordered_trees (more tree trees) = more (ordered_tree tree) (ordered_trees trees)

@@ -12,5 +12,6 @@ use Rattle.proof_tree.specs.Planned.{Plan}
 abbrev pub plan_of : {Z : Type 0} → Arc Region Z × Cover × Proof → Plan
 plan_of part = record { region = arc_value part.0; torches = part.1.places; tree = tree_of part.2 }
 
+-- a plan of each of the parts, in their order
 abbrev pub plans_of : {Z : Type 0} → List (Arc Region Z × Cover × Proof) → List Plan
 plans_of parts = map plan_of parts

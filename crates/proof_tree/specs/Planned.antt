@@ -18,17 +18,19 @@ pub record Plan : Type 0 where
   pub torches : List ℕ
   pub tree : Tree
 
--- some place is left out in the tree
 abbrev mutual
+  -- some place is left out in the tree
   pub has_bar : Tree → Bool
   has_bar (leaf cells) = false
   has_bar (branch cell kids) = have_bar kids
   has_bar (bar place by kid) = true
 
+  -- some place is left out in one of the trees
   pub have_bar : Forest → Bool
   have_bar none = false
   have_bar (more tree trees) = has_bar tree || have_bar trees
 
+-- some place is left out in the tree of one of the plans
 abbrev pub any_bar : List Plan → Bool
 any_bar [] = false
 any_bar (plan ∷ plans) = has_bar plan.tree || any_bar plans
@@ -37,13 +39,15 @@ any_bar (plan ∷ plans) = has_bar plan.tree || any_bar plans
 abbrev pub is_second : ℕ → List Plan → Bool
 is_second need plans = not (nat_eq need 1) || any_bar plans
 
+-- the version for these plans under this need: the first, or the second where that can't say all
 abbrev pub version_of : ℕ → List Plan → Version
 version_of need plans = if is_second need plans then second need else first
 
--- its lists are written in order
+-- the section of a plan: its cells, its torches in order, and its tree with the cells of each leaf in order
 abbrev pub section_of : Plan → Section
 section_of plan = record { cells = plan.region.cells; torches = in_order plan.torches; tree = ordered_tree plan.tree }
 
+-- the certificate of a cave's plans: its box, its rule, and a section for each of the plans
 abbrev pub certificate_of : Cave → List Plan → Certificate
 certificate_of cave plans = record {
   version = version_of cave.rule.need plans;
@@ -52,6 +56,7 @@ certificate_of cave plans = record {
   sections = map section_of plans;
 }
 
+-- the text of that certificate, all its lines ended
 abbrev pub certificate_text : Cave → List Plan → List ℕ
 certificate_text cave plans = ended (lines_of (certificate_of cave plans))
 

@@ -33,9 +33,11 @@ pub record IsWritable (plan : Plan) : Type 0 where
   pub torches : AreDistinct plan.torches
   pub leaves : HasDistinctCells plan.tree
 
+-- no plan has a torch twice, or a cell twice in one leaf
 abbrev pub AreWritable : List Plan → Type 0
 AreWritable plans = All IsWritable plans
 
+-- the texts of the plans as the certificate has them, one after another
 abbrev pub sections_text : List Plan → List ℕ
 sections_text plans = flat_map section_text plans
 

@@ -11,6 +11,7 @@ pub record Point : Type 0 where
 abbrev pub point : List ℕ → Point
 point numbers = record { x = slice_index numbers 0; y = slice_index numbers 1; z = slice_index numbers 2 }
 
+-- how many cells a box with these sides has
 abbrev pub cell_count : Point → ℕ
 cell_count size = size.x * size.y * size.z
 

@@ -53,6 +53,7 @@ AreEach Is (t ∷ ts) (x ∷ xs) = Is t x × AreEach Is ts xs
 abbrev pub IsListOf : {X : Type 0} → (Nbt → X → Type 0) → Option Nbt → List X → Type 0
 IsListOf Is found xs = (ts : List Nbt) × (found ≡ Some (list (items_of ts))) × AreEach Is ts xs
 
+-- the first number, or where there is none the second
 abbrev pub or_else : Option ℕ → Option ℕ → Option ℕ
 or_else (Some n) other = Some n
 or_else None other = other

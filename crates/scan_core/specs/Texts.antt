@@ -7,6 +7,7 @@ use Rattle.scan_core.specs.declared.fault.Field.TheVariants.{PosField, StateFiel
 use Rattle.scan_core.specs.declared.fault.ScanFault.{ScanFault}
 use Rattle.scan_core.specs.declared.fault.ScanFault.TheVariants as faults
 
+-- how a fault names a field of the structure: by its path, with the index of its entry where it is of one
 abbrev pub field_text : Field → List ℕ
 field_text SizeField = codes "size"
 field_text PaletteField = codes "palette"
@@ -15,6 +16,7 @@ field_text BlocksField = codes "blocks"
 field_text (PosField index) = codes "blocks[" ++ decimal index ++ codes "].pos"
 field_text (StateField index) = codes "blocks[" ++ decimal index ++ codes "].state"
 
+-- what is printed of a fault of the structure
 abbrev pub fault_text : ScanFault → List ℕ
 fault_text (faults.Nbt fault) = inner.fault_text fault
 fault_text (faults.Missing field) = codes "structure: missing " ++ field_text field

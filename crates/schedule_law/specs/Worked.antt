@@ -17,6 +17,7 @@ pub record Worked : Type 0 where
   -- kids of what it opened that its deque had no room for
   pub refused : List Subproblem
 
+-- the code by which such results are told apart, made of those of their parts
 abbrev pub worked_coded : Coded Worked
 worked_coded = code_by (Option Covering × (List Fathomed × (List Split × (List Subproblem × List Subproblem))))
     (coded× (coded_option covering_coded) (coded× (coded_list fathomed_coded) (coded× (coded_list split_coded)

@@ -27,7 +27,7 @@ pub record AddsUp (report : Report) : Type 0 where
   pub whole : sum_of report.closed_by.items + report.gleaned + report.opened ≡ report.pushed
   pub gleaned_few : report.gleaned ≤ report.left + report.handed_back
 
--- one leaf closed the root, and no worker started
+-- no worker closed a piece, none was pushed, and no turns were granted, as where one leaf closes the root
 pub record IsOneLeaf (workers : ℕ) (report : Report) : Type 0 where
   pub none_closed : report.closed_by.items ≡ replicate workers 0
   pub none_pushed : report.pushed ≡ 0

@@ -10,6 +10,7 @@ use Rattle.piece_deque.specs.Deals.{thief_pass, one_more_out}
 use Rattle.worker_results.specs.Naming.{DequeId}
 use Rattle.worker_results.specs.Passes.{Owned, Reached}
 
+-- the owner's end of a deque of pieces, under the rule that those pushed are those in it and those taken
 abbrev pub Owner : Type 0
 Owner = Worker Subproblem Global Dealt EachOnce
 

@@ -21,16 +21,17 @@ status (Unlightable x y z) = 3
 status NoThread = 7
 status OutOfMemory = 7
 
--- 5 where the turns of a region were spent
+-- 5 where the turns of a region were spent, else 0
 abbrev pub end_status : Outcome → ℕ
 end_status Done = 0
 end_status Stopped = 5
 
--- 4 where the certificate is rejected
+-- 4 where the certificate is rejected, else 0
 abbrev pub judged : Verdict → ℕ
 judged (Accepted torches) = 0
 judged (Rejected reason) = 4
 
--- nothing was printed as an answer: the input is refused, the words are wrong, or memory or threads were
+-- a status without an answer: the input is refused, the words are wrong, a cell can't be lit, or memory or threads were
+-- refused
 abbrev pub IsRefused : ℕ → Type 0
 IsRefused status = (status ≡ 1) ⊎ (status ≡ 2) ⊎ (status ≡ 3) ⊎ (status ≡ 7)

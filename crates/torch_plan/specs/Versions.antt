@@ -2,7 +2,7 @@
 -- Source: Minecraft Wiki, "Spawn"; that 1.18 stands for all from then on is this project's own.
 use Rattle.std.specs.Prelude.{◌≡◌, ◌⊎◌, ℕ, List, Option, Some, None, codes}
 
--- of 1.18 where none is named
+-- what is needed in the version that is named: 1 in 1.18, which stands where none is named, and 8 in 1.17
 abbrev pub IsNeedFor : Option (List ℕ) → ℕ → Type 0
 IsNeedFor None need = need ≡ 1
 IsNeedFor (Some version) need = ((version ≡ codes "1.18") × (need ≡ 1)) ⊎ ((version ≡ codes "1.17") × (need ≡ 8))

@@ -11,6 +11,7 @@ pub record Reached : Type 0 where
   pub deque : ℕ
   pub knows : Dealt
 
+-- the code by which passes are told apart by their deque and by what they have done
 abbrev pub reached_coded : Coded Reached
 reached_coded = code_by (ℕ × Dealt) (coded× coded_ℕ dealt_coded)
     (λ r. (r.deque, r.knows)) (λ p. record { deque = p.0; knows = p.1 }) (λ _. refl)
@@ -20,6 +21,7 @@ pub record Owned : Type 0 where
   pub worker : ℕ
   pub knows : Dealt
 
+-- the code by which owners' passes are told apart by their worker and by what they have done
 abbrev pub owned_coded : Coded Owned
 owned_coded = code_by (ℕ × Dealt) (coded× coded_ℕ dealt_coded)
     (λ o. (o.worker, o.knows)) (λ p. record { worker = p.0; knows = p.1 }) (λ _. refl)

@@ -42,6 +42,7 @@ pub record Desked : Type 0 where
   pub granted : ℕ
   pub refused : Bool
 
+-- the code by which desks are told apart, made of those of their parts
 abbrev pub desked_coded : Coded Desked
 desked_coded = code_by (Instance × (Known × (Option Covering × (Option ℕ × (ℕ × Bool)))))
     (coded× instance_coded (coded× known_coded (coded× (coded_option covering_coded)
@@ -64,6 +65,7 @@ pub record Handed : Type 0 where
   pub knows : Known
   pub cover : Option Covering
 
+-- the code by which what workers hand over is told apart, made of those of its parts
 abbrev pub handed_coded : Coded Handed
 handed_coded = code_by (Shared × (Known × Option Covering))
     (coded× shared_coded (coded× known_coded (coded_option covering_coded)))

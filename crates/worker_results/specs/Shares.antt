@@ -25,6 +25,7 @@ pub record Shared : Type 0 where
   -- kids of what it opened that its deque had no room for
   pub refused : List Subproblem
 
+-- the code by which what workers have is told apart, made of those of its parts
 abbrev pub shared_coded : Coded Shared
 shared_coded = code_by
     (ℕ × (Dealt × (List Reached × (List Fathomed × (List Split × (List Subproblem × List Subproblem))))))
