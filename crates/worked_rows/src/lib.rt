@@ -16,6 +16,8 @@ mod failing_once;
 #[cfg(test)]
 mod faults;
 #[cfg(test)]
+mod fewest;
+#[cfg(test)]
 mod limits;
 #[cfg(test)]
 mod long_texts;
