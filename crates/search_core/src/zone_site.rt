@@ -31,6 +31,17 @@ impl<'a> Site<'a> {
         bits_of(alloc, &left)
     }
 
+    /// The cells of the packing but these.
+    pub(crate) fn beside(&self, alloc: Global, part: &[u32]) -> Result<Vec<u32>, AllocError> {
+        let mut found = Vec::with_capacity(alloc, self.packing.len())?;
+        for cell in self.packing {
+            if !part.contains(cell) {
+                found.push(*cell)?;
+            }
+        }
+        Ok(found)
+    }
+
     /// So many cells of the packing, those nearest to the seed by steps of conflict, the nearest first.
     pub(crate) fn nearest(
         &self,

@@ -19,6 +19,25 @@ pub(crate) fn is_mark(word: u32) -> bool {
     word >= END
 }
 
+/// A leaf of the cells of all parts.
+pub(crate) fn leaf(alloc: Global, parts: &[&[u32]]) -> Result<Vec<u32>, AllocError> {
+    let mut tree = Vec::new(alloc);
+    tree.push(LEAF)?;
+    for cells in parts {
+        tree.extend_from_slice(cells)?;
+    }
+    Ok(tree)
+}
+
+/// A branch with no kid.
+pub(crate) fn bare_branch(alloc: Global, cell: u32) -> Result<Vec<u32>, AllocError> {
+    let mut tree = Vec::new(alloc);
+    tree.push(BRANCH)?;
+    tree.push(cell)?;
+    tree.push(END)?;
+    Ok(tree)
+}
+
 /// How many nodes the tree has.
 pub(crate) fn line_count(tree: &[u32]) -> usize {
     let mut count: usize = 0;
