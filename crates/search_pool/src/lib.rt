@@ -19,6 +19,7 @@ mod worker;
 mod workers;
 
 pub use gate::{Gate, Open};
+pub use gathering::PoolFault;
 pub use planning::plan_with;
 pub use report::Report;
 pub use workers::Workers;
