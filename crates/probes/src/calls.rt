@@ -2,7 +2,7 @@
 //! refused.
 use crate::taking::Taking;
 use block_rows::{Rows, RowsFault};
-use cave_model::{BuildFault, Rule, World, build};
+use cave_model::{BuildFault, Rule, World, build, read_cave};
 use cover_rows::{CoverFault, Problem};
 use light_flood::{dark_cells, light, reach};
 use nbt_core::{NbtFault, read_root};
@@ -63,13 +63,7 @@ fn build_is_wrong(alloc: Global, pillar: &[u8]) -> bool {
 
 /// The pillar's cave; what refuses it is looked at above.
 fn world_of(alloc: Global, pillar: &[u8]) -> Option<World> {
-    let Ok(scan) = read_scan(alloc, pillar) else {
-        return None;
-    };
-    let Ok(rows) = Rows::shipped(alloc) else {
-        return None;
-    };
-    build(alloc, &scan, &rows, Rule::new(2, 1)).ok()
+    read_cave(alloc, pillar, None, Rule::new(2, 1)).ok()
 }
 
 /// The middle cell is dark.

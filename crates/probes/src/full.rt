@@ -1,11 +1,9 @@
 //! Takes the largest box, a floor of stone and air above it, through each step from its bytes to its coverage: with
 //! ample memory each step answers.
-use block_rows::Rows;
+use crate::parts::{counted, world_of};
 use cave_files::{Block, Fill, Structure};
-use cave_model::{Rule, build};
-use cover_rows::Problem;
-use light_flood::{dark_cells, light};
-use scan_core::read_scan;
+use cave_model::Rule;
+use std::alloc::Global;
 use std::test::Fail;
 use torch_plan::run_dark;
 
@@ -31,28 +29,32 @@ const ROOM: Fill = Fill {
     state: Some(1),
 };
 
+const FULL: Structure<'static> = Structure {
+    size: [128, 16, 128],
+    palette: &[STONE, AIR],
+    fills: &[FLOOR, ROOM],
+    more: &[],
+};
+
+/// How many bytes the dark text of the structure has.
+fn text_length(alloc: Global, bytes: &[u8]) -> Result<usize, Fail> {
+    let mut text = Vec::new(alloc);
+    let mut reader = bytes;
+    run_dark(alloc, &mut reader, None, Rule::new(2, 1), &mut text)?;
+    Ok(text.len())
+}
+
 /// Prints how many cells the box has, how many of them are dark and how many places, and how long the dark text is.
 pub fn run(rt: &HostRuntime) -> Result<(), Fail> {
     let alloc = rt.alloc();
-    let full = Structure {
-        size: [128, 16, 128],
-        palette: &[STONE, AIR],
-        fills: &[FLOOR, ROOM],
-        more: &[],
-    };
-    let bytes = full.bytes(alloc)?;
-    let scan = read_scan(alloc, &bytes)?;
-    let world = build(alloc, &scan, &Rows::shipped(alloc)?, Rule::new(2, 1))?;
-    let dark = dark_cells(alloc, &world, &light(alloc, &world)?)?;
-    let places = Problem::new(alloc, &world)?.places().len();
-    let mut text = Vec::new(alloc);
-    let mut reader = bytes.as_slice();
-    run_dark(alloc, &mut reader, None, Rule::new(2, 1), &mut text)?;
+    let bytes = FULL.bytes(alloc)?;
+    let world = world_of(alloc, &bytes, Rule::new(2, 1))?;
+    let dark = counted(alloc, &world, "light")?;
+    let places = counted(alloc, &world, "coverage")?;
     println!(rt;
-        "{} cells, {} dark, {places} places",
-        world.cell_count(),
-        dark.len()
+        "{} cells, {dark} dark, {places} places",
+        world.cell_count()
     )?;
-    println!(rt; "a dark text of {} bytes", text.len())?;
+    println!(rt; "a dark text of {} bytes", text_length(alloc, &bytes)?)?;
     Ok(())
 }
