@@ -1,9 +1,11 @@
-//! What no clause of the reader, the scan, the table and the cave shows: the values that bytes from outside mean, each
-//! fault and its text, and memory.
+//! What no clause of the reader, the scan, the table, the cave and the checker shows: the values that bytes from
+//! outside mean, each fault and its text, and memory; and the worked certificates, judged.
 #![tactic(auto)]
 
 #[cfg(test)]
 mod cave;
+#[cfg(test)]
+mod certificate;
 #[cfg(test)]
 mod nbt;
 #[cfg(test)]

@@ -8,7 +8,11 @@ mod caves;
 #[cfg(test)]
 mod check_streams;
 #[cfg(test)]
+mod counted;
+#[cfg(test)]
 mod dark;
+#[cfg(test)]
+mod entering;
 #[cfg(test)]
 mod failing;
 #[cfg(test)]
@@ -17,6 +21,8 @@ mod failing_once;
 mod faults;
 #[cfg(test)]
 mod fewest;
+#[cfg(test)]
+mod gates;
 #[cfg(test)]
 mod limits;
 #[cfg(test)]
@@ -28,6 +34,8 @@ mod plan_streams;
 #[cfg(test)]
 mod planning;
 #[cfg(test)]
+mod ring_caves;
+#[cfg(test)]
 mod rules;
 #[cfg(test)]
 mod running;
@@ -37,5 +45,9 @@ mod shelf;
 mod streams;
 #[cfg(test)]
 mod tables;
+#[cfg(test)]
+mod through;
+#[cfg(test)]
+mod turns;
 #[cfg(test)]
 mod words;

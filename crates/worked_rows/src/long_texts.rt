@@ -4,12 +4,12 @@ use crate::caves::{AIR, STONE, fill};
 use crate::failing::writer_of;
 use crate::planning::{check, freely};
 use cave_files::Structure;
+use std::alloc::{AllocError, Global};
 use std::test::Fail;
 use torch_plan::{Open, Rule, run_dark, run_plan};
 
-#[test]
-fn a_long_text_of_dark_cells_is_written_byte_by_byte(rt: HostRuntime) -> Result<(), Fail> {
-    let alloc = rt.alloc();
+/// The file of a hall of 18 x 18 cells.
+fn hall(alloc: Global) -> Result<Vec<u8>, AllocError> {
     let hall = Structure {
         size: [20, 4, 20],
         palette: &[STONE, AIR],
@@ -19,41 +19,40 @@ fn a_long_text_of_dark_cells_is_written_byte_by_byte(rt: HostRuntime) -> Result<
         ],
         more: &[],
     };
+    hall.bytes(alloc)
+}
+
+/// The dark text of the hall.
+fn text_of_hall(alloc: Global) -> Result<String, AllocError> {
     let mut text = String::from_str(alloc, "dark 324\n")?;
     for z in 1..=18u32 {
         for x in 1..=18u32 {
             text.push_str(format!(in alloc; "{x} 1 {z}\n")?.as_str())?;
         }
     }
-    assert!(rt; 1000 < text.len());
-    let bytes = hall.bytes(alloc)?;
+    Ok(text)
+}
+
+#[test]
+fn a_long_text_of_dark_cells_is_written_byte_by_byte(rt: HostRuntime) -> Result<(), Fail> {
+    let alloc = rt.alloc();
+    let bytes = hall(alloc)?;
     let mut reader = bytes.as_slice();
     let mut writer = writer_of(alloc, usize::MAX);
     let ended = run_dark(alloc, &mut reader, None, Rule::new(2, 1), &mut writer);
     assert!(rt; ended.is_ok());
+    let text = text_of_hall(alloc)?;
+    assert!(rt; 1000 < text.len());
     assert_eq!(rt; writer.taken.as_slice(), text.as_bytes());
     Ok(())
 }
 
-#[test]
-fn a_long_plan_and_its_certificate_are_written_byte_by_byte(rt: HostRuntime) -> Result<(), Fail> {
-    let alloc = rt.alloc();
-    // Twenty corridors of 27 cells side by side, with walls between them; and their plan, one torch in the middle of
-    // each.
+/// The file of twenty corridors of 27 cells side by side, with walls between them.
+fn corridors(alloc: Global) -> Result<Vec<u8>, AllocError> {
     let mut fills = Vec::from_slice(alloc, &[fill([0, 0, 0], [28, 3, 40], 0)])?;
-    let mut due = String::from_str(alloc, "torches 20\ndark 540\n")?;
     for corridor in 0..20i32 {
         let z = corridor.wrapping_mul(2).wrapping_add(1);
         fills.push(fill([1, 1, z], [27, 2, z], 1))?;
-        due.push_str(format!(in alloc; "T 14 1 {z} floor\n")?.as_str())?;
-    }
-    due.push_str("layer 1\n")?;
-    for z in 0..=40u32 {
-        due.push_str(if z % 2 == 1 {
-            "#.............T.............#\n"
-        } else {
-            "#############################\n"
-        })?;
     }
     let cave = Structure {
         size: [29, 4, 41],
@@ -61,8 +60,31 @@ fn a_long_plan_and_its_certificate_are_written_byte_by_byte(rt: HostRuntime) -> 
         fills: &fills,
         more: &[],
     };
-    assert!(rt; 1000 < due.len());
-    let bytes = cave.bytes(alloc)?;
+    cave.bytes(alloc)
+}
+
+/// Their plan, one torch in the middle of each.
+fn plan_of_corridors(alloc: Global) -> Result<String, AllocError> {
+    let mut text = String::from_str(alloc, "torches 20\ndark 540\n")?;
+    for corridor in 0..20u32 {
+        let z = corridor.wrapping_mul(2).wrapping_add(1);
+        text.push_str(format!(in alloc; "T 14 1 {z} floor\n")?.as_str())?;
+    }
+    text.push_str("layer 1\n")?;
+    for z in 0..=40u32 {
+        text.push_str(if z % 2 == 1 {
+            "#.............T.............#\n"
+        } else {
+            "#############################\n"
+        })?;
+    }
+    Ok(text)
+}
+
+#[test]
+fn a_long_plan_and_its_certificate_are_written_byte_by_byte(rt: HostRuntime) -> Result<(), Fail> {
+    let alloc = rt.alloc();
+    let bytes = corridors(alloc)?;
     let mut reader = bytes.as_slice();
     let mut text = writer_of(alloc, usize::MAX);
     let mut proof = writer_of(alloc, usize::MAX);
@@ -78,8 +100,10 @@ fn a_long_plan_and_its_certificate_are_written_byte_by_byte(rt: HostRuntime) -> 
         &mut proof,
     );
     assert!(rt; ended.is_ok());
-    assert_eq!(rt; text.taken.as_slice(), due.as_bytes());
     assert!(rt; 1000 < proof.taken.len());
+    let due = plan_of_corridors(alloc)?;
+    assert!(rt; 1000 < due.len());
+    assert_eq!(rt; text.taken.as_slice(), due.as_bytes());
     let said = check(alloc, &bytes, None, opts.rule, &proof.taken)?;
     assert_eq!(rt; said.as_slice(), b"accepted 20\n".as_slice());
     Ok(())

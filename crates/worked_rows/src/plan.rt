@@ -6,7 +6,11 @@ use crate::caves::{
 };
 use crate::planning::{alone, freely, is_accepted, lines_with, plan};
 use cave_files::{Fill, Structure};
+use std::alloc::Global;
+use std::process::Abort;
+use std::sync::Wait;
 use std::test::Fail;
+use std::thread::Threads;
 use torch_plan::{Outcome, Rule};
 
 /// Two corridors of 27 cells side by side, with a wall between.
@@ -149,51 +153,67 @@ fn unknown_blocks_and_cells_that_no_torch_lights_are_refused(rt: HostRuntime) ->
     Ok(())
 }
 
+/// The certificate of the cave's plan.
+fn proof_of<X: Abort + Threads + Wait + Sync>(
+    rt: &X,
+    alloc: Global,
+    cave: &Structure<'_>,
+) -> Result<Vec<u8>, Fail> {
+    let bytes = cave.bytes(alloc)?;
+    let planned = plan(rt, alloc, &bytes, None, &freely(rt))?;
+    Ok(planned.proof)
+}
+
 #[test]
-fn certificates_name_their_regions_and_torches(rt: HostRuntime) -> Result<(), Fail> {
+fn certificates_of_nothing_and_of_a_pillar_have_these_lines(rt: HostRuntime) -> Result<(), Fail> {
     let alloc = rt.alloc();
-    let planned = plan(&rt, alloc, &EMPTY.bytes(alloc)?, None, &freely(&rt))?;
-    let proof = b"torchproof 1\nbox 0 0 0\nheadroom 2\nregions 0\nend\n";
-    assert_eq!(rt; planned.proof.as_slice(), proof.as_slice());
-    let planned = plan(&rt, alloc, &PILLAR.bytes(alloc)?, None, &freely(&rt))?;
+    let proof = proof_of(&rt, alloc, &EMPTY)?;
+    let whole = b"torchproof 1\nbox 0 0 0\nheadroom 2\nregions 0\nend\n";
+    assert_eq!(rt; proof.as_slice(), whole.as_slice());
+    let proof = proof_of(&rt, alloc, &PILLAR)?;
     let head = b"torchproof 1\nbox 1 3 1\nheadroom 2\nregions 1\nregion 1 1\nD 1\nT 1\n";
-    assert!(rt; planned.proof.starts_with(head));
-    let tree = &planned.proof[head.len()..];
+    assert!(rt; proof.starts_with(head));
+    let tree = &proof[head.len()..];
     assert!(rt; tree == b"L 1 1\nend\n".as_slice() || tree == b"B 1 1\nL 0\nend\n".as_slice());
-    let planned = plan(&rt, alloc, &TWO_CORRIDORS.bytes(alloc)?, None, &freely(&rt))?;
-    let mut lines = planned.proof.split(|byte| *byte == b'\n');
-    assert!(rt; lines.any(|line| line == b"regions 2".as_slice()));
-    assert!(rt; lines.any(|line| line == b"region 27 1".as_slice()));
-    assert!(rt; lines.any(|line| line == b"T 188".as_slice()));
-    assert!(rt; lines.any(|line| line == b"region 27 1".as_slice()));
-    assert!(rt; lines.any(|line| line == b"T 246".as_slice()));
     Ok(())
 }
 
 #[test]
-fn before_1_18_the_corridor_needs_three_torches(rt: HostRuntime) -> Result<(), Fail> {
+fn a_certificate_names_its_regions_and_torches_in_order(rt: HostRuntime) -> Result<(), Fail> {
+    let proof = proof_of(&rt, rt.alloc(), &TWO_CORRIDORS)?;
+    let mut lines = proof.split(|byte| *byte == b'\n');
+    for due in ["regions 2", "region 27 1", "T 188", "region 27 1", "T 246"] {
+        assert!(rt; lines.any(|line| line == due.as_bytes()), "{due}");
+    }
+    Ok(())
+}
+
+#[test]
+fn before_1_18_corridors_need_more_torches(rt: HostRuntime) -> Result<(), Fail> {
     let alloc = rt.alloc();
     let before = alone(&rt, Rule::new(2, 8), None);
-    let bytes = CORRIDOR_27.bytes(alloc)?;
-    let planned = plan(&rt, alloc, &bytes, None, &before)?;
-    is_accepted(&rt, alloc, &bytes, None, before.rule, &planned)?;
-    assert!(rt; planned.text.starts_with(b"torches 3\ndark 27\n"));
-    assert!(rt;
-        planned
-            .proof
-            .starts_with(b"torchproof 2\nbox 29 4 3\nheadroom 2\nneed 8\n")
-    );
-    let planned = plan(&rt, alloc, &LIT_27.bytes(alloc)?, None, &before)?;
-    assert!(rt; planned.text.starts_with(b"torches 2\ndark 14\n"));
+    for (cave, head) in [
+        (CORRIDOR_27, "torches 3\ndark 27\n"),
+        (LIT_27, "torches 2\ndark 14\n"),
+    ] {
+        let bytes = cave.bytes(alloc)?;
+        let planned = plan(&rt, alloc, &bytes, None, &before)?;
+        is_accepted(&rt, alloc, &bytes, None, before.rule, &planned)?;
+        assert!(rt; planned.text.starts_with(head.as_bytes()));
+        assert!(rt;
+            planned
+                .proof
+                .starts_with(b"torchproof 2\nbox 29 4 3\nheadroom 2\nneed 8\n")
+        );
+    }
     Ok(())
 }
 
 #[test]
-fn one_turn_stops_the_ring_and_a_million_do_not(rt: HostRuntime) -> Result<(), Fail> {
+fn one_turn_stops_the_ring(rt: HostRuntime) -> Result<(), Fail> {
     let alloc = rt.alloc();
-    let bytes = RING.bytes(alloc)?;
-    let rule = Rule::new(2, 1);
-    let stopped = plan(&rt, alloc, &bytes, None, &alone(&rt, rule, Some(1)))?;
+    let opts = alone(&rt, Rule::new(2, 1), Some(1));
+    let stopped = plan(&rt, alloc, &RING.bytes(alloc)?, None, &opts)?;
     assert!(rt; stopped.outcome == Some(Outcome::Stopped));
     assert!(rt; stopped.proof.is_empty());
     assert!(rt; lines_with(&stopped.text, b'T') >= 2);
@@ -201,12 +221,20 @@ fn one_turn_stops_the_ring_and_a_million_do_not(rt: HostRuntime) -> Result<(), F
     assert!(rt;
         matches!(first, Some(line) if line.ends_with(b" at-least 1") || line.ends_with(b" at-least 2"))
     );
-    let ended = plan(&rt, alloc, &bytes, None, &alone(&rt, rule, Some(1_000_000)))?;
-    assert!(rt; ended.outcome == Some(Outcome::Done));
-    assert!(rt; ended.text.starts_with(b"torches 2\ndark 28\n"));
-    // One leaf takes one turn.
-    let bytes = CORRIDOR_27.bytes(alloc)?;
-    let one_leaf = plan(&rt, alloc, &bytes, None, &alone(&rt, rule, Some(1)))?;
-    assert!(rt; one_leaf.outcome == Some(Outcome::Done));
+    Ok(())
+}
+
+#[test]
+fn a_million_turns_plan_the_ring_and_one_turn_plans_one_leaf(rt: HostRuntime) -> Result<(), Fail> {
+    let alloc = rt.alloc();
+    for (cave, turns, head) in [
+        (RING, 1_000_000, "torches 2\ndark 28\n"),
+        (CORRIDOR_27, 1, "torches 1\ndark 27\n"),
+    ] {
+        let opts = alone(&rt, Rule::new(2, 1), Some(turns));
+        let ended = plan(&rt, alloc, &cave.bytes(alloc)?, None, &opts)?;
+        assert!(rt; ended.outcome == Some(Outcome::Done));
+        assert!(rt; ended.text.starts_with(head.as_bytes()));
+    }
     Ok(())
 }

@@ -6,7 +6,7 @@ use std::process::Abort;
 use std::sync::Wait;
 use std::test::Fail;
 use std::thread::Threads;
-use torch_plan::{Open, Outcome, PlanOpts, Rule, Workers, run_check, run_plan};
+use torch_plan::{Gate, Open, Outcome, PlanOpts, Rule, Workers, run_check, run_plan};
 
 /// How a run ended, or its fault line without `torchplan: `; and what was written to both writers.
 #[derive(Drop)]
@@ -25,6 +25,18 @@ pub fn plan<X: Threads + Wait + Sync>(
     table: Option<&[u8]>,
     opts: &PlanOpts,
 ) -> Result<Planned, AllocError> {
+    plan_by(rt, alloc, bytes, table, opts, &Open)
+}
+
+/// Plans these bytes by workers that pass the gate.
+pub fn plan_by<X: Threads + Wait + Sync, G: Gate>(
+    rt: &X,
+    alloc: Global,
+    bytes: &[u8],
+    table: Option<&[u8]>,
+    opts: &PlanOpts,
+    gate: &G,
+) -> Result<Planned, AllocError> {
     let mut reader = bytes;
     let mut text = Vec::new(alloc);
     let mut proof = Vec::new(alloc);
@@ -34,7 +46,7 @@ pub fn plan<X: Threads + Wait + Sync>(
         &mut reader,
         table,
         opts,
-        &Open,
+        gate,
         &mut text,
         &mut proof,
     ) {
@@ -60,9 +72,14 @@ pub fn workers(rt: &impl Abort, count: u32) -> Workers {
 
 /// One worker, with so many turns.
 pub fn alone(rt: &impl Abort, rule: Rule, turns: Option<u64>) -> PlanOpts {
+    shared(rt, 1, rule, turns)
+}
+
+/// So many workers, which share so many turns.
+pub fn shared(rt: &impl Abort, count: u32, rule: Rule, turns: Option<u64>) -> PlanOpts {
     PlanOpts {
         rule,
-        workers: workers(rt, 1),
+        workers: workers(rt, count),
         turns,
     }
 }

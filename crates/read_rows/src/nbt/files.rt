@@ -1,6 +1,7 @@
 //! Two whole files, byte by byte.
 use super::build::{are_ints, list, text};
 use nbt_core::{Tag, read_root};
+use std::process::Abort;
 use std::test::Fail;
 
 /// A structure of size 0, 0, 0, with an empty palette and no blocks.
@@ -53,26 +54,38 @@ const FILES: [Told; 2] = [
     },
 ];
 
+/// The palette's states have these names, in this order.
+fn has_names(rt: &impl Abort, palette: &[Tag], names: &[&str]) -> Result<(), Fail> {
+    assert_eq!(rt; palette.len(), names.len());
+    for (state, name) in palette.iter().zip(names) {
+        assert_eq!(rt; text(state, b"Name")?, name.as_bytes());
+    }
+    Ok(())
+}
+
+/// The blocks stand one above the other, with these states.
+fn has_blocks(rt: &impl Abort, blocks: &[Tag], told: &[(i32, i32)]) -> Result<(), Fail> {
+    assert_eq!(rt; blocks.len(), told.len());
+    for (block, (y, state)) in blocks.iter().zip(told) {
+        assert!(rt; are_ints(list(block, b"pos")?, &[0, *y, 0]));
+        assert!(rt; matches!(block.field(b"state"), Some(Tag::Int(n)) if n == state));
+    }
+    Ok(())
+}
+
+/// The root's three entries are those of the row.
+fn tells(rt: &impl Abort, root: &Tag, row: Told) -> Result<(), Fail> {
+    assert!(rt; matches!(root, Tag::Compound(entries) if entries.as_slice().len() == 3));
+    assert!(rt; are_ints(list(root, b"size")?, &row.size));
+    has_names(rt, list(root, b"palette")?, row.names)?;
+    has_blocks(rt, list(root, b"blocks")?, row.blocks)
+}
+
 #[test]
 fn a_structure_of_nothing_and_a_pillar(rt: HostRuntime) -> Result<(), Fail> {
     for row in FILES {
         let root = read_root(rt.alloc(), row.bytes)?;
-        let Tag::Compound(entries) = &root else {
-            return Err(Fail::from("no compound"));
-        };
-        assert_eq!(rt; entries.as_slice().len(), 3);
-        assert!(rt; are_ints(list(&root, b"size")?, &row.size));
-        let palette = list(&root, b"palette")?;
-        assert_eq!(rt; palette.len(), row.names.len());
-        for (state, name) in palette.iter().zip(row.names) {
-            assert_eq!(rt; text(state, b"Name")?, name.as_bytes());
-        }
-        let blocks = list(&root, b"blocks")?;
-        assert_eq!(rt; blocks.len(), row.blocks.len());
-        for (block, (y, state)) in blocks.iter().zip(row.blocks) {
-            assert!(rt; are_ints(list(block, b"pos")?, &[0, *y, 0]));
-            assert!(rt; matches!(block.field(b"state"), Some(Tag::Int(n)) if n == state));
-        }
+        tells(&rt, &root, row)?;
     }
     Ok(())
 }

@@ -1,3 +1,0 @@
--- public clauses cite
-pub mod Single
-pub mod Turns

@@ -1,0 +1,8 @@
+//! The worked certificates and changes of them, judged against caves built byte by byte.
+mod caves;
+mod faults;
+mod forged;
+mod judging;
+mod proofs;
+mod streams;
+mod worked;
