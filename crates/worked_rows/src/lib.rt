@@ -1,4 +1,5 @@
-//! The worked examples: caves built byte by byte, run through the library, and compared text by text.
+//! The worked examples: caves built byte by byte, run through the library, and compared text by text; and rings planned
+//! by many workers, which gates hold back until others have work too.
 #![tactic(auto)]
 
 #[cfg(test)]
