@@ -34,7 +34,23 @@ pub struct Structure<'a> {
     pub more: &'a [Entry],
 }
 
+impl<'a> Block<'a> {
+    /// The state of this name without properties.
+    pub const fn plain(name: &'a str) -> Block<'a> {
+        Block { name, props: &[] }
+    }
+}
+
 impl Fill {
+    /// One state in each cell from one corner to the other.
+    pub const fn all(from: [i32; 3], to: [i32; 3], state: i32) -> Fill {
+        Fill {
+            from,
+            to,
+            state: Some(state),
+        }
+    }
+
     fn covers(&self, at: [i32; 3]) -> bool {
         let [x, y, z] = at;
         let [from_x, from_y, from_z] = self.from;

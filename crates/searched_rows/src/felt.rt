@@ -19,34 +19,22 @@ pub(crate) const TABLE: &[u8] = b"[[row]]\nname = \"cave:felt\"\nopacity = 15\ns
 const STONY_TABLE: &[u8] =
     b"[[row]]\nname = \"cave:felt\"\nopacity = 15\nstand = true\ntop = true\nside = true\n";
 
-fn block(name: &str) -> Block<'_> {
-    Block { name, props: &[] }
-}
-
-fn fill(from: [i32; 3], to: [i32; 3], state: i32) -> Fill {
-    Fill {
-        from,
-        to,
-        state: Some(state),
-    }
-}
-
 /// The file of a ring: 28 cells round an 8 x 8 square, two high, in a box of 10 x 4 x 10. All about it is felt, which
 /// holds no torch, but for stone below the cells (x, 1, 1).
 fn ring_bytes(alloc: Global, stones: &[i32]) -> Result<Vec<u8>, AllocError> {
     let mut fills = Vec::new(alloc);
-    fills.push(fill([0, 0, 0], [9, 3, 9], 0))?;
-    fills.push(fill([1, 1, 1], [8, 2, 8], 1))?;
-    fills.push(fill([2, 1, 2], [7, 2, 7], 0))?;
+    fills.push(Fill::all([0, 0, 0], [9, 3, 9], 0))?;
+    fills.push(Fill::all([1, 1, 1], [8, 2, 8], 1))?;
+    fills.push(Fill::all([2, 1, 2], [7, 2, 7], 0))?;
     for x in stones {
-        fills.push(fill([*x, 0, 1], [*x, 0, 1], 2))?;
+        fills.push(Fill::all([*x, 0, 1], [*x, 0, 1], 2))?;
     }
     let structure = Structure {
         size: [10, 4, 10],
         palette: &[
-            block("cave:felt"),
-            block("minecraft:air"),
-            block("minecraft:stone"),
+            Block::plain("cave:felt"),
+            Block::plain("minecraft:air"),
+            Block::plain("minecraft:stone"),
         ],
         fills: &fills,
         more: &[],

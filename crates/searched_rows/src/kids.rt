@@ -1,12 +1,13 @@
 //! The kids of an opened root, each taken and closed, and the tree that is assembled from them.
 use crate::felt::{core_of, felt_ring, kid_name, play, root_name};
-use cave_regions::Region;
-use event_core::Event;
+use cave_regions::{Cover, Region};
+use event_core::{Core, Event};
 use pack_bound::first_plan;
 use proof_tree::{Closed, Opened, Piece, Proof};
 use scan_core::Cell;
 use search_core::{AloneDesk, close_piece};
 use std::alloc::{AllocError, Global};
+use std::process::Abort;
 use std::sync::Arc;
 use std::test::Fail;
 
@@ -62,19 +63,46 @@ fn cells_of(alloc: Global, tree: &Proof) -> Result<Vec<Cell>, Fail> {
     Ok(cells)
 }
 
+/// The piece has these places chosen and barred, and this name.
+fn is_told(rt: &impl Abort, piece: &Piece, chosen: &[Cell], barred: &[Cell], name: &[u32]) {
+    assert_eq!(rt; piece.chosen(), chosen);
+    assert_eq!(rt; piece.barred(), barred);
+    assert_eq!(rt; piece.name().as_slice(), name);
+}
+
 #[test]
 fn kids_have_their_places_chosen_and_those_before_barred(rt: HostRuntime) -> Result<(), Fail> {
     let alloc = rt.alloc();
     let region = felt_ring(alloc)?;
-    let mut kids = kids_on(alloc, &region, 188)?;
+    let kids = kids_on(alloc, &region, 188)?;
     assert_eq!(rt; kids.len(), 2);
-    if let Some(second) = kids.pop() {
-        assert_eq!(rt; second.chosen(), [118].as_slice());
-        assert_eq!(rt; second.barred(), [114].as_slice());
-        assert_eq!(rt; second.name().as_slice(), [1].as_slice());
+    if let [first, second] = kids.as_slice() {
+        is_told(&rt, first, &[114], &[], &[0]);
+        is_told(&rt, second, &[118], &[114], &[1]);
     }
-    assert_eq!(rt; kids_on(alloc, &region, 100)?.len(), 0);
+    assert!(rt; kids_on(alloc, &region, 100)?.is_empty());
     Ok(())
+}
+
+/// What the core of a region answers where the root is opened on 188, and each of its kids taken and closed.
+fn answers(alloc: Global, region: &Arc<Region>, core: &mut Core) -> Result<Vec<bool>, Fail> {
+    let events = closing_events(alloc, region, 188)?;
+    play(alloc, core, events)
+}
+
+/// The places of the cover, and behind them the cells of the tree.
+fn listed(alloc: Global, cover: &Cover, tree: &Proof) -> Result<Vec<Cell>, Fail> {
+    let mut listed = Vec::from_slice(alloc, cover.places())?;
+    listed.extend_from_slice(&cells_of(alloc, tree)?)?;
+    Ok(listed)
+}
+
+/// The same of what a core assembles.
+fn assembled(alloc: Global, core: Core) -> Result<Vec<Cell>, Fail> {
+    match core.assemble() {
+        Ok((cover, tree)) => listed(alloc, &cover, &tree),
+        Err(_) => Err(Fail::from("a piece waits or is held")),
+    }
 }
 
 // The certificate's tree: a branch on 188 with the leaves 185 and 181.
@@ -83,19 +111,9 @@ fn kids_are_taken_closed_and_assembled(rt: HostRuntime) -> Result<(), Fail> {
     let alloc = rt.alloc();
     let region = felt_ring(alloc)?;
     let mut core = core_of(alloc, &region)?;
-    let events = closing_events(alloc, &region, 188)?;
-    let answers = play(alloc, &mut core, events)?;
-    assert_eq!(rt;
-        answers.as_slice(),
-        [true, true, true, true, true].as_slice()
-    );
-    assert!(rt; core.is_done());
-    if let Ok((cover, tree)) = core.assemble() {
-        assert_eq!(rt; cover.places(), [111, 114].as_slice());
-        assert_eq!(rt;
-            cells_of(alloc, &tree)?.as_slice(),
-            [188, 185, 181].as_slice()
-        );
-    }
+    let told = answers(alloc, &region, &mut core)?;
+    assert_eq!(rt; told.as_slice(), [true; 5].as_slice());
+    let told = assembled(alloc, core)?;
+    assert_eq!(rt; told.as_slice(), [111, 114, 188, 185, 181].as_slice());
     Ok(())
 }

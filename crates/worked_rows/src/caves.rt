@@ -7,15 +7,6 @@ use scan_core::read_scan;
 use std::alloc::Global;
 use std::test::Fail;
 
-/// A state of the palette, from one corner to the other.
-pub const fn fill(from: [i32; 3], to: [i32; 3], state: i32) -> Fill {
-    Fill {
-        from,
-        to,
-        state: Some(state),
-    }
-}
-
 pub const STONE: Block<'static> = Block {
     name: "minecraft:stone",
     props: &[],

@@ -1,9 +1,9 @@
 //! Long texts, to writers that take one byte a call.
 
-use crate::caves::{AIR, STONE, fill};
+use crate::caves::{AIR, STONE};
 use crate::failing::writer_of;
 use crate::planning::{check, freely};
-use cave_files::Structure;
+use cave_files::{Fill, Structure};
 use std::alloc::{AllocError, Global};
 use std::test::Fail;
 use torch_plan::{Open, Rule, run_dark, run_plan};
@@ -14,8 +14,8 @@ fn hall(alloc: Global) -> Result<Vec<u8>, AllocError> {
         size: [20, 4, 20],
         palette: &[STONE, AIR],
         fills: &[
-            fill([0, 0, 0], [19, 3, 19], 0),
-            fill([1, 1, 1], [18, 2, 18], 1),
+            Fill::all([0, 0, 0], [19, 3, 19], 0),
+            Fill::all([1, 1, 1], [18, 2, 18], 1),
         ],
         more: &[],
     };
@@ -49,10 +49,10 @@ fn a_long_text_of_dark_cells_is_written_byte_by_byte(rt: HostRuntime) -> Result<
 
 /// The file of twenty corridors of 27 cells side by side, with walls between them.
 fn corridors(alloc: Global) -> Result<Vec<u8>, AllocError> {
-    let mut fills = Vec::from_slice(alloc, &[fill([0, 0, 0], [28, 3, 40], 0)])?;
+    let mut fills = Vec::from_slice(alloc, &[Fill::all([0, 0, 0], [28, 3, 40], 0)])?;
     for corridor in 0..20i32 {
         let z = corridor.wrapping_mul(2).wrapping_add(1);
-        fills.push(fill([1, 1, z], [27, 2, z], 1))?;
+        fills.push(Fill::all([1, 1, z], [27, 2, z], 1))?;
     }
     let cave = Structure {
         size: [29, 4, 41],

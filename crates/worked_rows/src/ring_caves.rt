@@ -1,5 +1,5 @@
 //! Rings of 28 cells round an 8 x 8 square, two high.
-use crate::caves::{AIR, FELT, FELT_TABLE, STONE, fill, world_by};
+use crate::caves::{AIR, FELT, FELT_TABLE, STONE, world_by};
 use cave_files::{Block, Fill, Structure};
 use cave_model::Rule;
 use cave_regions::{Region, split, whole};
@@ -11,18 +11,18 @@ use std::test::Fail;
 /// A ring in stone.
 fn ring() -> [Fill; 3] {
     [
-        fill([0, 0, 0], [9, 3, 9], 0),
-        fill([1, 1, 1], [8, 2, 8], 1),
-        fill([2, 1, 2], [7, 2, 7], 0),
+        Fill::all([0, 0, 0], [9, 3, 9], 0),
+        Fill::all([1, 1, 1], [8, 2, 8], 1),
+        Fill::all([2, 1, 2], [7, 2, 7], 0),
     ]
 }
 
 /// The file of a ring in stone, two cells wide, with over 128 places, of which others dominate some.
 pub(crate) fn wide_ring_bytes(alloc: Global) -> Result<Vec<u8>, AllocError> {
     let fills = [
-        fill([0, 0, 0], [21, 3, 15], 0),
-        fill([1, 1, 1], [20, 2, 14], 1),
-        fill([3, 1, 3], [18, 2, 12], 0),
+        Fill::all([0, 0, 0], [21, 3, 15], 0),
+        Fill::all([1, 1, 1], [20, 2, 14], 1),
+        Fill::all([3, 1, 3], [18, 2, 12], 0),
     ];
     part_of([22, 4, 16], &fills).bytes(alloc)
 }
@@ -35,17 +35,17 @@ pub(crate) fn ring_bytes(alloc: Global) -> Result<Vec<u8>, AllocError> {
 /// Two rings in felt, one behind the other. Three cells of each have stone below: these are its places.
 fn two_rings() -> [Fill; 11] {
     [
-        fill([0, 0, 0], [9, 3, 19], 2),
-        fill([1, 1, 1], [8, 2, 8], 1),
-        fill([2, 1, 2], [7, 2, 7], 2),
-        fill([1, 1, 11], [8, 2, 18], 1),
-        fill([2, 1, 12], [7, 2, 17], 2),
-        fill([1, 0, 1], [1, 0, 1], 0),
-        fill([4, 0, 1], [4, 0, 1], 0),
-        fill([8, 0, 1], [8, 0, 1], 0),
-        fill([1, 0, 11], [1, 0, 11], 0),
-        fill([4, 0, 11], [4, 0, 11], 0),
-        fill([8, 0, 11], [8, 0, 11], 0),
+        Fill::all([0, 0, 0], [9, 3, 19], 2),
+        Fill::all([1, 1, 1], [8, 2, 8], 1),
+        Fill::all([2, 1, 2], [7, 2, 7], 2),
+        Fill::all([1, 1, 11], [8, 2, 18], 1),
+        Fill::all([2, 1, 12], [7, 2, 17], 2),
+        Fill::all([1, 0, 1], [1, 0, 1], 0),
+        Fill::all([4, 0, 1], [4, 0, 1], 0),
+        Fill::all([8, 0, 1], [8, 0, 1], 0),
+        Fill::all([1, 0, 11], [1, 0, 11], 0),
+        Fill::all([4, 0, 11], [4, 0, 11], 0),
+        Fill::all([8, 0, 11], [8, 0, 11], 0),
     ]
 }
 
@@ -77,8 +77,8 @@ fn region(alloc: Global, size: [i32; 3], fills: &[Fill]) -> Result<Arc<Region>, 
 /// One torch lights it all.
 pub(crate) fn corridor(alloc: Global) -> Result<Arc<Region>, Fail> {
     let corridor = [
-        fill([0, 0, 0], [28, 3, 2], 0),
-        fill([1, 1, 1], [27, 2, 1], 1),
+        Fill::all([0, 0, 0], [28, 3, 2], 0),
+        Fill::all([1, 1, 1], [27, 2, 1], 1),
     ];
     region(alloc, [29, 4, 3], &corridor)
 }

@@ -5,27 +5,18 @@ use cave_model::{BuildFault, Rule};
 use std::alloc::Global;
 use std::test::Fail;
 
-fn block(name: &str) -> Block<'_> {
-    Block { name, props: &[] }
-}
-
-fn fill(from: [i32; 3], to: [i32; 3], state: i32) -> Fill {
-    Fill {
-        from,
-        to,
-        state: Some(state),
-    }
-}
-
 #[test]
 fn a_floor_in_the_largest_box_is_ground_in_each_cell(rt: HostRuntime) -> Result<(), Fail> {
     // 262,144 cells.
     let floor = Structure {
         size: [128, 16, 128],
-        palette: &[block("minecraft:stone"), block("minecraft:air")],
+        palette: &[
+            Block::plain("minecraft:stone"),
+            Block::plain("minecraft:air"),
+        ],
         fills: &[
-            fill([0, 0, 0], [127, 15, 127], 0),
-            fill([0, 1, 0], [127, 15, 127], 1),
+            Fill::all([0, 0, 0], [127, 15, 127], 0),
+            Fill::all([0, 1, 0], [127, 15, 127], 1),
         ],
         more: &[],
     };
@@ -49,18 +40,18 @@ fn a_floor_in_the_largest_box_is_ground_in_each_cell(rt: HostRuntime) -> Result<
 /// The fault of a box of two cells whose palette has this name at the index 256, for the second cell.
 fn at_256(alloc: Global, name: &str) -> Result<Option<BuildFault>, Fail> {
     let mut palette = Vec::new(alloc);
-    palette.push(block("minecraft:stone"))?;
-    palette.push(block("minecraft:air"))?;
+    palette.push(Block::plain("minecraft:stone"))?;
+    palette.push(Block::plain("minecraft:air"))?;
     for _ in 0..254u32 {
-        palette.push(block("minecraft:granite"))?;
+        palette.push(Block::plain("minecraft:granite"))?;
     }
-    palette.push(block(name))?;
+    palette.push(Block::plain(name))?;
     let structure = Structure {
         size: [2, 1, 1],
         palette: &palette,
         fills: &[
-            fill([0, 0, 0], [0, 0, 0], 0),
-            fill([1, 0, 0], [1, 0, 0], 256),
+            Fill::all([0, 0, 0], [0, 0, 0], 0),
+            Fill::all([1, 0, 0], [1, 0, 0], 256),
         ],
         more: &[],
     };
