@@ -113,6 +113,7 @@ fn kids_are_taken_closed_and_assembled(rt: HostRuntime) -> Result<(), Fail> {
     let mut core = core_of(alloc, &region)?;
     let told = answers(alloc, &region, &mut core)?;
     assert_eq!(rt; told.as_slice(), [true; 5].as_slice());
+    assert!(rt; core.is_done());
     let told = assembled(alloc, core)?;
     assert_eq!(rt; told.as_slice(), [111, 114, 188, 185, 181].as_slice());
     Ok(())
