@@ -23,7 +23,7 @@ pub(crate) fn kids_on(alloc: Global, region: &Arc<Region>, cell: Cell) -> Result
     }
 }
 
-/// The piece, closed at a floor of 2.
+/// The piece, closed at the size of the least cover that was found, with all the turns that it needs.
 pub(crate) fn closed(alloc: Global, piece: Piece) -> Result<Closed, Fail> {
     let cover = first_plan(alloc, piece.region())?;
     let mut desk = AloneDesk::new(cover, None);
