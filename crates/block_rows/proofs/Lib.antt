@@ -1,5 +1,4 @@
 pub mod LookUpLemmas
-pub mod ClassLemmas
 pub mod ShippedLemmas
 pub mod ColumnLemmas
 pub mod UserLemmas

@@ -6,11 +6,12 @@ use Rattle.std.proofs.lemmas.List.Elements.{All-nil, All-cons, All-weaker}
 use Rattle.std.proofs.lemmas.Slice.Eq.{bytes_eq-Decides}
 use Rattle.std.proofs.lemmas.Bool.{leb-true}
 use Rattle.std.proofs.lemmas.List.Kept.{AllPairs-cons}
-use Rattle.block_rows.specs.declared.class.Class.{Class}
-use Rattle.block_rows.specs.Class.{IsSoundClass, gives_way_as_air}
+use Rattle.cave_base.specs.declared.class.Class.{Class}
+use Rattle.cave_base.specs.Class.{IsSoundClass, gives_way_as_air}
 use Rattle.block_rows.specs.declared.row.Row.{Row}
 use Rattle.block_rows.specs.Rows.{AreSoundRows}
-use Rattle.block_rows.proofs.ClassLemmas.{both_true, sound_class}
+use Rattle.cave_base.proofs.CellLemmas.{both_true}
+use Rattle.cave_base.proofs.ClassLemmas.{sound_class}
 use Rattle.block_rows.specs.Shipped.{shipped_rows, AreDistinctRows}
 
 -- ---- each is sound

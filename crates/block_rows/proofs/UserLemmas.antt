@@ -9,13 +9,14 @@ use Rattle.block_rows.specs.declared.row.Row.{Row}
 use Rattle.block_rows.specs.declared.fault.RowFault.{RowFault}
 use Rattle.block_rows.specs.declared.fault.RowFault.TheVariants.{Shape, UnknownKey, BadName, BadWhen, BadNumber}
 use Rattle.block_rows.specs.declared.fault.RowFault.TheVariants.{BadFlag, PutNotPlain}
-use Rattle.block_rows.specs.Class.{IsSoundClass, gives_way_as_air}
+use Rattle.cave_base.specs.Class.{IsSoundClass, gives_way_as_air}
 use Rattle.block_rows.specs.Columns.{has_only, in_column, small, level_of, name_in, when_in, opacity_in, emission_in}
 use Rattle.block_rows.specs.Columns.{flag_in, class_in, row_in}
 use Rattle.block_rows.specs.Rows.{AreSoundRows}
 use Rattle.block_rows.specs.UserTable.{row_columns, has_flags, row_fault, IsWholeRow, fault_at, elements_of, TellsRows}
 use Rattle.block_rows.specs.UserTable.{rows_of}
-use Rattle.block_rows.proofs.ClassLemmas.{both_true, sound_class}
+use Rattle.cave_base.proofs.CellLemmas.{both_true}
+use Rattle.cave_base.proofs.ClassLemmas.{sound_class}
 
 -- ---- levels
 

@@ -3,7 +3,7 @@ use Rattle.std.specs.Prelude.{ℕ, ℤ, pos, Bool, true, false, ◌&&◌, nat_le
 use Rattle.std.specs.Prelude.{Some, None, unwrap_or, option_map, option_and_then, if◌then◌else◌}
 use Rattle.std.specs.List.{list_any}
 use Rattle.toml.specs.Data.{Data, Members, no_members, member, get_member, as_str, as_integer, as_bool, as_table}
-use Rattle.block_rows.specs.declared.class.Class.{Class}
+use Rattle.cave_base.specs.declared.class.Class.{Class}
 use Rattle.block_rows.specs.declared.row.Row.{Row}
 
 -- each key of the members is one of these

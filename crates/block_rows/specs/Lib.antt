@@ -1,5 +1,4 @@
 -- public clauses cite
-pub mod Class
 pub mod Rows
 pub mod Shipped
 pub mod Columns

@@ -1,7 +1,7 @@
 -- What the code's table of src/table.rt means, line by line.
 use Rattle.std.specs.Prelude.{ℕ, List, ◌++◌, map}
 use Rattle.block_rows.specs.declared.row.Row.{Row}
-use Rattle.block_rows.specs.declared.class.Class.{Class}
+use Rattle.cave_base.specs.declared.class.Class.{Class}
 use Rattle.block_rows.specs.declared.table.Line as table
 use Rattle.block_rows.specs.declared.table.TheConstants.{PREFIX}
 

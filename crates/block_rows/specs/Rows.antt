@@ -4,7 +4,7 @@ use Rattle.std.specs.List.{list_any, list_all}
 use Rattle.std.specs.Option.{option_or}
 use Rattle.scan_core.specs.declared.state.BlockState.{BlockState}
 use Rattle.block_rows.specs.declared.row.Row.{Row}
-use Rattle.block_rows.specs.Class.{IsSoundClass}
+use Rattle.cave_base.specs.Class.{IsSoundClass}
 
 -- a table of rows: the user's go before the shipped ones
 pub record Table : Type 0 where

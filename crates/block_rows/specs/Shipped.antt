@@ -1,7 +1,7 @@
 -- The shipped rows, block by block, in their order. Every entry is this project's own.
 use Rattle.std.specs.Prelude.{◌≡◌, ◌≢◌, ℕ, true, false, List, [], ◌∷◌, ◌++◌, map, codes, AllPairs}
 use Rattle.block_rows.specs.declared.row.Row.{Row}
-use Rattle.block_rows.specs.declared.class.Class.{Class}
+use Rattle.cave_base.specs.declared.class.Class.{Class}
 
 -- a row for each name, which stands behind the game's prefix, with the properties that it asks for
 abbrev pub rows_named : List (List ℕ) → List (List ℕ × List ℕ) → Class → List Row

@@ -5,7 +5,7 @@ use Rattle.std.specs.Prelude.{IsUtf8, Option, Some, None, is_some, is_none, unwr
 use Rattle.std.specs.Prelude.{option_to_list, if◌then◌else◌}
 use Rattle.toml.specs.Data.{Data, Items, no_items, item, Members, get_item, get_member, as_array, as_table}
 use Rattle.toml.specs.Parse.{parse_document}
-use Rattle.block_rows.specs.Class.{gives_way_as_air}
+use Rattle.cave_base.specs.Class.{gives_way_as_air}
 use Rattle.block_rows.specs.declared.row.Row.{Row}
 use Rattle.block_rows.specs.declared.fault.RowFault.{RowFault}
 use Rattle.block_rows.specs.declared.fault.RowFault.TheVariants.{Shape, UnknownKey, BadName, BadWhen, BadNumber}

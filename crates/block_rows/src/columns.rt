@@ -5,7 +5,7 @@ ghost use Rattle.toml.specs.Data.{get_member};
 ghost use Rattle.toml.specs.View.{table_view, view};
 ghost use Rattle.block_rows.specs.Columns as columns;
 
-use crate::class::Class;
+use cave_base::Class;
 use toml::{Table, Value};
 
 /// The value under a key.

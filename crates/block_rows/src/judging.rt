@@ -1,14 +1,14 @@
 //! What is wrong with a user's table: the first fault in its order. None of this takes memory.
 ghost use Rattle.std.specs.Prelude.{◌≡◌, map, option_map};
 ghost use Rattle.toml.specs.View.{items_view, table_view, view};
-ghost use Rattle.block_rows.specs.Class.{gives_way_as_air};
+ghost use Rattle.cave_base.specs.Class.{gives_way_as_air};
 ghost use Rattle.block_rows.specs.Columns.{has_only};
 ghost use Rattle.block_rows.specs.Judging as found;
 ghost use Rattle.block_rows.specs.UserTable as judging;
 
-use crate::class::Class;
 use crate::columns::{class, emission, flag, has_conditions, has_only, member, name, opacity};
 use crate::fault::{RowFault, RowsFault};
+use cave_base::Class;
 use toml::{Table, Value};
 
 /// The columns that a row may have.

@@ -4,7 +4,6 @@
 //! asks for, and a class. Rows are sound: a block that gives way to a torch is as air.
 #![tactic(auto)]
 
-mod class;
 mod columns;
 mod fault;
 mod judging;
@@ -16,7 +15,6 @@ mod shipped;
 mod table;
 mod user;
 
-pub use class::Class;
 pub use fault::{RowFault, RowsFault};
 pub use row::Row;
 pub use rows::Rows;

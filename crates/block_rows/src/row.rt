@@ -1,4 +1,4 @@
-use crate::class::Class;
+use cave_base::Class;
 use nbt_core::Sequence;
 
 /// A row of the table of blocks: a whole name, prefix included, or `*`; the properties that it asks for, each

@@ -1,6 +1,6 @@
 ghost use Rattle.std.specs.Prelude.{◌≡◌, ◌≢◌, [], IfErr, IfOk, IfSome, option_copied};
-ghost use Rattle.nbt_core.specs.Answer.{IsAnswer, IsRefusal};
-ghost use Rattle.block_rows.specs.Class.{IsSoundClass};
+ghost use Rattle.cave_base.specs.Answer.{IsAnswer, IsRefusal};
+ghost use Rattle.cave_base.specs.Class.{IsSoundClass};
 ghost use Rattle.block_rows.specs.Rows.{Table, row_for};
 ghost use Rattle.block_rows.specs.Shipped.{shipped_rows};
 ghost use Rattle.block_rows.specs.UserTable.{IsRowsFaultOf, IsTableOf};

@@ -1,7 +1,7 @@
 //! The shipped table. Every entry is this project's own: that the game lights by, spawns on or holds a torch on each
 //! block in just this way is not claimed. Redstone ore counts as unlit, whatever its property `lit` says.
 
-use crate::class::Class;
+use cave_base::Class;
 
 /// What stands before each name of the table.
 pub const PREFIX: &str = "minecraft:";

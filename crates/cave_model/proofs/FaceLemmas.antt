@@ -1,9 +1,9 @@
 -- A step to a neighbour and the way back.
 use Rattle.std.proofs.Common.{◌≡◌, ℕ, ◌+◌, ◌-◌, ◌<◌, Bool, true, false, nat_lt, Option, Some, None, option_map, refl}
 use Rattle.std.proofs.Common.{ap, subst, ◌∙◌, arith, ltb-true, lt-ltb}
-use Rattle.scan_core.specs.Box.{Point, cell_count, number, coordinates}
-use Rattle.scan_core.proofs.CellLemmas.{IsWithin, number-coordinates, coordinates-number, coordinates_within}
-use Rattle.scan_core.proofs.CellLemmas.{number_below}
+use Rattle.cave_base.specs.Box.{Point, cell_count, number, coordinates}
+use Rattle.cave_base.proofs.CellLemmas.{IsWithin, number-coordinates, coordinates-number, coordinates_within}
+use Rattle.cave_base.proofs.CellLemmas.{number_below}
 use Rattle.cave_model.specs.Cells.{Face, west, east, north, south, below, above, point_if, step, beyond, AreNeighbours}
 
 -- points with equal coordinates are equal

@@ -1,8 +1,5 @@
 pub mod FaceLemmas
 pub mod LightLemmas
 pub mod TorchLemmas
-pub mod StateLemmas
-pub mod CaveLemmas
 pub mod ListingLemmas
 pub mod PlaceLemmas
-pub mod ReadLemmas

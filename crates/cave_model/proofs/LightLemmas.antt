@@ -2,7 +2,7 @@
 use Rattle.std.proofs.Common.{◌≡◌, ℕ, zero, suc, ◌+◌, ◌<◌, ◌≤◌, max, Option, Some, None, refl, subst, arith, ◌⊎◌, inl}
 use Rattle.std.proofs.Common.{inr, eq-zero-or-pos}
 use Rattle.std.proofs.lemmas.Bool.{cases_lt}
-use Rattle.scan_core.specs.Box.{cell_count}
+use Rattle.cave_base.specs.Box.{cell_count}
 use Rattle.cave_model.specs.Cells.{Face, west, east, north, south, below, above, beyond, AreNeighbours}
 use Rattle.cave_model.specs.Cave.{Cave, class_at, IsSound}
 use Rattle.cave_model.specs.Light.{entering_cost, Path, BringsFrom, Brings, IsGreatest, IsLevelOf}

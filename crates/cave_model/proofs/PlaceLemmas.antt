@@ -4,7 +4,7 @@ use Rattle.std.proofs.Common.{length, refl, sym, subst, ◌∙◌, inl, inr}
 use Rattle.std.specs.Prelude.{MatchOption, is_some, find, unwrap_or}
 use Rattle.std.proofs.lemmas.Bool.{cases_lt, true≢false}
 use Rattle.std.proofs.lemmas.List.{get_or_past}
-use Rattle.scan_core.specs.Box.{cell_count}
+use Rattle.cave_base.specs.Box.{cell_count}
 use Rattle.cave_model.specs.Cave.{Cave, IsSound, class_at}
 use Rattle.cave_model.specs.Torches.{IsPlace, is_legal, hang_of}
 use Rattle.cave_model.specs.declared.hang.Hang.{Hang}

@@ -6,10 +6,10 @@ use Rattle.std.proofs.lemmas.Bool.{cases_lt, cases_eq}
 use Rattle.std.proofs.lemmas.List.{get_or_past}
 use Rattle.std.proofs.lemmas.List.Elements.{All-head, All-tail, Contains-append_cases, Contains-append_left}
 use Rattle.std.proofs.lemmas.List.Elements.{Contains-append_right, Contains-push_cases, Contains-push}
-use Rattle.scan_core.specs.Box.{cell_count}
+use Rattle.cave_base.specs.Box.{cell_count}
 use Rattle.cave_model.specs.Cells.{above, below, beyond}
-use Rattle.block_rows.specs.declared.class.Class.{Class}
-use Rattle.block_rows.specs.Class.{void, new_torch}
+use Rattle.cave_base.specs.declared.class.Class.{Class}
+use Rattle.cave_base.specs.Class.{void, new_torch}
 use Rattle.cave_model.specs.Cave.{Cave, class_at, class_of_cell, IsSound}
 use Rattle.cave_model.specs.Light.{entering_cost, Path}
 use Rattle.cave_model.specs.Light.Path.{start, onward}

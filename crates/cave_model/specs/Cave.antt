@@ -1,10 +1,10 @@
 -- A cave: a box of classes, with the rule of spawning.
 -- Outside the box nothing is free, nothing supports and no light passes: that is this project's own.
 use Rattle.std.specs.Prelude.{◌≡◌, ℕ, ◌<◌, IsTrue, Option, Some, None, List, length, slice_index_or}
-use Rattle.scan_core.specs.Box.{Point, cell_count, is_small}
+use Rattle.cave_base.specs.Box.{Point, cell_count, is_small}
 use Rattle.cave_model.specs.Cells.{Face, beyond}
-use Rattle.block_rows.specs.declared.class.Class.{Class}
-use Rattle.block_rows.specs.Class.{IsSoundClass, void}
+use Rattle.cave_base.specs.declared.class.Class.{Class}
+use Rattle.cave_base.specs.Class.{IsSoundClass, void}
 use Rattle.cave_model.specs.Rule.{Rule, IsRule}
 
 -- a box, the class of each of its cells, and the rule of spawning
@@ -13,6 +13,10 @@ pub record Cave : Type 0 where
   -- by the number of the cell
   pub classes : List Class
   pub rule : Rule
+
+-- the cave of these parts
+abbrev pub cave : Point → List Class → Rule → Cave
+cave size classes rule = record { size = size; classes = classes; rule = rule }
 
 -- the class of the cell with this number; past the end it is as void
 abbrev pub class_at : Cave → ℕ → Class

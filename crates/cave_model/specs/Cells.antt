@@ -2,7 +2,7 @@
 -- north is towards lower z, south towards higher z, west towards lower x, east towards higher x.
 use Rattle.std.specs.Prelude.{◌≡◌, ℕ, ◌+◌, ◌-◌, ◌<◌, Bool, List, [], ◌∷◌, map, Option, Some, None, option_map, nat_lt}
 use Rattle.std.specs.Prelude.{if◌then◌else◌}
-use Rattle.scan_core.specs.Box.{Point, cell_count, number, coordinates}
+use Rattle.cave_base.specs.Box.{Point, cell_count, number, coordinates}
 
 -- a face of a cell, by where it looks
 pub data Face : Type 0 where

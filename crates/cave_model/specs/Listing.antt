@@ -3,6 +3,6 @@ use Rattle.std.specs.Prelude.{◌↔◌, ℕ, List, Contains}
 use Rattle.std.specs.List.Sorted.{IsStrictlyIncreasing}
 
 -- the cells of this kind, and no others, stand in the list, ascending
-pub record Lists (kind : ℕ → Type 0) (cells : List ℕ) : Type 0 where
+pub record ListsAll (kind : ℕ → Type 0) (cells : List ℕ) : Type 0 where
   pub ascending : IsStrictlyIncreasing cells
   pub exact : (cell : ℕ) → Contains cells cell ↔ kind cell

@@ -1,8 +1,8 @@
 -- Plans that keep mobs away, and the fewest torches of one. These are this project's own.
 use Rattle.std.specs.Prelude.{◌≡◌, ◌≢◌, ◌≤◌, ℕ, IsTrue, List, [], ◌∷◌, length, map, set, All, AllPairs, Contains}
 use Rattle.std.specs.Prelude.{unwrap_or}
-use Rattle.block_rows.specs.declared.class.Class.{Class}
-use Rattle.block_rows.specs.Class.{new_torch}
+use Rattle.cave_base.specs.declared.class.Class.{Class}
+use Rattle.cave_base.specs.Class.{new_torch}
 use Rattle.cave_model.specs.Cave.{Cave}
 use Rattle.cave_model.specs.Light.{Brings}
 use Rattle.cave_model.specs.Spawn.{is_spawnable, IsDark}

@@ -2,10 +2,10 @@
 -- Source: Minecraft Wiki, "Torch"; a torch of some facing hangs on the block behind it.
 use Rattle.std.specs.Prelude.{ℕ, Bool, ◌&&◌, IsTrue, List, [], ◌∷◌, Option, find}
 use Rattle.cave_model.specs.Cells.{Face, west, east, north, south, below}
-use Rattle.block_rows.specs.declared.class.Class.{Class}
+use Rattle.cave_base.specs.declared.class.Class.{Class}
 use Rattle.cave_model.specs.Cave.{Cave, class_at, class_beyond}
 use Rattle.cave_model.specs.Light.{BringsFrom}
-use Rattle.cave_model.specs.Listing.{Lists}
+use Rattle.cave_model.specs.Listing.{ListsAll}
 use Rattle.cave_model.specs.declared.hang.Hang.{Hang}
 use Rattle.cave_model.specs.declared.hang.Hang.TheVariants.{Floor, North, East, South, West}
 
@@ -35,7 +35,7 @@ IsPlace cave cell = (hang : Hang) × IsTrue (is_legal cave cell hang)
 
 -- these are the places of the cave, ascending
 abbrev pub ArePlaces : Cave → List ℕ → Type 0
-ArePlaces cave places = Lists (IsPlace cave) places
+ArePlaces cave places = ListsAll (IsPlace cave) places
 
 -- the first legal hang. The order is this project's own.
 abbrev pub hang_of : Cave → ℕ → Option Hang

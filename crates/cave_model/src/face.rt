@@ -1,9 +1,9 @@
 ghost use Rattle.std.specs.Prelude.{◌≡◌, ◌<◌, IfSome, IsTrue, option_map};
-ghost use Rattle.scan_core.specs.Box as grid;
+ghost use Rattle.cave_base.specs.Box as grid;
 ghost use Rattle.cave_model.specs.Cells.{step};
 ghost use Rattle.cave_model.specs.Faces.{face_of};
 
-use scan_core::{Cell, number};
+use cave_base::{Cell, number};
 
 /// A face of a cell.
 #[derive(Clone, Copy, Debug, PartialEq, Eq)]

@@ -1,10 +1,10 @@
 ghost use Rattle.std.specs.Prelude.{◌≡◌, ◌<◌};
-ghost use Rattle.scan_core.specs.Box.{cell_count};
+ghost use Rattle.cave_base.specs.Box.{cell_count};
 ghost use Rattle.cave_model.specs.Torches as torches;
 
 use crate::face::Face;
 use crate::world::World;
-use scan_core::Cell;
+use cave_base::Cell;
 
 /// The light that a torch gives (Minecraft Wiki, "Torch").
 pub const TORCH_LIGHT: u8 = 14;

@@ -1,6 +1,6 @@
 //! Laws over the definitions alone.
 ghost use Rattle.std.specs.Prelude.{◌≡◌, ◌↔◌, ◌<◌, ℕ, List};
-ghost use Rattle.scan_core.specs.Box.{cell_count};
+ghost use Rattle.cave_base.specs.Box.{cell_count};
 ghost use Rattle.cave_model.specs.Cave.{Cave, IsSound};
 ghost use Rattle.cave_model.specs.Light.{IsLevelOf};
 ghost use Rattle.cave_model.specs.Plan.{AreLegal, IsSafe, LightsDarkness, Torch, cave_with, cells_of};

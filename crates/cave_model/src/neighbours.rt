@@ -1,13 +1,12 @@
 ghost use Rattle.std.specs.Prelude.{◌≡◌, ◌<◌};
-ghost use Rattle.scan_core.specs.Box.{cell_count};
+ghost use Rattle.cave_base.specs.Box.{cell_count};
 ghost use Rattle.cave_model.specs.Cave.{class_beyond};
 ghost use Rattle.cave_model.specs.Cells.{neighbours_of};
 ghost use Rattle.cave_model.specs.Faces.{face_of};
 
 use crate::face::{Face, beyond};
-use crate::world::{VOID, World};
-use block_rows::Class;
-use scan_core::{Cell, coordinates};
+use crate::world::World;
+use cave_base::{Cell, Class, VOID, coordinates};
 
 impl World {
     /// The cells that share a face with this one: west, east, north, south, below, above; none beyond the box.

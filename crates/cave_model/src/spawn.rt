@@ -1,10 +1,10 @@
 ghost use Rattle.std.specs.Prelude.{◌≡◌, ◌<◌};
-ghost use Rattle.scan_core.specs.Box.{cell_count};
+ghost use Rattle.cave_base.specs.Box.{cell_count};
 ghost use Rattle.cave_model.specs.Spawn as spawn;
 
 use crate::face::Face;
 use crate::world::World;
-use scan_core::Cell;
+use cave_base::Cell;
 
 impl World {
     /// Whether a hostile mob could spawn in the cell, were it dark (Minecraft Wiki, "Spawn", from 1.18 on; which

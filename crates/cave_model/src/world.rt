@@ -1,55 +1,47 @@
 ghost use Rattle.std.specs.Prelude.{◌≡◌, ◌<◌, ◌≤◌, IsTrue};
-ghost use Rattle.block_rows.specs.Class.{IsSoundClass};
-ghost use Rattle.scan_core.specs.Box as grid;
-ghost use Rattle.scan_core.specs.Box.{is_small, point};
-ghost use Rattle.cave_model.specs.Cave.{IsSound, class_at};
+ghost use Rattle.cave_base.specs.Class.{IsSoundClass};
+ghost use Rattle.cave_base.specs.Box as grid;
+ghost use Rattle.cave_base.specs.Box.{is_small, point};
+ghost use Rattle.cave_model.specs.Cave.{IsSound, IsWorld, cave, class_at};
 ghost use Rattle.cave_model.specs.RuleOf.{rule_of};
 
 use crate::rule::Rule;
-use block_rows::Class;
-use scan_core::Cell;
+use cave_base::{Cell, Class};
 use std::marker::Model;
-
-/// A cell of which nothing is told, and all that lies outside the box (this project's own).
-pub(crate) const VOID: Class = Class {
-    opacity: 15,
-    emission: 0,
-    free: false,
-    stand: false,
-    put: false,
-    top: false,
-    side: false,
-};
 
 /// A cave: a box, a class for each of its cells, and the rule of spawning.
 #[derive(Debug, Drop)]
 pub struct World {
-    pub(crate) size: [u32; 3],
-    pub(crate) classes: Vec<Class>,
-    pub(crate) rule: Rule,
+    size: [u32; 3],
+    classes: Vec<Class>,
+    rule: Rule,
 }
 
 impl Model for World {
-    ghost use Rattle.cave_model.specs.Cave.{Cave, IsWorld};
+    ghost use Rattle.cave_model.specs.Cave.{Cave, IsWorld, cave};
     ghost use Rattle.cave_model.specs.RuleOf.{rule_of};
-    ghost use Rattle.scan_core.specs.Box.{point};
+    ghost use Rattle.cave_base.specs.Box.{point};
 
     ghost Value = { Cave };
 
-    ghost view = { λ w. record {
-      size = point w.size;
-      classes = w.classes.items;
-      rule = rule_of w.rule;
-    } };
+    ghost view = { λ w. cave (point w.size) w.classes.items (rule_of w.rule) };
 
-    ghost invariant = { λ w. IsWorld (record {
-      size = point w.size;
-      classes = w.classes.items;
-      rule = rule_of w.rule;
-    }) };
+    ghost invariant = { λ w. IsWorld (cave (point w.size) w.classes.items (rule_of w.rule)) };
 }
 
 impl World {
+    /// The cave of this box, with these classes by the numbers of its cells, and this rule.
+    pub fn new(size: [u32; 3], classes: Vec<Class>, rule: Rule) -> World
+        requires world { IsWorld (cave (point size) classes.items (rule_of rule)) }
+        ensures { result ≡ cave (point size) classes.items (rule_of rule) }
+    {
+        World {
+            size,
+            classes,
+            rule,
+        }
+    }
+
     /// The sides of the box: along x, y and z.
     pub fn size(&self) -> [u32; 3]
         ensures size { point result ≡ self.now.size }

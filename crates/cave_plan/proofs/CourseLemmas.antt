@@ -13,9 +13,9 @@ use Rattle.proof_rules.specs.Good.{IsCoverOfPiece}
 use Rattle.proof_rules.proofs.ListLemmas.{all_members, at_member, distinct_nil}
 use Rattle.proof_rules.proofs.BoundLemmas.{bounds, piece_serves}
 use Rattle.cave_regions.specs.Cover.{Covering, IsCover, IsCoverOfRegion}
-use Rattle.proof_tree.specs.Planned.{Plan}
+use Rattle.certificate_text.specs.Planned.{Plan}
 use Rattle.search_core.specs.Planned.{IsBest, IsStopped}
-use Rattle.plan_laws.specs.Bounded.{Bounded, all_torches, total_floor}
+use Rattle.cave_plan.specs.Bounded.{Bounded, all_torches, total_floor}
 use Rattle.cave_plan.specs.Course.{Course, course, IsBounded, IsProved, AreProvedPlans, IsCourse, GoesOn}
 
 -- what holds of a value holds of all of a list of it alone

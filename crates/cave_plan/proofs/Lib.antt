@@ -1,3 +1,9 @@
+pub mod PartLemmas
+pub mod OrderedLemmas
+pub mod AcceptedLemmas
+mod NumberLemmas
+mod TreeLemmas
+mod TextLemmas
 pub mod UpToLemmas
 pub mod CourseLemmas
 pub mod OutlineLemmas

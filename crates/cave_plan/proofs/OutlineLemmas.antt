@@ -4,13 +4,13 @@ use Rattle.std.proofs.Common.{refl, sym, ap, subst, Option, Some, None, inl, inr
 use Rattle.std.specs.Prelude.{flat_map}
 use Rattle.std.proofs.lemmas.List.Elements.{All-head, All-tail, All-cons, All-nil, Contains-append_cases}
 use Rattle.std.proofs.lemmas.List.Elements.{Contains-append_left, Contains-append_right}
-use Rattle.scan_core.specs.Box.{cell_count}
+use Rattle.cave_base.specs.Box.{cell_count}
 use Rattle.cave_model.specs.Cave.{Cave, IsSound, IsWorld}
 use Rattle.cave_model.specs.Plan.{Torch, IsSafe}
 use Rattle.cave_model.proofs.TorchLemmas.{safe_covers}
 use Rattle.cover_rows.specs.Coverage.{IsUnlightable}
 use Rattle.cave_model.specs.Coverage.{of_cave, Agrees}
-use Rattle.cave_model.specs.Listing.{Lists}
+use Rattle.cave_model.specs.Listing.{ListsAll}
 use Rattle.cave_model.specs.Regions.{AreRegions}
 use Rattle.set_cover.specs.Instance.{Instance, of_instance}
 use Rattle.cave_regions.specs.Region.{IsRegion}
@@ -18,12 +18,12 @@ use Rattle.cave_regions.specs.Splitting.{cells_of_each}
 use Rattle.proof_rules.specs.Certificate.{torches_of}
 use Rattle.proof_rules.proofs.ListLemmas.{all_members}
 use Rattle.proof_tree.specs.Order.{in_order}
-use Rattle.proof_tree.specs.Planned.{Plan, section_of, IsBestOf, AreBestOf}
+use Rattle.certificate_text.specs.Planned.{Plan, section_of, IsBestOf, AreBestOf}
 use Rattle.proof_tree.proofs.OrderLemmas.{has_ordered, ordered_has}
-use Rattle.plan_laws.specs.Best.{AreTorchesOf}
-use Rattle.plan_laws.specs.Bounded.{Bounded, IsBoundedIn, AreBoundedIn, AreInOrder, IsPlanWithin}
-use Rattle.plan_laws.proofs.PartLemmas.{torches_are, are_apart, plan_within, legal_places}
-use Rattle.plan_laws.proofs.AcceptedLemmas.{fewest, place_inside}
+use Rattle.cave_plan.specs.Best.{AreTorchesOf}
+use Rattle.cave_plan.specs.Bounded.{Bounded, IsBoundedIn, AreBoundedIn, AreInOrder, IsPlanWithin}
+use Rattle.cave_plan.proofs.PartLemmas.{torches_are, are_apart, plan_within, legal_places}
+use Rattle.cave_plan.proofs.AcceptedLemmas.{fewest, place_inside}
 use Rattle.cave_plan.specs.Course.{Course, IsBounded, IsProved, IsCourse, floor_if}
 use Rattle.cave_plan.specs.Outline.{AreRegionsIn, IsPlanned, IsStoppedAt, IsOutlineOf, Prints}
 
@@ -101,7 +101,7 @@ to_loose (p ∷ ps) x h = elim (Contains-append_cases (in_order p.torches) (orde
 ]
 
 -- a list of just the torches of all plans is that of the ordered ones
-of_plans : (plans : List Plan) (torches cells : List ℕ) → loose plans ≡ torches → Lists (Contains torches) cells
+of_plans : (plans : List Plan) (torches cells : List ℕ) → loose plans ≡ torches → ListsAll (Contains torches) cells
     → AreTorchesOf plans cells
 of_plans plans torches cells e order = record {
   ascending = order.ascending;
@@ -115,7 +115,7 @@ of_plans plans torches cells e order = record {
 
 module _ (cave : Cave) (turns : Option ℕ) (regions : List Instance) (c : Course) (world : IsWorld cave)
     (are : AreRegionsIn cave regions) (is : IsCourse regions turns c)
-    (cells : List ℕ) (order : Lists (Contains c.torches) cells) where
+    (cells : List ℕ) (order : ListsAll (Contains c.torches) cells) where
   bounded : AreBoundedIn cave is.parts
   bounded = record {
     regions = regions_by cave regions (λ (part : Bounded). part.region) is.parts is.of_them are.parts;
@@ -123,7 +123,7 @@ module _ (cave : Cave) (turns : Option ℕ) (regions : List Instance) (c : Cours
   }
 
   in_parts : AreInOrder is.parts cells
-  in_parts = subst (λ (l : List ℕ). Lists (Contains l) cells) (sym is.whole) order
+  in_parts = subst (λ (l : List ℕ). ListsAll (Contains l) cells) (sym is.whole) order
 
   pub inside : All (λ cell. cell < cell_count cave.size) cells
   inside =

@@ -4,9 +4,9 @@ use Rattle.std.specs.Prelude.{Some, None, IsSome, if◌then◌else◌}
 use Rattle.set_cover.specs.Instance.{Instance, of_instance}
 use Rattle.proof_rules.specs.Good.{Good}
 use Rattle.cave_regions.specs.Cover.{IsCoverOfRegion}
-use Rattle.proof_tree.specs.Planned.{Plan}
+use Rattle.certificate_text.specs.Planned.{Plan}
 use Rattle.search_core.specs.Planned.{NoneBelow}
-use Rattle.plan_laws.specs.Bounded.{Bounded, all_torches, total_floor}
+use Rattle.cave_plan.specs.Bounded.{Bounded, all_torches, total_floor}
 
 -- what is kept: the torches of all regions, a number that no torches are fewer than, whether the turns of a region
 -- were spent, and the regions that have a tree

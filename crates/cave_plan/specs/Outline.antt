@@ -7,10 +7,10 @@ use Rattle.cave_model.specs.Spawn.{AreDarkCells}
 use Rattle.set_cover.specs.Instance.{Instance, of_instance}
 use Rattle.cave_regions.specs.Region.{IsRegion}
 use Rattle.cave_regions.specs.Splitting.{cells_of_each}
-use Rattle.proof_tree.specs.Planned.{Plan, AreBestOf}
+use Rattle.certificate_text.specs.Planned.{Plan, AreBestOf}
 use Rattle.proof_check.specs.Accepted.{IsBestPlan}
-use Rattle.plan_laws.specs.Best.{AreTorchesOf}
-use Rattle.plan_laws.specs.Bounded.{IsPlanWithin}
+use Rattle.cave_plan.specs.Best.{AreTorchesOf}
+use Rattle.cave_plan.specs.Bounded.{IsPlanWithin}
 use Rattle.cave_plan.specs.Course.{Course, IsCourse}
 use Rattle.cave_plan.specs.PlanText.{plan_text}
 

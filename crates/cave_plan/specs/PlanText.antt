@@ -4,8 +4,8 @@ use Rattle.std.specs.Prelude.{ℕ, zero, suc, Bool, nat_eq, nat_lt, if◌then◌
 use Rattle.std.specs.Prelude.{Option, Some, None, unwrap_or}
 use Rattle.std.specs.Fmt.{decimal}
 use Rattle.std.specs.List.{flat_map, list_any}
-use Rattle.scan_core.specs.Box.{coordinates, number}
-use Rattle.block_rows.specs.declared.class.Class.{Class}
+use Rattle.cave_base.specs.Box.{coordinates, number}
+use Rattle.cave_base.specs.declared.class.Class.{Class}
 use Rattle.cave_model.specs.Cave.{Cave, class_at}
 use Rattle.cave_model.specs.Torches.{hang_of}
 use Rattle.cave_model.specs.declared.hang.Hang.{Hang}

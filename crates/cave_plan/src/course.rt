@@ -1,8 +1,8 @@
 //! The regions of a cave, planned one after another.
 ghost use Rattle.std.specs.Prelude.{◌≡◌, ◌≢◌, ◌≤◌, ◌<◌, ◌+◌, [], false, Contains, IfOk, IfErr, OnOk};
 ghost use Rattle.std.specs.Arc.{arc_value};
-ghost use Rattle.cave_model.specs.Listing.{Lists};
-ghost use Rattle.proof_tree.specs.PlanOf.{plans_of};
+ghost use Rattle.cave_model.specs.Listing.{ListsAll};
+ghost use Rattle.certificate_text.specs.PlanOf.{plans_of};
 ghost use Rattle.proof_tree.specs.Shape.{tree_of};
 ghost use Rattle.search_core.specs.Planned.{IsBest, IsStopped};
 ghost use Rattle.cave_plan.specs.Course.{GoesOn, IsCourse, course};
@@ -10,11 +10,11 @@ ghost use Rattle.cave_plan.specs.declared.fault.PlanFault.{PlanFault};
 
 use crate::crew::Crew;
 use crate::fault::{PlanFault, RegionFault};
+use cave_base::Cell;
 use cave_regions::{Cover, Region};
-use proof_tree::{Planned, Proof};
-use scan_core::Cell;
-use search_core::Watch;
-use search_pool::Gate;
+use certificate_text::Planned;
+use proof_tree::Proof;
+use search_core::{Observer, Strategy};
 use std::alloc::{AllocError, Global};
 use std::sync::{Arc, Wait};
 use std::thread::Threads;
@@ -97,11 +97,11 @@ impl Course {
     }
 
     /// Plans one region more, with all the turns.
-    fn plan<X: Threads + Wait + Sync, G: Gate>(
+    fn add_region<X: Threads + Wait + Sync, S: Strategy + Send + Sync, O: Observer>(
         &mut self,
         alloc: Global,
         region: Arc<Region>,
-        crew: &Crew<'_, X, G>,
+        crew: &Crew<'_, X, S, O>,
         turns: Option<u64>,
     ) -> Result<(), PlanFault>
         ensures done { OnOk result (GoesOn turns (arc_value region)
@@ -110,7 +110,7 @@ impl Course {
         ensures fault { IfErr result (λ e. e ≢ PlanFault.OutOfMemory → e ≡ PlanFault.NoThread) }
         ensures threads { IfErr result (λ e. e ≡ PlanFault.NoThread → 1 < crew.now.workers.number) }
     {
-        match crew.plan(alloc, &region, turns) {
+        match crew.plan_region(alloc, &region, turns) {
             Ok((cover, proof)) => Ok(self.add_best(turns, region, cover, proof)?),
             Err(RegionFault::Stopped { cover, floor }) => {
                 Ok(self.add_stopped(turns, &cover, floor)?)
@@ -122,10 +122,10 @@ impl Course {
 }
 
 /// The plans of all regions, each with all the turns.
-pub fn planned<X: Threads + Wait + Sync, G: Gate>(
+pub fn plan_regions<X: Threads + Wait + Sync, S: Strategy + Send + Sync, O: Observer>(
     alloc: Global,
     regions: Vec<Region>,
-    crew: &Crew<'_, X, G>,
+    crew: &Crew<'_, X, S, O>,
     turns: Option<u64>,
 ) -> Result<Course, PlanFault>
     ensures found { IfOk result (λ c. IsCourse regions.items turns
@@ -138,16 +138,16 @@ pub fn planned<X: Threads + Wait + Sync, G: Gate>(
     let mut number: usize = 0;
     for region in regions {
         number = number.saturating_add(1);
-        crew.gate.region(number, count);
+        crew.observer.region(number, count);
         let region = Arc::new(alloc, region)?;
-        course.plan(alloc, region, crew, turns)?;
+        course.add_region(alloc, region, crew, turns)?;
     }
     Ok(course)
 }
 
 /// Numbers in order, each once.
 pub fn in_order(cells: Vec<Cell>) -> Vec<Cell>
-    ensures { Lists (Contains cells.items) result.items }
+    ensures { ListsAll (Contains cells.items) result.items }
 {
     let mut cells = cells;
     cells.sort_unstable();

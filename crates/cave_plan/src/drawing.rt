@@ -1,11 +1,11 @@
 //! The text of a plan.
 ghost use Rattle.std.specs.Prelude.{◌≡◌, ◌<◌, ◌++◌, ◌∷◌, [], All, IfOk, string_bytes, flat_map, option_copied};
 ghost use Rattle.std.specs.List.Sorted.{IsStrictlyIncreasing};
-ghost use Rattle.scan_core.specs.Box.{cell_count, point};
+ghost use Rattle.cave_base.specs.Box.{cell_count, point};
 ghost use Rattle.cave_plan.specs.PlanText as texts;
 
-use cave_model::{Class, Hang, World};
-use scan_core::{Cell, coordinates, number};
+use cave_base::{Cell, Class, coordinates, number};
+use cave_model::{Hang, World};
 use set_cover::find;
 use std::alloc::{AllocError, Global};
 

@@ -4,10 +4,10 @@ ghost use Rattle.cave_plan.specs.Faults.{of_cover};
 ghost use Rattle.cave_plan.specs.declared.fault.PlanFault.TheVariants.{OutOfMemory};
 ghost use Rattle.cave_plan.specs.declared.fault.RegionFault.TheVariants as region;
 
+use cave_base::Cell;
 use cave_model::OutOfMemory;
 use cave_regions::Cover;
 use cover_rows::CoverFault;
-use scan_core::Cell;
 use std::alloc::{AllocError, AllocFailed};
 
 /// Why a region has no plan.

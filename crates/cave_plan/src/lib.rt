@@ -12,4 +12,5 @@ pub use crew::Crew;
 pub use drawing::plan_text;
 pub use fault::PlanFault;
 pub use outline::{Outline, plan_cave};
-pub use search_pool::{Gate, Open, Workers};
+pub use search_core::{Observer, Strategy, Unobserved};
+pub use search_pool::Workers;

@@ -1,21 +1,21 @@
 //! The plan of a cave.
 ghost use Rattle.std.specs.Prelude.{◌≡◌, ◌≢◌, ◌<◌, IfOk, IfErr, string_bytes};
 ghost use Rattle.cave_model.specs.Cave.{IsWorld};
-ghost use Rattle.proof_tree.specs.PlanOf.{plans_of};
+ghost use Rattle.certificate_text.specs.PlanOf.{plans_of};
 ghost use Rattle.cave_plan.specs.Course.{course, floor_if};
 ghost use Rattle.cave_plan.specs.Faults.{IsRefusedPlan, NamesUnlightable};
 ghost use Rattle.cave_plan.specs.Outline.{AreRegionsIn, CountsDark, IsCourseIn, IsOutlineOf};
 ghost use Rattle.cave_plan.specs.declared.fault.PlanFault.{PlanFault};
 
-use crate::course::{Course, in_order, planned};
+use crate::course::{Course, in_order, plan_regions};
 use crate::crew::Crew;
 use crate::drawing::plan_text;
 use crate::fault::PlanFault;
 use cave_model::{Rule, World};
 use cave_regions::{Region, split};
+use certificate_text::Planned;
 use cover_rows::Problem;
-use proof_tree::Planned;
-use search_pool::Gate;
+use search_core::{Observer, Strategy};
 use std::alloc::{AllocError, Global};
 use std::sync::Wait;
 use std::thread::Threads;
@@ -47,7 +47,7 @@ fn least_if(stopped: bool, floor: u64) -> Option<u64>
 }
 
 /// What is printed of planned regions, with what proves them.
-fn outlined(
+fn outline_from(
     alloc: Global,
     world: &World,
     plans: Course,
@@ -77,12 +77,12 @@ fn outlined(
 }
 
 /// The same of regions that aren't planned yet.
-fn outline_of<X: Threads + Wait + Sync, G: Gate>(
+fn outline_regions<X: Threads + Wait + Sync, S: Strategy + Send + Sync, O: Observer>(
     alloc: Global,
     world: &World,
     regions: Vec<Region>,
     dark: usize,
-    crew: &Crew<'_, X, G>,
+    crew: &Crew<'_, X, S, O>,
     turns: Option<u64>,
 ) -> Result<Outline, PlanFault>
     requires regions { AreRegionsIn world.now regions.items }
@@ -92,18 +92,18 @@ fn outline_of<X: Threads + Wait + Sync, G: Gate>(
     ensures fault { IfErr result (λ e. e ≢ PlanFault.OutOfMemory → e ≡ PlanFault.NoThread) }
     ensures threads { IfErr result (λ e. e ≡ PlanFault.NoThread → 1 < crew.now.workers.number) }
 {
-    let plans = planned(alloc, regions, crew, turns)?;
-    let outline = outlined(alloc, world, plans, dark, turns)?;
+    let plans = plan_regions(alloc, regions, crew, turns)?;
+    let outline = outline_from(alloc, world, plans, dark, turns)?;
     Ok(outline)
 }
 
 /// The fewest torches that leave no cell of the cave dark: what is printed of them, and for each region a tree which
 /// proves that fewer don't do. The regions are planned one after another, each with all the turns; where those of one
 /// were spent, the torches are the best that were found. The rows of the whole cave are let go before the search.
-pub fn plan_cave<X: Threads + Wait + Sync, G: Gate>(
+pub fn plan_cave<X: Threads + Wait + Sync, S: Strategy + Send + Sync, O: Observer>(
     alloc: Global,
     world: &World,
-    crew: &Crew<'_, X, G>,
+    crew: &Crew<'_, X, S, O>,
     turns: Option<u64>,
 ) -> Result<Outline, PlanFault>
     // Best torches, or, where turns were limited, safe ones and a number that none are fewer than.
@@ -121,6 +121,6 @@ pub fn plan_cave<X: Threads + Wait + Sync, G: Gate>(
     let dark = problem.dark().len();
     let regions = split(alloc, &problem)?;
     drop(problem);
-    let outline = outline_of(alloc, world, regions, dark, crew, turns)?;
+    let outline = outline_regions(alloc, world, regions, dark, crew, turns)?;
     Ok(outline)
 }

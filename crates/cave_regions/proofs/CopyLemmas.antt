@@ -3,7 +3,7 @@ use Rattle.std.proofs.Common.{◌≡◌, ℕ, ◌+◌, ◌*◌, ◌<◌, ◌≤�
 use Rattle.std.proofs.Common.{arith, inl, inr, mul-le-mul_left}
 use Rattle.std.specs.Prelude.{◌↔◌}
 use Rattle.std.proofs.lemmas.Bool.{cases_lt}
-use Rattle.bit_rows.specs.Bits.{Has, IsWith, IsNext, HasNoneFrom}
+use Rattle.set_cover.specs.Bits.{Has, IsWith, IsNext, HasNoneFrom}
 use Rattle.set_cover.specs.Instance.{Instance, LightsAt, row_of, words_for}
 use Rattle.set_cover.proofs.OrderLemmas.{element_at, element_of}
 use Rattle.cave_regions.specs.Restricting.{IsSelfContained, Copies, HasRoom, AreCopied, AreRanks, AreEmpty}

@@ -13,7 +13,7 @@ use Rattle.cave_model.specs.Regions.{all_cells}
 use Rattle.cover_rows.specs.Coverage.{IsProblemOf}
 use Rattle.cover_rows.proofs.CoverLemmas as problems
 use Rattle.set_cover.specs.Instance.{Instance, LightsIn}
-use Rattle.bit_rows.proofs.ListLemmas.{none_in}
+use Rattle.set_cover.proofs.ListLemmas.{none_in}
 use Rattle.cave_regions.specs.Cover.{Covering, IsCover, places_of, regions_in}
 use Rattle.cave_regions.specs.Splitting.{AreRegionsOf, IsPartOf, cells_of_each}
 use Rattle.cave_regions.proofs.FlatLemmas.{in_all, in_one, distinct_all}

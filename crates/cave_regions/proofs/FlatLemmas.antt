@@ -4,7 +4,7 @@ use Rattle.std.proofs.lemmas.List.Elements.{All-head, All-tail, Contains-append_
 use Rattle.std.proofs.lemmas.List.Elements.{Contains-append_right}
 use Rattle.cave_model.specs.Plan.{AreDistinct}
 use Rattle.cave_model.specs.Regions.{all_cells}
-use Rattle.bit_rows.proofs.ListLemmas.{none_in, once_append}
+use Rattle.set_cover.proofs.ListLemmas.{none_in, once_append}
 
 -- what is in one of the lists is in all together
 pub in_all : (lists : List (List ℕ)) (k x : ℕ) → Contains (slice_index_or lists k []) x → Contains (all_cells lists) x

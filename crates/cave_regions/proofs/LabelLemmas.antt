@@ -1,7 +1,7 @@
 -- The cells of one label make a region.
 use Rattle.std.proofs.Common.{◌≡◌, ℕ, ◌<◌, List, length, slice_index, Contains, refl, sym, ap, subst, ◌∙◌, arith}
 use Rattle.std.proofs.lemmas.List.Elements.{Contains-get_or}
-use Rattle.cave_model.specs.Listing.{Lists}
+use Rattle.cave_model.specs.Listing.{ListsAll}
 use Rattle.set_cover.specs.Instance.{Instance, IsInstance, LightsAt}
 use Rattle.set_cover.proofs.OrderLemmas.{element_at, element_of, ascends, stands_once}
 use Rattle.cave_regions.specs.Grouping.{IsCellOf, IsPlaceOfLabel}
@@ -14,7 +14,7 @@ use Rattle.cave_regions.proofs.PartLemmas.{part_of, from_own, to_region, cell_at
 use Rattle.cave_regions.proofs.TreeLemmas.{joined_on, joined_back}
 
 -- listed indices of some kind ascend below a limit
-indices : (Kind : ℕ → Type 0) (these items : List ℕ) → Lists Kind these → ((k : ℕ) → Kind k → k < length items)
+indices : (Kind : ℕ → Type 0) (these items : List ℕ) → ListsAll Kind these → ((k : ℕ) → Kind k → k < length items)
     → AreIndices these items
 indices Kind these items lists inside = record {
   ascending = lists.ascending;
@@ -31,7 +31,8 @@ is_label instance labels label cell are is = record {
 
 module _ (instance : Instance) (labels own placed : List ℕ) (label : ℕ) (is : IsInstance instance)
     (are : AreLabels instance labels)
-    (cells : Lists (IsCellOf labels label) own) (places : Lists (IsPlaceOfLabel instance labels label) placed) where
+    (cells : ListsAll (IsCellOf labels label) own)
+    (places : ListsAll (IsPlaceOfLabel instance labels label) placed) where
   -- the cells of a label and the places that light them are closed
   pub closed_label : 0 < length own → IsSelfContained instance own placed
   closed_label filled = record {

@@ -10,7 +10,7 @@ use Rattle.std.proofs.lemmas.List.Kept.{AllPairs-from_increasing}
 use Rattle.cave_model.specs.Plan.{AreDistinct}
 use Rattle.cave_model.specs.Regions.{ArePartsOf, all_cells}
 use Rattle.cave_model.proofs.ListingLemmas.{ListsBelow, lists_none, lists_skip, lists_push}
-use Rattle.bit_rows.proofs.ListLemmas.{none_in}
+use Rattle.set_cover.proofs.ListLemmas.{none_in}
 use Rattle.set_cover.specs.Instance.{Instance, IsInstance, LightsIn, LightsAt, of_instance}
 use Rattle.set_cover.proofs.OrderLemmas.{element_at, element_of, rises, stands_once}
 use Rattle.cave_regions.specs.Joining.{AreLabels}

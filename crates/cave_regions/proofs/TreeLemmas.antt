@@ -5,7 +5,7 @@ use Rattle.std.proofs.Common.{get_or-set_same, get_or-set_other}
 use Rattle.std.proofs.lemmas.Bool.{cases_lt, cases_eq}
 use Rattle.std.proofs.lemmas.Bool.Decides.{nat_tests}
 use Rattle.std.proofs.lemmas.List.{get_or_push, get_or_append_left}
-use Rattle.bit_rows.specs.Bits.{IsNext, HasNoneFrom}
+use Rattle.set_cover.specs.Bits.{IsNext, HasNoneFrom}
 use Rattle.set_cover.specs.Instance.{Instance, IsInstance, LightsAt, LightsIn, row_of}
 use Rattle.cave_regions.specs.Splitting.{AreLinked, AreChained}
 use Rattle.cave_regions.specs.Splitting.AreChained.{here, onward}

@@ -3,7 +3,7 @@ use Rattle.std.proofs.Common.{◌≡◌, ℕ, ◌+◌, ◌<◌, List, length, ma
 use Rattle.std.proofs.lemmas.List.{ext_get_or}
 use Rattle.std.proofs.lemmas.List.Elements.{Contains-get_or}
 use Rattle.std.proofs.lemmas.Grind.{get_or_default_zero}
-use Rattle.cave_model.specs.Listing.{Lists}
+use Rattle.cave_model.specs.Listing.{ListsAll}
 use Rattle.set_cover.specs.Instance.{Instance, IsInstance}
 use Rattle.set_cover.proofs.OrderLemmas.{element_of}
 use Rattle.cave_regions.specs.Joining.{AreAlone}
@@ -12,7 +12,7 @@ use Rattle.cave_regions.proofs.RestrictLemmas.{chosen_at, chosen_count}
 
 -- all cells, with the places that light any, are closed
 pub closed_whole : (instance : Instance) (own placed : List ℕ) → IsInstance instance → 0 < length instance.cells
-    → AreAlone (length instance.cells) own → Lists (IsLighting instance) placed → IsSelfContained instance own placed
+    → AreAlone (length instance.cells) own → ListsAll (IsLighting instance) placed → IsSelfContained instance own placed
 closed_whole instance own placed is filled alone places = record {
   filled = omega (arith, alone.whole);
   cells = record {

@@ -1,6 +1,6 @@
 -- Numbers in lists by a key. This is this project's own.
 use Rattle.std.specs.Prelude.{◌≡◌, ◌≢◌, ◌<◌, ℕ, List, [], ◌∷◌, ◌++◌, length, slice_index, slice_index_or}
-use Rattle.cave_model.specs.Listing.{Lists}
+use Rattle.cave_model.specs.Listing.{ListsAll}
 use Rattle.set_cover.specs.Instance.{Instance, LightsAt}
 
 -- the list of a key
@@ -21,7 +21,7 @@ pub record IsPushed (old : List (List ℕ)) (key item : ℕ) (new : List (List �
 -- the items of each key, ascending
 pub record AreGroups (Kind : ℕ → ℕ → Type 0) (count : ℕ) (buckets : List (List ℕ)) : Type 0 where
   pub whole : length buckets ≡ count
-  pub each : (key : ℕ) → Lists (Kind key) (bucket buckets key)
+  pub each : (key : ℕ) → ListsAll (Kind key) (bucket buckets key)
 
 -- the cell has the label
 pub record IsCellOf (labels : List ℕ) (label cell : ℕ) : Type 0 where

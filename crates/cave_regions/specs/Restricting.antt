@@ -1,7 +1,7 @@
 -- A part of an instance, by the indices of its cells and of its places. This is this project's own.
 use Rattle.std.specs.Prelude.{◌≡◌, ◌<◌, ◌↔◌, ◌⊎◌, ℕ, ◌+◌, ◌*◌, ◌^◌, ◌≤◌, List, length, map, slice_index, All, Contains}
 use Rattle.std.specs.List.Sorted.{IsStrictlyIncreasing}
-use Rattle.bit_rows.specs.Bits.{Has}
+use Rattle.set_cover.specs.Bits.{Has}
 use Rattle.set_cover.specs.Instance.{Instance, LightsAt, words_for}
 use Rattle.cave_regions.specs.Region.{IsRegion}
 

@@ -3,8 +3,7 @@ ghost use Rattle.std.specs.Prelude.{◌<◌, ◌≤◌, ◌^◌, length};
 ghost use Rattle.set_cover.specs.Instance.{words_for};
 ghost use Rattle.cave_regions.specs.Restricting.{AreCopied, AreEmpty, AreRanks, Copies, HasRoom, IsSelfContained};
 
-use bit_rows::{add, next};
-use set_cover::Instance;
+use set_cover::{Instance, add, next};
 
 /// Sets, from the bit `base` on, the rank of each bit of the row.
 fn copy_row(words: &mut [u64], base: usize, row: &[u64], ranks: &[u32])

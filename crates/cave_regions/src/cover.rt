@@ -3,8 +3,8 @@ ghost use Rattle.std.specs.Arc.{arc_value};
 ghost use Rattle.cave_regions.specs.Cover.{IsCover, IsCoverOfRegion};
 
 use crate::region::Region;
+use cave_base::Cell;
 use cave_model::OutOfMemory;
-use scan_core::Cell;
 use std::marker::Model;
 use std::sync::Arc;
 

@@ -1,6 +1,6 @@
 //! A whole problem as one region.
 ghost use Rattle.std.specs.Prelude.{◌≡◌, ◌<◌, ◌≤◌, ◌^◌, length, IfOk};
-ghost use Rattle.cave_model.specs.Listing.{Lists};
+ghost use Rattle.cave_model.specs.Listing.{ListsAll};
 ghost use Rattle.set_cover.specs.Instance.{IsInstance};
 ghost use Rattle.cave_regions.specs.Restricting.{IsLighting};
 ghost use Rattle.cave_regions.specs.Splitting.{IsPartOf, IsWholeRegion};
@@ -8,10 +8,9 @@ ghost use Rattle.cave_regions.specs.Splitting.{IsPartOf, IsWholeRegion};
 use crate::joining::{alone, count_of};
 use crate::region::Region;
 use crate::restricting::restrict;
-use bit_rows::first;
 use cave_model::OutOfMemory;
 use cover_rows::Problem;
-use set_cover::Instance;
+use set_cover::{Instance, first};
 use std::alloc::Global;
 
 /// The one region of all cells of a problem, and None where it has no cell.
@@ -45,7 +44,7 @@ fn all_of(alloc: Global, instance: &Instance) -> Result<Region, OutOfMemory>
 fn lighting(alloc: Global, instance: &Instance) -> Result<Vec<u32>, OutOfMemory>
     requires kept { IsInstance instance.now }
     requires few { length instance.now.cells ≤ 2 ^ 32 }
-    ensures { IfOk result (λ v. Lists (IsLighting instance.now) v.items) }
+    ensures { IfOk result (λ v. ListsAll (IsLighting instance.now) v.items) }
 {
     let mut placed = Vec::new(alloc);
     for place in 0..count_of(instance.places()) {

@@ -6,9 +6,8 @@ ghost use Rattle.cave_regions.specs.Joining.{AreLabels};
 
 use crate::buckets::Buckets;
 use crate::joining::count_of;
-use bit_rows::first;
 use cave_model::OutOfMemory;
-use set_cover::Instance;
+use set_cover::{Instance, first};
 use std::alloc::Global;
 
 /// The cells of each label.

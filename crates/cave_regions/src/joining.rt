@@ -4,10 +4,9 @@ ghost use Rattle.std.specs.List.Sorted.{IsStrictlyIncreasing};
 ghost use Rattle.cave_regions.specs.Joining.{AreAlone, AreLabels, AreParents, AreRoots, Finds, IsForest, Joins};
 ghost use Rattle.cave_regions.specs.Joining.{JoinsRow};
 
-use bit_rows::next;
+use cave_base::Cell;
 use cave_model::OutOfMemory;
-use scan_core::Cell;
-use set_cover::Instance;
+use set_cover::{Instance, next};
 use std::alloc::Global;
 
 /// The root of the cell's tree. Each second cell on the way gets a shorter way.

@@ -2,7 +2,7 @@ ghost use Rattle.std.specs.Prelude.{◌≡◌, ◌<◌, ◌↔◌, Contains, IsT
 ghost use Rattle.set_cover.specs.Instance.{IsRowAt, LightsIn, row_of};
 ghost use Rattle.cave_regions.specs.Region.{IsRegion};
 
-use scan_core::Cell;
+use cave_base::Cell;
 use set_cover::Instance;
 use std::marker::Model;
 

@@ -5,10 +5,9 @@ ghost use Rattle.cave_regions.specs.Restricting.{AreCopied, AreRanks, IsSelfCont
 
 use crate::copying::copy_rows;
 use crate::region::Region;
-use bit_rows::empty;
+use cave_base::Cell;
 use cave_model::OutOfMemory;
-use scan_core::Cell;
-use set_cover::{Instance, number};
+use set_cover::{Instance, empty, number};
 use std::alloc::Global;
 
 /// The items with these indices.

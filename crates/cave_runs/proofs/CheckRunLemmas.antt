@@ -3,8 +3,8 @@ use Rattle.std.proofs.Common.{◌≡◌, ℕ, ◌<◌, ◌≤◌, List, length, 
 use Rattle.std.proofs.Common.{subst, ◌∙◌, ◌⊎◌, inl, inr}
 use Rattle.std.specs.Prelude.{IfSome}
 use Rattle.cave_model.specs.Rule.{Rule}
-use Rattle.cave_model.specs.declared.cave_fault.CaveFault.{CaveFault}
-use Rattle.cave_model.specs.declared.cave_fault.CaveFault.TheVariants as cave
+use Rattle.cave_reading.specs.declared.cave_fault.CaveFault.{CaveFault}
+use Rattle.cave_reading.specs.declared.cave_fault.CaveFault.TheVariants as cave
 use Rattle.proof_check.specs.Faults as check_faults
 use Rattle.proof_check.specs.Verdict as verdicts
 use Rattle.proof_check.specs.Verdict.{IsJudged, IsOfReading, IsReadAnswer}

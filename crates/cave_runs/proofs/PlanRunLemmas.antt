@@ -5,21 +5,21 @@ use Rattle.std.specs.Prelude.{IfErr, IfSome, OnErr, OnOk}
 use Rattle.std.specs.Io.KnownBytes.{Appends}
 use Rattle.std.proofs.KnownBytes.{Keeps-refl}
 use Rattle.std.proofs.lemmas.List.{append-nil}
-use Rattle.scan_core.specs.Box.{Point, point, coordinates}
-use Rattle.cave_model.specs.Bytes as caves
-use Rattle.cave_model.specs.Bytes.{IsCaveOfBytes}
+use Rattle.cave_base.specs.Box.{Point, point, coordinates}
+use Rattle.cave_reading.specs.Bytes as caves
+use Rattle.cave_reading.specs.Bytes.{IsCaveOfBytes}
 use Rattle.cave_model.specs.Cave.{Cave}
-use Rattle.cave_model.specs.Listing.{Lists}
+use Rattle.cave_model.specs.Listing.{ListsAll}
 use Rattle.cave_model.specs.Rule.{Rule}
-use Rattle.cave_model.specs.declared.cave_fault.CaveFault.{CaveFault}
-use Rattle.cave_model.specs.declared.cave_fault.CaveFault.TheVariants as cave_faults
-use Rattle.proof_tree.specs.Planned.{Plan, certificate_of, certificate_text}
-use Rattle.proof_tree.specs.Writing.{AppendsFront, AppendsPart}
-use Rattle.proof_tree.specs.declared.fault.WriteFault.{WriteFault}
-use Rattle.proof_tree.specs.declared.fault.WriteFault.TheVariants as writing
-use Rattle.proof_tree.proofs.SentLemmas.{part_none}
-use Rattle.plan_laws.proofs.AcceptedLemmas.{accepted, best_are_bounded, part_of, section_torches}
-use Rattle.plan_laws.proofs.PartLemmas.{same_number}
+use Rattle.cave_reading.specs.declared.cave_fault.CaveFault.{CaveFault}
+use Rattle.cave_reading.specs.declared.cave_fault.CaveFault.TheVariants as cave_faults
+use Rattle.certificate_text.specs.Planned.{Plan, certificate_of, certificate_text}
+use Rattle.certificate_text.specs.Writing.{AppendsFront, AppendsPart}
+use Rattle.certificate_text.specs.declared.fault.WriteFault.{WriteFault}
+use Rattle.certificate_text.specs.declared.fault.WriteFault.TheVariants as writing
+use Rattle.certificate_text.proofs.SentLemmas.{part_none}
+use Rattle.cave_plan.proofs.AcceptedLemmas.{accepted, best_are_bounded, part_of, section_torches}
+use Rattle.cave_plan.proofs.PartLemmas.{same_number}
 use Rattle.cave_plan.specs.Faults.{NamesUnlightable}
 use Rattle.cave_plan.specs.Outline.{IsPlanned, IsStoppedAt}
 use Rattle.cave_plan.specs.declared.fault.PlanFault.{PlanFault}
@@ -50,7 +50,7 @@ writes_best cave text plans old new proof_old proof_new is written proved = reco
   accepted = accepted cave plans is.world is.plans_are;
   same = is.of_plans.exact;
   number = same_number cave (map part_of plans) is.torches (best_are_bounded cave plans is.plans_are)
-      (subst (λ (l : List ℕ). Lists (Contains l) is.torches) (sym (section_torches plans)) is.of_plans) ∙ ap length
+      (subst (λ (l : List ℕ). ListsAll (Contains l) is.torches) (sym (section_torches plans)) is.of_plans) ∙ ap length
       (section_torches plans);
   proved = proved;
 }

@@ -2,11 +2,11 @@
 use Rattle.std.proofs.Common.{◌≡◌, ◌≢◌, ℕ, ◌≤◌, List, length, Option, Some, None, Result, Ok, Err, refl, sym, ap}
 use Rattle.std.proofs.Common.{subst, ◌∙◌, ◌⊎◌, inl, inr, arith}
 use Rattle.std.specs.Prelude.{IfErr, IfSome, OnErr}
-use Rattle.cave_model.specs.Bytes as caves
+use Rattle.cave_reading.specs.Bytes as caves
 use Rattle.cave_model.specs.Rule.{Rule}
-use Rattle.cave_model.specs.declared.cave_fault.CaveFault.{CaveFault}
-use Rattle.cave_model.specs.declared.cave_fault.CaveFault.TheVariants as cave
-use Rattle.proof_tree.specs.Writing.{AppendsFront}
+use Rattle.cave_reading.specs.declared.cave_fault.CaveFault.{CaveFault}
+use Rattle.cave_reading.specs.declared.cave_fault.CaveFault.TheVariants as cave
+use Rattle.certificate_text.specs.Writing.{AppendsFront}
 use Rattle.cave_runs.specs.Faults.{run_fault_of}
 use Rattle.cave_runs.specs.Runs.{IsFaultOfBytes, IsFaultOfInput, IsRefusedRun, IsDarkTextOf, BeginsDark}
 use Rattle.cave_runs.specs.Limits.{structure_limit}

@@ -2,7 +2,7 @@
 use Rattle.std.specs.Prelude.{◌≡◌, ◌<◌, ◌⊎◌, ◌++◌, ℕ, List, length, codes, Option, Result, MatchResult, IfSome}
 use Rattle.std.specs.Io.KnownBytes.{Appends, Keeps}
 use Rattle.cave_model.specs.Rule.{Rule}
-use Rattle.proof_tree.specs.Writing.{AppendsFront}
+use Rattle.certificate_text.specs.Writing.{AppendsFront}
 use Rattle.proof_check.specs.Texts.{verdict_text}
 use Rattle.proof_check.specs.Verdict.{IsJudged}
 use Rattle.proof_check.specs.declared.verdict.Verdict.{Verdict}

@@ -1,8 +1,8 @@
 -- A run's fault, of those of its parts: memory that was refused is told as such, whatever part met it.
-use Rattle.cave_model.specs.declared.cave_fault.CaveFault.{CaveFault}
-use Rattle.cave_model.specs.declared.cave_fault.CaveFault.TheVariants as cave
-use Rattle.proof_tree.specs.declared.fault.WriteFault.{WriteFault}
-use Rattle.proof_tree.specs.declared.fault.WriteFault.TheVariants as writing
+use Rattle.cave_reading.specs.declared.cave_fault.CaveFault.{CaveFault}
+use Rattle.cave_reading.specs.declared.cave_fault.CaveFault.TheVariants as cave
+use Rattle.certificate_text.specs.declared.fault.WriteFault.{WriteFault}
+use Rattle.certificate_text.specs.declared.fault.WriteFault.TheVariants as writing
 use Rattle.proof_check.specs.declared.fault.CheckFault.{CheckFault}
 use Rattle.proof_check.specs.declared.fault.CheckFault.TheVariants as check
 use Rattle.cave_runs.specs.declared.fault.Input.TheVariants.{ProofInput}

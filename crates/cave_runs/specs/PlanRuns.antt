@@ -2,16 +2,16 @@
 use Rattle.std.specs.Prelude.{◌≡◌, ◌<◌, ◌≤◌, ◌⊎◌, ◌↔◌, ℕ, Bool, List, [], length, Contains, Option, Some, None}
 use Rattle.std.specs.Prelude.{IsSome, IfSome}
 use Rattle.std.specs.Io.KnownBytes.{Appends, Keeps}
-use Rattle.scan_core.specs.Box.{coordinates}
-use Rattle.cave_model.specs.Bytes.{IsCaveOfBytes}
+use Rattle.cave_base.specs.Box.{coordinates}
+use Rattle.cave_reading.specs.Bytes.{IsCaveOfBytes}
 use Rattle.cave_model.specs.Cave.{Cave}
 use Rattle.cave_model.specs.Rule.{Rule}
 use Rattle.cover_rows.specs.Coverage.{IsUnlightable}
 use Rattle.proof_rules.specs.Certificate.{Certificate, torches_of}
-use Rattle.proof_tree.specs.Planned.{Plan, certificate_text}
-use Rattle.proof_tree.specs.Writing.{AppendsPart}
+use Rattle.certificate_text.specs.Planned.{Plan, certificate_text}
+use Rattle.certificate_text.specs.Writing.{AppendsPart}
 use Rattle.proof_check.specs.Accepted.{Accepts, IsBestPlan}
-use Rattle.plan_laws.specs.Bounded.{IsPlanWithin}
+use Rattle.cave_plan.specs.Bounded.{IsPlanWithin}
 use Rattle.cave_plan.specs.Outline.{Prints, IsPlanned, IsStoppedAt, IsOutlineOf}
 use Rattle.cave_runs.specs.Limits.{structure_limit}
 use Rattle.cave_runs.specs.Runs.{IsFaultOfBytes}

@@ -1,12 +1,12 @@
 -- What a run prints of the bytes that it reads, or why it refuses them.
 use Rattle.std.specs.Prelude.{◌≡◌, ◌≢◌, ◌<◌, ◌≤◌, ◌⊎◌, ℕ, List, length, Option, Result, MatchResult}
-use Rattle.cave_model.specs.Bytes.{IsCaveOfBytes}
-use Rattle.cave_model.specs.Bytes as caves
+use Rattle.cave_reading.specs.Bytes.{IsCaveOfBytes}
+use Rattle.cave_reading.specs.Bytes as caves
 use Rattle.cave_model.specs.Cave.{Cave}
 use Rattle.cave_model.specs.Rule.{Rule}
-use Rattle.cave_model.specs.declared.cave_fault.CaveFault.{CaveFault}
+use Rattle.cave_reading.specs.declared.cave_fault.CaveFault.{CaveFault}
 use Rattle.std.specs.Io.KnownBytes.{Appends}
-use Rattle.proof_tree.specs.Writing.{AppendsFront}
+use Rattle.certificate_text.specs.Writing.{AppendsFront}
 use Rattle.cave_runs.specs.DarkText.{IsDarkText}
 use Rattle.cave_runs.specs.Faults.{run_fault_of}
 use Rattle.cave_runs.specs.Limits.{structure_limit}

@@ -1,6 +1,6 @@
 ghost use Rattle.std.specs.Prelude.{◌≡◌, ◌≢◌, IfOk, IfErr, IfSome, OnOk, option_copied, string_bytes};
 ghost use Rattle.std.specs.Io.KnownBytes.{Keeps};
-ghost use Rattle.nbt_core.specs.Answer.{IsRefusal};
+ghost use Rattle.cave_base.specs.Answer.{IsRefusal};
 ghost use Rattle.cave_model.specs.RuleOf.{rule_of};
 ghost use Rattle.proof_check.specs.Reading.{GivesAtMost};
 ghost use Rattle.cave_runs.specs.DarkText.{IsDarkText};
@@ -14,7 +14,8 @@ use crate::limits::STRUCTURE_LIMIT;
 use crate::reading::read_all;
 use crate::text::dark_text;
 use crate::writing::put_all;
-use cave_model::{Rule, World, read_cave};
+use cave_model::{Rule, World};
+use cave_reading::read_cave;
 use light_flood::{dark_cells, light};
 use std::alloc::{AllocError, Global};
 use std::io::{Read, Write};

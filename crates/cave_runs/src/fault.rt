@@ -3,9 +3,9 @@ ghost use Rattle.cave_runs.specs.Faults.{run_fault_of, of_check, of_write};
 ghost use Rattle.cave_runs.specs.declared.fault.RunFault.TheVariants.{OutOfMemory};
 
 use block_rows::RowsFault;
-use cave_model::{BuildFault, CaveFault};
+use cave_reading::{BuildFault, CaveFault};
+use certificate_text::WriteFault;
 use proof_check::CheckFault;
-use proof_tree::WriteFault;
 use scan_core::ScanFault;
 use std::alloc::AllocError;
 use std::fmt;

@@ -11,7 +11,7 @@ mod text;
 mod unkept;
 mod writing;
 
-pub use cave_plan::{Gate, Open, Workers};
+pub use cave_plan::{Observer, Strategy, Unobserved, Workers};
 pub use check::run_check;
 pub use dark::run_dark;
 pub use fault::{Input, RunFault};
@@ -19,5 +19,4 @@ pub use plan::{Outcome, PlanOpts, run_plan};
 pub use proof_check::Verdict;
 pub use proof_tree::Name;
 pub use reading::read_table;
-pub use search_core::Watch;
 pub use unkept::Unkept;

@@ -1,10 +1,10 @@
 //! The plan of a structure, from the bytes read to the bytes written.
 ghost use Rattle.std.specs.Prelude.{◌≡◌, ◌≢◌, ◌<◌, IfOk, IfErr, IfSome, OnOk, option_copied, string_bytes};
-ghost use Rattle.nbt_core.specs.Answer.{IsRefusal};
+ghost use Rattle.cave_base.specs.Answer.{IsRefusal};
 ghost use Rattle.cave_model.specs.RuleOf.{rule_of};
 ghost use Rattle.cave_plan.specs.Outline.{IsOutlineOf, IsPlanned};
 ghost use Rattle.proof_check.specs.Reading.{GivesAtMost};
-ghost use Rattle.proof_tree.specs.PlanOf.{plans_of};
+ghost use Rattle.certificate_text.specs.PlanOf.{plans_of};
 ghost use Rattle.cave_runs.specs.Limits.{structure_limit};
 ghost use Rattle.cave_runs.specs.PlanRuns.{EndsIn, IsNoPlan, IsNoPlanOfInput, NamesUnlit, Leaves};
 ghost use Rattle.cave_runs.specs.PlanRuns.{LeavesIn, LeavesProved, Plans, TellsPlans, WritesBest};
@@ -15,12 +15,14 @@ use crate::fault::{Input, RunFault};
 use crate::limits::STRUCTURE_LIMIT;
 use crate::reading::read_all;
 use crate::writing::put_all;
-use cave_model::{Rule, World, read_cave};
-use cave_plan::{Crew, Gate, Outline, PlanFault, Workers, plan_cave};
-use proof_tree::write_certificate;
-use scan_core::coordinates;
+use cave_base::coordinates;
+use cave_model::{Rule, World};
+use cave_plan::{Crew, Observer, Outline, PlanFault, Strategy, Workers, plan_cave};
+use cave_reading::read_cave;
+use certificate_text::write_certificate;
 use std::alloc::Global;
 use std::io::{Read, Write};
+use std::marker::PhantomData;
 use std::sync::Wait;
 use std::thread::Threads;
 
@@ -43,10 +45,10 @@ pub enum Outcome {
 }
 
 /// The plan of a world; a dark cell that no place lights is told by its coordinates.
-fn outline_of<X: Threads + Wait + Sync, G: Gate>(
+fn outline_world<X: Threads + Wait + Sync, S: Strategy + Send + Sync, O: Observer>(
     alloc: Global,
     world: &World,
-    crew: &Crew<'_, X, G>,
+    crew: &Crew<'_, X, S, O>,
     turns: Option<u64>,
 ) -> Result<Outline, RunFault>
     ensures found { IfOk result (λ o.
@@ -67,12 +69,12 @@ fn outline_of<X: Threads + Wait + Sync, G: Gate>(
 }
 
 /// The cave that the bytes tell, with its plan.
-fn planned<X: Threads + Wait + Sync, G: Gate>(
+fn plan_bytes<X: Threads + Wait + Sync, S: Strategy + Send + Sync, O: Observer>(
     alloc: Global,
     bytes: &[u8],
     table: Option<&[u8]>,
     opts: &PlanOpts,
-    crew: &Crew<'_, X, G>,
+    crew: &Crew<'_, X, S, O>,
 ) -> Result<(World, Outline), RunFault>
     ensures found { IfOk result (λ p. TellsPlans bytes.now (option_copied table.entry) (rule_of opts.now.rule)
         opts.now.turns p.0 (string_bytes p.1.text) p.1.stopped (plans_of p.1.parts.items)) }
@@ -83,7 +85,7 @@ fn planned<X: Threads + Wait + Sync, G: Gate>(
         → IsRefusal RunFault.OutOfMemory result e }
 {
     let world = read_cave(alloc, bytes, table, opts.rule)?;
-    let outline = outline_of(alloc, &world, crew, opts.turns)?;
+    let outline = outline_world(alloc, &world, crew, opts.turns)?;
     Ok((world, outline))
 }
 
@@ -134,14 +136,22 @@ fn put_plan<W: Write, V: Write>(
 /// planned before a byte is written, and the whole text of the plan is made before its first byte is. The rows are
 /// those of the user's table, where there is one, before the shipped ones. Where the turns of a region were spent, the
 /// text says how few torches there might be, and no certificate is written. Where more workers than one search, each
-/// is a thread of its own, which the gate may hold back.
-pub fn run_plan<X: Threads + Wait + Sync, R: Read, W: Write, V: Write, G: Gate>(
+/// is a thread of its own, which the observer may hold back. The strategy proposes, and what it proposes changes no
+/// promise.
+pub fn run_plan<
+    S: Strategy + Send + Sync,
+    X: Threads + Wait + Sync,
+    R: Read,
+    W: Write,
+    V: Write,
+    O: Observer,
+>(
     rt: &X,
     alloc: Global,
     reader: &mut R,
     table: Option<&[u8]>,
     opts: &PlanOpts,
-    gate: &G,
+    observer: &O,
     writer: &mut W,
     proof: &mut V,
 ) -> Result<Outcome, RunFault>
@@ -167,11 +177,12 @@ pub fn run_plan<X: Threads + Wait + Sync, R: Read, W: Write, V: Write, G: Gate>(
         → GivesAtMost structure_limit (R.remaining reader.old) (R.remaining reader.new)) }
 {
     let bytes = read_all(alloc, reader, STRUCTURE_LIMIT, Input::StructureInput)?;
-    let crew = Crew {
+    let crew: Crew<'_, X, S, O> = Crew {
         rt,
         workers: opts.workers,
-        gate,
+        strategy: PhantomData,
+        observer,
     };
-    let (world, outline) = planned(alloc, &bytes, table, opts, &crew)?;
+    let (world, outline) = plan_bytes(alloc, &bytes, table, opts, &crew)?;
     put_plan(alloc, &world, &outline, opts.turns, writer, proof)
 }

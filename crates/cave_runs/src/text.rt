@@ -1,8 +1,8 @@
 ghost use Rattle.std.specs.Prelude.{◌≡◌, ◌<◌, All, IfOk, string_bytes};
-ghost use Rattle.scan_core.specs.Box.{cell_count, point};
+ghost use Rattle.cave_base.specs.Box.{cell_count, point};
 ghost use Rattle.cave_runs.specs.DarkText as texts;
 
-use scan_core::{Cell, coordinates};
+use cave_base::{Cell, coordinates};
 use std::alloc::{AllocError, Global};
 
 /// The text of these cells of a box: their number, and each on a line as `x y z`.

@@ -1,6 +1,6 @@
 ghost use Rattle.std.specs.Prelude.{◌≡◌, IfErr, OnOk, OnErr};
 ghost use Rattle.std.specs.Io.KnownBytes.{Appends};
-ghost use Rattle.proof_tree.specs.Writing.{AppendsFront};
+ghost use Rattle.certificate_text.specs.Writing.{AppendsFront};
 ghost use Rattle.cave_runs.specs.declared.fault.RunFault.{RunFault};
 
 use crate::fault::RunFault;
@@ -12,7 +12,7 @@ pub fn put_all<W: Write>(writer: &mut W, text: &[u8]) -> Result<(), RunFault>
     ensures err { IfErr result (λ e. e ≡ RunFault.WriteFailed) }
     ensures begun { OnErr result (AppendsFront (W.contents writer.old) (W.contents writer.new) text.now) }
 {
-    match proof_tree::put_all(writer, text) {
+    match certificate_text::put_all(writer, text) {
         Ok(()) => Ok(()),
         Err(_) => Err(RunFault::WriteFailed),
     }

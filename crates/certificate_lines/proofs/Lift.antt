@@ -5,7 +5,7 @@ use Rattle.std.specs.Prelude.{Bool, true, false, IsTrue, Option, Some, None, Mat
 use Rattle.std.specs.Prelude.{MatchOption, is_some, codes, nat_le, ◌&&◌}
 use Rattle.std.proofs.lemmas.List.Elements.{All-nil, All-cons}
 use Rattle.std.proofs.lemmas.Bool.{leb-true}
-use Rattle.scan_core.specs.Box.{cell_count}
+use Rattle.cave_base.specs.Box.{cell_count}
 use Rattle.proof_rules.specs.Text.{line}
 use Rattle.proof_rules.specs.Certificate.{AreListed}
 use Rattle.certificate_lines.specs.Numbers.{IsSmall, most_numbers}

@@ -12,7 +12,7 @@ use Rattle.certificate_lines.specs.Decides.{IsLineOf}
 use Rattle.certificate_lines.specs.Kinds.{word_of}
 use Rattle.certificate_lines.specs.Said.{Said, said, text_of, tree_said, forest_said, section_said, said_of, AreSaid}
 use Rattle.certificate_lines.proofs.Complete.{listed_few}
-use Rattle.scan_core.specs.Box.{cell_count}
+use Rattle.cave_base.specs.Box.{cell_count}
 use Rattle.certificate_lines.proofs.Lift.{sides}
 use Rattle.certificate_lines.proofs.Walk.{count_small}
 use Rattle.certificate_lines.proofs.Whole.{magic_first, magic_second}

@@ -4,7 +4,7 @@ use Rattle.std.proofs.Common.{sym, subst, ap, arith}
 use Rattle.std.specs.Prelude.{Bool, true, false, IsTrue, codes, flat_map, slice_index_or, nat_le, ◌&&◌}
 use Rattle.std.proofs.lemmas.List.Elements.{All-nil, All-cons}
 use Rattle.std.proofs.lemmas.Bool.{leb-true}
-use Rattle.scan_core.specs.Box.{Point, cell_count}
+use Rattle.cave_base.specs.Box.{Point, cell_count}
 use Rattle.proof_rules.specs.Tree.{Forest, leaf, none, more, tree_count}
 use Rattle.proof_rules.specs.Text.{line, forest_lines, section_lines}
 use Rattle.proof_rules.specs.Certificate.{Section, AreListed, AreTreesIn, HasNoBar, HaveNoBar, IsSectionIn}

@@ -3,7 +3,7 @@ use Rattle.std.proofs.Common.{◌≡◌, ℕ, ◌+◌, ◌<◌, ◌≤◌, ◌�
 use Rattle.std.proofs.Common.{subst, ap, arith, ◌∙◌}
 use Rattle.std.specs.Prelude.{Bool, true, false, IsTrue, codes, flat_map, if◌then◌else◌}
 use Rattle.std.proofs.lemmas.Fmt.{decimal_digit}
-use Rattle.scan_core.specs.Box.{Point, cell_count, is_small}
+use Rattle.cave_base.specs.Box.{Point, cell_count, is_small}
 use Rattle.proof_rules.specs.Certificate.{Section, Certificate, Version, IsInRange, IsSectionIn, HasNoBar}
 use Rattle.proof_rules.specs.Certificate as version
 use Rattle.proof_rules.specs.Text.{line, section_lines, lines_of}

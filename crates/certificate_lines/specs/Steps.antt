@@ -1,7 +1,7 @@
 -- What a line may be at each stage, and what comes after it. This is this project's own.
 use Rattle.std.specs.Prelude.{◌≡◌, ℕ, zero, suc, ◌+◌, ◌<◌, ◌≤◌, ◌⊎◌, Bool, true, false, IsTrue, List, [], ◌∷◌, length}
 use Rattle.std.specs.Prelude.{codes}
-use Rattle.scan_core.specs.Box.{Point, cell_count, is_small}
+use Rattle.cave_base.specs.Box.{Point, cell_count, is_small}
 use Rattle.proof_rules.specs.Certificate.{AreListed}
 use Rattle.proof_rules.specs.Text.{line}
 use Rattle.certificate_lines.specs.declared.stage.Stage.{Stage}

@@ -4,12 +4,12 @@ use Rattle.std.proofs.Common.{ap, subst, ◌∙◌, arith, inl, inr, mul-le-mul_
 use Rattle.std.proofs.lemmas.Bool.{cases_lt}
 use Rattle.std.proofs.lemmas.Nat.{mul-le}
 use Rattle.std.proofs.lemmas.List.Elements.{Contains-get_or}
-use Rattle.scan_core.specs.Box.{cell_count}
+use Rattle.cave_base.specs.Box.{cell_count}
 use Rattle.cave_model.specs.Cave.{Cave}
 use Rattle.cave_model.specs.Torches.{Lights}
 use Rattle.cave_model.proofs.LightLemmas.{path_end_inside}
 use Rattle.light_flood.specs.Levels.{ListsLit}
-use Rattle.bit_rows.specs.Bits.{IsRowOf}
+use Rattle.set_cover.specs.Bits.{IsRowOf}
 use Rattle.cover_rows.specs.Filling.{AreIndices, IsBitOf, Marks, LightsBy, AreFilled, AreCovered, AreEmpty}
 
 -- what is lit is in the box

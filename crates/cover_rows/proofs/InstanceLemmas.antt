@@ -3,7 +3,7 @@ use Rattle.std.proofs.Common.{◌≡◌, ℕ, ◌*◌, ◌<◌, ◌≤◌, List,
 use Rattle.std.proofs.Common.{arith, inl, inr}
 use Rattle.std.specs.Prelude.{◌↔◌}
 use Rattle.std.proofs.lemmas.Bool.{cases_lt}
-use Rattle.bit_rows.specs.Bits.{Has}
+use Rattle.set_cover.specs.Bits.{Has}
 use Rattle.cave_model.specs.Cave.{Cave}
 use Rattle.cave_model.specs.Spawn.{IsDark, AreDarkCells}
 use Rattle.cave_model.specs.Torches.{IsPlace, ArePlaces, Lights}

@@ -3,7 +3,7 @@ use Rattle.std.proofs.Common.{◌≡◌, ℕ, ◌+◌, ◌<◌, ◌≤◌, List,
 use Rattle.std.proofs.Common.{sym, ap, subst, ◌∙◌, arith, inl, inr}
 use Rattle.std.proofs.lemmas.List.{take_more, take_all}
 use Rattle.std.proofs.lemmas.List.Elements.{Contains-append_left, Contains-push, Contains-push_cases}
-use Rattle.bit_rows.specs.Bits.{IsWith}
+use Rattle.set_cover.specs.Bits.{IsWith}
 use Rattle.cover_rows.specs.Filling.{IsBitOf, Marks}
 
 module _ (old indices : List ℕ) (count base : ℕ) where

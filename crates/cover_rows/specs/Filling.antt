@@ -2,8 +2,8 @@
 -- This is this project's own.
 use Rattle.std.specs.Prelude.{◌≡◌, ◌<◌, ◌≤◌, ◌↔◌, ◌⊎◌, ℕ, ◌+◌, ◌*◌, ◌^◌, List, length, slice_index, All, Contains}
 use Rattle.std.specs.List.Sorted.{IsStrictlyIncreasing}
-use Rattle.scan_core.specs.Box.{cell_count}
-use Rattle.bit_rows.specs.Bits.{Has}
+use Rattle.cave_base.specs.Box.{cell_count}
+use Rattle.set_cover.specs.Bits.{Has}
 use Rattle.cave_model.specs.Cave.{Cave}
 use Rattle.cave_model.specs.Torches.{Lights}
 

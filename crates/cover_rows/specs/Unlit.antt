@@ -1,6 +1,6 @@
 -- The first of some cells whose bit isn't set. This is this project's own.
 use Rattle.std.specs.Prelude.{◌<◌, ℕ, List, length, Option, MatchOption}
-use Rattle.bit_rows.specs.Bits.{Has}
+use Rattle.set_cover.specs.Bits.{Has}
 use Rattle.set_cover.specs.Instance.{StandsAt}
 
 -- the first of these cells whose bit, by its index, isn't set

@@ -1,7 +1,7 @@
 ghost use Rattle.std.specs.Prelude.{◌≡◌};
 ghost use Rattle.cover_rows.specs.declared.fault.CoverFault.TheVariants.{OutOfMemory};
 
-use scan_core::Cell;
+use cave_base::Cell;
 use std::alloc::{AllocError, AllocFailed};
 use std::error::Error;
 use std::fmt;

@@ -1,14 +1,14 @@
 ghost use Rattle.std.specs.Prelude.{◌≡◌, ◌<◌, ◌^◌, length, IfOk, OnOk};
-ghost use Rattle.scan_core.specs.Box.{cell_count};
+ghost use Rattle.cave_base.specs.Box.{cell_count};
 ghost use Rattle.set_cover.specs.Instance.{words_for};
 ghost use Rattle.cover_rows.specs.Filling.{AreEmpty, IsFilling, IsListed};
 
 use crate::indexing::indices_of;
 use crate::marking::mark;
-use bit_rows::empty;
+use cave_base::Cell;
 use cave_model::{OutOfMemory, TORCH_LIGHT, World};
 use light_flood::Scratch;
-use scan_core::Cell;
+use set_cover::empty;
 use std::alloc::Global;
 
 /// The rows of the places, one after another, and the row of the cells that some place lights.

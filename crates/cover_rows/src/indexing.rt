@@ -2,8 +2,8 @@ ghost use Rattle.std.specs.Prelude.{◌<◌, All, IfOk};
 ghost use Rattle.std.specs.List.Sorted.{IsStrictlyIncreasing};
 ghost use Rattle.cover_rows.specs.Filling.{AreIndices};
 
+use cave_base::Cell;
 use cave_model::OutOfMemory;
-use scan_core::Cell;
 use set_cover::number;
 use std::alloc::Global;
 

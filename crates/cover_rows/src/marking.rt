@@ -1,8 +1,8 @@
 ghost use Rattle.std.specs.Prelude.{◌<◌, ◌≤◌, ◌+◌, ◌*◌, ◌^◌, length, All};
 ghost use Rattle.cover_rows.specs.Filling.{Marks};
 
-use bit_rows::add;
-use scan_core::Cell;
+use cave_base::Cell;
+use set_cover::add;
 
 /// Sets, from the bit `base` on, the bit of each lit cell that has an index below `count`.
 pub fn mark(words: &mut [u64], base: usize, indices: &[u32], count: usize, lit: &[Cell])

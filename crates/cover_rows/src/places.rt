@@ -1,9 +1,9 @@
 ghost use Rattle.std.specs.Prelude.{◌<◌, ◌^◌, ◌↔◌, All, IfOk, IsTrue};
-ghost use Rattle.scan_core.specs.Box as grid;
+ghost use Rattle.cave_base.specs.Box as grid;
 ghost use Rattle.cave_model.specs.Torches.{ArePlaces, IsPlace};
 
+use cave_base::Cell;
 use cave_model::{OutOfMemory, World};
-use scan_core::Cell;
 use std::alloc::Global;
 
 /// Whether a new torch may go into the cell.

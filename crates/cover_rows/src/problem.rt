@@ -1,6 +1,6 @@
 ghost use Rattle.std.specs.Prelude.{◌≡◌, ◌≢◌, ◌<◌, ◌↔◌, ℕ, Contains, IfOk, IfErr, IsTrue, length};
 ghost use Rattle.set_cover.specs.Instance.{IsInstance, IsRowAt, LightsIn};
-ghost use Rattle.nbt_core.specs.Answer.{IsRefusal};
+ghost use Rattle.cave_base.specs.Answer.{IsRefusal};
 ghost use Rattle.cover_rows.specs.Coverage.{IsProblemOf, IsUnlightableFault};
 ghost use Rattle.cover_rows.specs.declared.fault.CoverFault.{CoverFault};
 
@@ -8,9 +8,9 @@ use crate::fault::CoverFault;
 use crate::filling::{Rows, rows_of};
 use crate::places::legal_places;
 use crate::search::first_unlit;
+use cave_base::Cell;
 use cave_model::World;
 use light_flood::{dark_cells, light};
-use scan_core::Cell;
 use set_cover::Instance;
 use std::alloc::Global;
 use std::marker::Model;

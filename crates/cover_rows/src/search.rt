@@ -1,8 +1,8 @@
 ghost use Rattle.std.specs.Prelude.{◌≤◌, ◌*◌, length};
 ghost use Rattle.cover_rows.specs.Unlit.{FindsUnlit};
 
-use bit_rows::has;
-use scan_core::Cell;
+use cave_base::Cell;
+use set_cover::has;
 
 /// The first of the cells whose bit, by its index, isn't set.
 pub fn first_unlit(covered: &[u64], cells: &[Cell]) -> Option<Cell>

@@ -7,7 +7,7 @@ use Rattle.proof_tree.specs.Shape.{tree_of, forest_of}
 use Rattle.proof_tree.specs.declared.proof.Proof.{Proof}
 use Rattle.event_core.specs.Shape.{Shapes, parted, shape_count}
 use Rattle.event_core.specs.Finished.{is_done, are_done, assembled, all_assembled, IsWhole, AreWhole}
-use Rattle.event_core.specs.Nodes.{shape_of, shapes_of}
+use Rattle.event_core.specs.NodeShape.{shape_of, shapes_of}
 use Rattle.event_core.specs.declared.node.Node.{Node}
 use Rattle.event_core.specs.declared.node.Node.TheVariants.{Opened}
 use Rattle.event_core.proofs.NodeLemmas.{count_nodes}

@@ -16,7 +16,7 @@ use Rattle.event_core.specs.Kept.{Kept, state_of, put_kept}
 use Rattle.event_core.specs.Tracing.{IsTracedTo, IsStanding, StandsAs}
 use Rattle.event_core.specs.Opening.{IsOpening}
 use Rattle.event_core.specs.Moving.{IsMade}
-use Rattle.event_core.specs.Nodes.{shape_of}
+use Rattle.event_core.specs.NodeShape.{shape_of}
 use Rattle.event_core.specs.declared.node.Node.{Node}
 use Rattle.event_core.specs.declared.tracing.Standing.{Standing}
 use Rattle.event_core.specs.declared.tracing.Standing.TheVariants.{Waiting, Held, Past}

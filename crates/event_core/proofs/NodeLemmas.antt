@@ -5,7 +5,7 @@ use Rattle.std.specs.Prelude.{take, slice_index}
 use Rattle.event_core.specs.Shape.{Shape, Shapes, at_rest, no_shape, one_shape, part_in, part_below, put_in}
 use Rattle.event_core.specs.Shape.{put_below, shape_size, shapes_size, shape_count}
 use Rattle.event_core.specs.Finished.{all_at_rest}
-use Rattle.event_core.specs.Nodes.{shape_of, shapes_of}
+use Rattle.event_core.specs.NodeShape.{shape_of, shapes_of}
 use Rattle.event_core.specs.declared.node.Node.{Node}
 
 -- the part below a kid's number is that of the kid

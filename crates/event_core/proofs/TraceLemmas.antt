@@ -4,7 +4,7 @@ use Rattle.std.proofs.Common.{None, Vec, Global, sym, ap, ◌∙◌, subst}
 use Rattle.std.specs.Prelude.{take, slice_index}
 use Rattle.proof_tree.specs.declared.proof.Proof.{Proof}
 use Rattle.event_core.specs.Shape.{Shape, Shapes, parted, part_in, part_below, put_in, put_below}
-use Rattle.event_core.specs.Nodes.{shape_of, shapes_of}
+use Rattle.event_core.specs.NodeShape.{shape_of, shapes_of}
 use Rattle.event_core.specs.Tracing.{IsTraced, IsTracedTo}
 use Rattle.event_core.specs.declared.node.Node.{Node}
 use Rattle.event_core.specs.declared.node.Node.TheVariants.{Opened}

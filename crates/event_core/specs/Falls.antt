@@ -4,8 +4,8 @@ use Rattle.std.proofs.Common.{arith, max}
 use denote.Param.Weighed.{most}
 use Rattle.event_core.specs.declared.node.Node.{Node}
 use Rattle.event_core.specs.declared.node.Node.TheVariants.{Waiting, Held, Closed, Opened}
-use Rattle.event_core.specs.declared.node.Nodes.TheDeep.{deep-Node}
-use Rattle.event_core.specs.Nodes.{shape_of, shapes_of}
+use Rattle.event_core.specs.declared.node.Siblings.TheDeep.{deep-Node}
+use Rattle.event_core.specs.NodeShape.{shape_of, shapes_of}
 use Rattle.event_core.specs.Shape.{shape_size, shapes_size}
 
 -- a node's measure, as its type has it, is at most the size of its shape

@@ -11,7 +11,7 @@ pub mod Waiting
 pub mod Shape
 pub mod Finished
 pub mod Codes
-pub mod Nodes
+pub mod NodeShape
 pub mod Falls
 pub mod Tracing
 pub mod Opening

@@ -2,7 +2,7 @@
 use Rattle.std.specs.Prelude.{◌≡◌, ℕ, List, length}
 use Rattle.set_cover.specs.Instance.{Instance, of_instance}
 use Rattle.proof_rules.specs.Good.{AreOpen}
-use Rattle.event_core.specs.Nodes.{shape_of}
+use Rattle.event_core.specs.NodeShape.{shape_of}
 use Rattle.event_core.specs.Shape.{parted}
 use Rattle.event_core.specs.Finished.{all_at_rest}
 use Rattle.event_core.specs.declared.node.Node.{Node}

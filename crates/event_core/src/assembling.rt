@@ -1,7 +1,7 @@
 //! The tree of a core in which no piece waits or is held.
 ghost use Rattle.std.specs.Prelude.{◌≡◌, IsTrue};
 ghost use Rattle.proof_tree.specs.Shape.{tree_of};
-ghost use Rattle.event_core.specs.Nodes.{shape_of, shapes_of};
+ghost use Rattle.event_core.specs.NodeShape.{shape_of, shapes_of};
 ghost use Rattle.event_core.specs.Finished.{assembled, is_done, are_done, IsWhole};
 
 use crate::node::Node;

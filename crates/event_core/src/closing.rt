@@ -6,7 +6,7 @@ ghost use Rattle.event_core.specs.Moving.{IsHeldAs};
 ghost use Rattle.event_core.specs.declared.event.Event.TheVariants.{Close};
 ghost use Rattle.event_core.specs.declared.tracing.Standing.TheVariants.{Held};
 
-use crate::kept::Core;
+use crate::event_state::Core;
 use crate::node::Node;
 use crate::tracing::{Standing, Traced};
 use proof_tree::{Closed, Piece, floor_of};

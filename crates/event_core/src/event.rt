@@ -1,6 +1,6 @@
+use cave_base::Cell;
 use cave_regions::Cover;
 use proof_tree::{Closed, Name};
-use scan_core::Cell;
 
 /// What may happen in a core. Workers are numbers below the count handed in.
 #[derive(Drop)]

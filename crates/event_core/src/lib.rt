@@ -4,7 +4,7 @@
 mod assembling;
 mod closing;
 mod event;
-mod kept;
+mod event_state;
 pub mod laws;
 mod looking;
 mod node;
@@ -16,4 +16,4 @@ mod tracing;
 mod waiting;
 
 pub use event::Event;
-pub use kept::Core;
+pub use event_state::Core;

@@ -2,7 +2,7 @@
 ghost use Rattle.event_core.specs.Kept.{StepsTo};
 ghost use Rattle.event_core.specs.declared.event.Event.TheVariants.{Look, Offer};
 
-use crate::kept::Core;
+use crate::event_state::Core;
 use cave_regions::Cover;
 
 impl Core {

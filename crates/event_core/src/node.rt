@@ -1,6 +1,6 @@
 //! The pieces that a core knows, as a tree.
 ghost use Rattle.std.specs.Prelude.{◌≡◌};
-ghost use Rattle.event_core.specs.Nodes.{shapes_of};
+ghost use Rattle.event_core.specs.NodeShape.{shapes_of};
 
 use proof_tree::{Cells, Proof};
 use std::marker::Model;
@@ -8,7 +8,7 @@ use std::marker::Model;
 /// The kids of an opened piece, in the order of their places.
 #[cycle(node)]
 #[derive(Drop)]
-pub(crate) struct Nodes {
+pub(crate) struct Siblings {
     items: Vec<Node>,
 }
 
@@ -25,12 +25,12 @@ pub(crate) enum Node {
     Opened {
         cell: u32,
         places: Cells,
-        kids: Nodes,
+        kids: Siblings,
         room: Vec<Proof>,
     },
 }
 
-impl Model for Nodes {
+impl Model for Siblings {
     ghost use Rattle.event_core.specs.Shape.{Shapes};
     ghost use Rattle.event_core.specs.Codes.{shapes_coded};
 
@@ -38,7 +38,7 @@ impl Model for Nodes {
 
     ghost coded = { shapes_coded };
 
-    ghost use Rattle.event_core.specs.Nodes.{shapes_of};
+    ghost use Rattle.event_core.specs.NodeShape.{shapes_of};
     ghost use Rattle.event_core.specs.Shape.{shapes_size};
 
     ghost view = { λ n. shapes_of n.items.items };
@@ -50,12 +50,12 @@ impl Model for Nodes {
     ghost size_decreases = { λ a h. kids_fall a.items.items };
 }
 
-impl Nodes {
+impl Siblings {
     /// These nodes, with no new memory.
-    pub(crate) fn of(items: Vec<Node>) -> Nodes
+    pub(crate) fn of(items: Vec<Node>) -> Siblings
         ensures { result ≡ shapes_of items.items }
     {
-        Nodes { items }
+        Siblings { items }
     }
 
     pub(crate) fn as_slice(&self) -> &[Node]
@@ -68,7 +68,7 @@ impl Nodes {
     pub(crate) fn into_items(self) -> Vec<Node>
         ensures { shapes_of result.items ≡ self }
     {
-        let Nodes { items } = self;
+        let Siblings { items } = self;
         items
     }
 }

@@ -3,10 +3,10 @@ ghost use Rattle.std.specs.Prelude.{◌≡◌, IfOk, length};
 ghost use Rattle.event_core.specs.Opening.{IsOpening};
 ghost use Rattle.event_core.specs.Finished.{all_at_rest};
 
-use crate::node::{Node, Nodes};
+use crate::node::{Node, Siblings};
+use cave_base::Cell;
 use cave_regions::Region;
 use proof_tree::{Cells, Proof, kid_places};
-use scan_core::Cell;
 use std::alloc::{AllocError, Global};
 
 /// The piece opened on the cell: a waiting kid for each place that lights it and isn't barred, and room for their
@@ -31,14 +31,14 @@ pub(crate) fn opened(
 }
 
 /// A waiting node for each place.
-fn waiting(alloc: Global, places: &[Cell]) -> Result<Nodes, AllocError>
+fn waiting(alloc: Global, places: &[Cell]) -> Result<Siblings, AllocError>
     ensures { IfOk result (λ nodes. nodes ≡ all_at_rest places.now) }
 {
     let mut nodes = Vec::with_capacity(alloc, places.len())?;
     for index in 0..places.len() {
         nodes.push(Node::Waiting)?;
     }
-    Ok(Nodes::of(nodes))
+    Ok(Siblings::of(nodes))
 }
 
 /// So many empty leaves, which take no memory of their own, where trees are to stand.

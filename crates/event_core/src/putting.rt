@@ -1,9 +1,9 @@
 //! Putting a new node at a name.
 ghost use Rattle.std.specs.Prelude.{◌≡◌};
-ghost use Rattle.event_core.specs.Nodes.{shape_of};
+ghost use Rattle.event_core.specs.NodeShape.{shape_of};
 ghost use Rattle.event_core.specs.Shape.{put_in};
 
-use crate::node::{Node, Nodes};
+use crate::node::{Node, Siblings};
 use std::mem;
 
 /// The same with the new node at this name, where there is a piece of this name.
@@ -26,7 +26,7 @@ pub(crate) fn put(node: Node, name: &[u32], new: Node) -> Node
                 return Node::Opened {
                     cell,
                     places,
-                    kids: Nodes::of(nodes),
+                    kids: Siblings::of(nodes),
                     room,
                 };
             }
@@ -35,7 +35,7 @@ pub(crate) fn put(node: Node, name: &[u32], new: Node) -> Node
             Node::Opened {
                 cell,
                 places,
-                kids: Nodes::of(nodes),
+                kids: Siblings::of(nodes),
                 room,
             }
         }

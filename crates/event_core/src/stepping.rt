@@ -6,12 +6,12 @@ ghost use Rattle.event_core.specs.declared.event.Event.TheVariants.{Open};
 ghost use Rattle.event_core.specs.declared.tracing.Standing.TheVariants.{Past};
 
 use crate::event::Event;
-use crate::kept::Core;
+use crate::event_state::Core;
 use crate::node::Node;
 use crate::opening::opened;
 use crate::tracing::Standing;
+use cave_base::Cell;
 use proof_tree::is_unlit;
-use scan_core::Cell;
 use std::alloc::AllocError;
 
 impl Core {

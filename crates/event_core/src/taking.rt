@@ -5,7 +5,7 @@ ghost use Rattle.event_core.specs.Kept.{IsKept, StepsTo, state_of};
 ghost use Rattle.event_core.specs.Tracing.{IsStanding};
 ghost use Rattle.event_core.specs.declared.event.Event.TheVariants.{Leave, Take};
 
-use crate::kept::Core;
+use crate::event_state::Core;
 use crate::node::Node;
 use crate::tracing::Standing;
 use std::alloc::AllocError;

@@ -1,11 +1,11 @@
 //! Finding a piece by its name.
 ghost use Rattle.std.specs.Prelude.{◌≡◌, [], ◌∷◌, ◌++◌, IfOk};
-ghost use Rattle.event_core.specs.Nodes.{shape_of};
+ghost use Rattle.event_core.specs.NodeShape.{shape_of};
 ghost use Rattle.event_core.specs.Shape.{status_of};
 ghost use Rattle.event_core.specs.Tracing.{IsTraced, StandsAs};
 
 use crate::node::Node;
-use scan_core::Cell;
+use cave_base::Cell;
 use std::alloc::AllocError;
 
 /// What became of a piece, as far as an event asks.

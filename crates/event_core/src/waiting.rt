@@ -1,12 +1,12 @@
 //! The pieces that wait.
 ghost use Rattle.std.specs.Prelude.{◌≡◌, ◌↔◌, ◌++◌, IfOk, IsTrue};
 ghost use Rattle.event_core.specs.Kept.{IsKept, state_of};
-ghost use Rattle.event_core.specs.Nodes.{shape_of, shapes_of};
+ghost use Rattle.event_core.specs.NodeShape.{shape_of, shapes_of};
 ghost use Rattle.event_core.specs.Waiting.{AreAllWaiting, IsWaitingPiece};
 ghost use Rattle.event_core.specs.WaitingNames.{waiting_in, waiting_below};
 ghost use Rattle.event_core.specs.declared.tracing.Standing.TheVariants.{Waiting};
 
-use crate::kept::Core;
+use crate::event_state::Core;
 use crate::node::Node;
 use crate::tracing::{Standing, Traced};
 use proof_tree::{Name, Piece};

@@ -10,11 +10,11 @@ ghost use Rattle.gathering.specs.Gleaning.{Finishes, GleansWhere, MayFinish, Non
 use cave_regions::Cover;
 use event_core::{Core, Event};
 use proof_tree::{Closed, Name, floor_of};
-use search_core::{AloneDesk, CloseFault, Halt, close_piece};
+use search_core::{AloneDesk, CloseFault, Halt, Strategy, close_piece};
 use std::alloc::{AllocError, Global};
 
 /// The caller's thread closes each piece that waits: their names.
-pub(crate) fn glean(
+pub(crate) fn glean<S: Strategy>(
     alloc: Global,
     core: &mut Core,
     caller: u32,
@@ -30,7 +30,7 @@ pub(crate) fn glean(
 {
     let mut gleaned = Vec::new(alloc);
     for name in core.waiting_names()? {
-        if glean_one(alloc, core, caller, &name, desk)? {
+        if glean_one::<S>(alloc, core, caller, &name, desk)? {
             gleaned.push(name)?;
         }
     }
@@ -38,7 +38,7 @@ pub(crate) fn glean(
 }
 
 /// The caller's thread closes the piece of this name, where it waits: whether it did.
-fn glean_one(
+fn glean_one<S: Strategy>(
     alloc: Global,
     core: &mut Core,
     caller: u32,
@@ -55,7 +55,7 @@ fn glean_one(
         return Ok(false);
     };
     core.step(Event::Take(caller, name.try_clone()?))?;
-    match close_piece(alloc, piece, desk) {
+    match close_piece::<S, AloneDesk>(alloc, piece, desk) {
         Ok(closed) => {
             let cover = desk.cover().try_clone()?;
             finish(core, caller, closed, cover)?;

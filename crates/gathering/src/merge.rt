@@ -9,13 +9,13 @@ use crate::fault::PoolFault;
 use crate::gleaning::glean;
 use crate::opening::try_before_closes;
 use crate::trying::close_all;
+use cave_base::Cell;
 use cave_regions::{Cover, Region};
 use event_core::Core;
 use pack_bound::scattered;
 use proof_tree::{Name, Piece, Proof};
-use scan_core::Cell;
 use schedule_law::Work;
-use search_core::{AloneDesk, Halt};
+use search_core::{AloneDesk, Halt, Strategy};
 use std::alloc::{AllocError, Global};
 use std::sync::Arc;
 
@@ -34,7 +34,7 @@ pub struct Gathered {
 
 /// Plays the works on an event core, passes over what isn't enabled, closes each piece that then has no tree, with so
 /// many turns or any number of them, and assembles. More works than 32 bits count are refused as memory is.
-pub fn gather(
+pub fn gather<S: Strategy>(
     alloc: Global,
     region: &Arc<Region>,
     first: Cover,
@@ -61,7 +61,7 @@ pub fn gather(
     try_before_closes(alloc, &mut core, root, &works)?;
     let closed_by = close_all(alloc, &mut core, works)?;
     let mut desk = AloneDesk::new(core.best().try_clone()?, turns);
-    match glean(alloc, &mut core, caller, &mut desk) {
+    match glean::<S>(alloc, &mut core, caller, &mut desk) {
         Ok(gleaned) => match core.assemble() {
             Ok((cover, proof)) => Ok(Gathered {
                 cover,

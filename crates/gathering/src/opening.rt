@@ -5,10 +5,10 @@ ghost use Rattle.event_core.specs.Plays.{Plays};
 ghost use Rattle.schedule_law.specs.Listing.{looks, offer_of, offers};
 ghost use Rattle.gathering.specs.Playing.{tries, tries_as_long, tries_before_closes, tries_one, tries_open};
 
+use cave_base::Cell;
 use cave_regions::Cover;
 use event_core::{Core, Event};
 use proof_tree::{Name, Opened};
-use scan_core::Cell;
 use schedule_law::Work;
 use std::alloc::{AllocError, Global};
 

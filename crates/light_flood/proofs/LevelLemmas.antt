@@ -3,7 +3,7 @@ use Rattle.std.proofs.Common.{◌≡◌, ℕ, ◌+◌, ◌<◌, ◌≤◌, List,
 use Rattle.std.proofs.Common.{inl, inr}
 use Rattle.std.proofs.lemmas.Bool.{cases_lt, cases_eq}
 use Rattle.std.proofs.lemmas.Grind.{get_or_default_zero}
-use Rattle.scan_core.specs.Box.{cell_count}
+use Rattle.cave_base.specs.Box.{cell_count}
 use Rattle.cave_model.specs.Cells.{AreNeighbours}
 use Rattle.cave_model.specs.Cave.{Cave}
 use Rattle.light_flood.specs.Spreading.{waiting_at, IsWaiting, IsFlood, IsFloodIn, IsStep, Rises, Spreads, IsPassed}

@@ -2,7 +2,7 @@
 use Rattle.std.proofs.Common.{◌≡◌, ℕ, zero, suc, ◌+◌, ◌<◌, ◌≤◌, List, get_or, Option, Some, None, refl, sym, ap}
 use Rattle.std.proofs.Common.{subst, ◌∙◌, arith, inl, inr}
 use Rattle.std.proofs.lemmas.Bool.{cases_lt}
-use Rattle.scan_core.specs.Box.{Point, cell_count}
+use Rattle.cave_base.specs.Box.{Point, cell_count}
 use Rattle.cave_model.specs.Cells.{Face, west, east, north, south, below, above, beyond, neighbours_of, AreNeighbours}
 use Rattle.cave_model.specs.Cave.{Cave}
 use Rattle.cave_model.proofs.FaceLemmas.{neighbours_mutual}

@@ -3,7 +3,7 @@ use Rattle.std.proofs.Common.{◌≡◌, ℕ, ◌+◌, ◌-◌, ◌<◌, ◌≤�
 use Rattle.std.proofs.Common.{arith, inl, inr}
 use Rattle.std.proofs.lemmas.Bool.{cases_eq, cases_lt}
 use Rattle.std.proofs.lemmas.List.Elements.{Contains-append_left, Contains-push, Contains-push_cases}
-use Rattle.scan_core.specs.Box.{cell_count}
+use Rattle.cave_base.specs.Box.{cell_count}
 use Rattle.cave_model.specs.Cells.{AreNeighbours}
 use Rattle.cave_model.specs.Cave.{Cave}
 use Rattle.cave_model.specs.Light.{Path, BringsFrom, entering_cost}

@@ -1,7 +1,7 @@
 -- Levels of light by the number of the cell.
 -- Source: Minecraft Wiki, "Light".
 use Rattle.std.specs.Prelude.{◌≡◌, ◌≢◌, ◌<◌, ◌↔◌, ℕ, List, length, slice_index, AllPairs, Contains}
-use Rattle.scan_core.specs.Box.{cell_count}
+use Rattle.cave_base.specs.Box.{cell_count}
 use Rattle.cave_model.specs.Cave.{Cave}
 use Rattle.cave_model.specs.Light.{BringsFrom, IsLevelOf, IsReachOf}
 

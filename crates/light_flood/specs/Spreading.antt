@@ -1,7 +1,7 @@
 -- How a flood goes on: levels only rise, each is brought from one that was there, and what can still rise waits.
 -- This is the project's own.
 use Rattle.std.specs.Prelude.{◌≡◌, ◌≢◌, ◌⊎◌, ℕ, ◌+◌, ◌<◌, ◌≤◌, List, [], length, Contains, slice_index, slice_index_or}
-use Rattle.scan_core.specs.Box.{cell_count}
+use Rattle.cave_base.specs.Box.{cell_count}
 use Rattle.cave_model.specs.Cells.{AreNeighbours}
 use Rattle.cave_model.specs.Cave.{Cave, class_at}
 use Rattle.cave_model.specs.Light.{BringsFrom, entering_cost}

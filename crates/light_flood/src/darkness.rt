@@ -1,11 +1,11 @@
 ghost use Rattle.std.specs.Prelude.{◌≡◌, ◌<◌, ◌↔◌, All, IfOk, IsTrue};
-ghost use Rattle.scan_core.specs.Box as grid;
+ghost use Rattle.cave_base.specs.Box as grid;
 ghost use Rattle.cave_model.specs.Spawn.{AreDarkCells, IsDark};
 ghost use Rattle.light_flood.specs.Levels.{AreLevelsOf};
 
 use crate::levels::Levels;
+use cave_base::Cell;
 use cave_model::{OutOfMemory, World};
-use scan_core::Cell;
 use std::alloc::Global;
 
 /// Whether a mob may spawn in the cell, and less light comes than keeps it away.

@@ -3,7 +3,7 @@ ghost use Rattle.light_flood.specs.Dense.{AreAtLeast, HasNoLight, IsKept};
 ghost use Rattle.light_flood.specs.Spreading.{IsRaised};
 
 use crate::store::Store;
-use scan_core::Cell;
+use cave_base::Cell;
 use std::alloc::{AllocError, Global};
 use std::marker::Model;
 

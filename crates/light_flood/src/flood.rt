@@ -1,5 +1,5 @@
 ghost use Rattle.std.specs.Prelude.{◌≡◌, ◌<◌, ℕ, [], length, IfOk, OnOk, slice_index};
-ghost use Rattle.scan_core.specs.Box.{cell_count};
+ghost use Rattle.cave_base.specs.Box.{cell_count};
 ghost use Rattle.cave_model.specs.Cave.{class_at};
 ghost use Rattle.light_flood.specs.Dense.{HasNoLight};
 ghost use Rattle.light_flood.specs.Levels.{AreLevelsOf};

@@ -1,6 +1,6 @@
 ghost use Rattle.std.specs.Prelude.{◌≡◌, slice_index};
 
-use scan_core::Cell;
+use cave_base::Cell;
 use std::marker::Model;
 
 /// The level of block light of each cell of a box: 0 to 15 (Minecraft Wiki, "Light").

@@ -3,7 +3,7 @@ ghost use Rattle.std.specs.BTreeMap.{get};
 ghost use Rattle.std.specs.Ordering.{nat_cmp};
 ghost use Rattle.light_flood.specs.Reached.{reached};
 
-use scan_core::Cell;
+use cave_base::Cell;
 use std::collections::BTreeMap;
 use std::marker::Model;
 

@@ -1,5 +1,5 @@
 ghost use Rattle.std.specs.Prelude.{◌≡◌, ◌<◌, ◌≤◌, IfOk};
-ghost use Rattle.scan_core.specs.Box.{cell_count};
+ghost use Rattle.cave_base.specs.Box.{cell_count};
 ghost use Rattle.light_flood.specs.Levels.{AreReachOf};
 ghost use Rattle.light_flood.specs.Reached.{reached};
 
@@ -7,8 +7,8 @@ use crate::reached::Reach;
 use crate::sparse::Sparse;
 use crate::spreading::Flood;
 use crate::waiting::Waiting;
+use cave_base::Cell;
 use cave_model::{OutOfMemory, World};
-use scan_core::Cell;
 use std::alloc::Global;
 
 /// The levels that an emission at this cell alone gives, whatever the cell's own. Time and memory go by the cells that

@@ -1,12 +1,12 @@
 ghost use Rattle.std.specs.Prelude.{◌≡◌, ◌≢◌, ◌<◌, ◌≤◌, ◌↔◌, ℕ, AllPairs, IfOk, OnOk};
-ghost use Rattle.scan_core.specs.Box.{cell_count};
+ghost use Rattle.cave_base.specs.Box.{cell_count};
 ghost use Rattle.light_flood.specs.Levels.{ListsLit};
 
 use crate::dense::Dense;
 use crate::spreading::Flood;
 use crate::waiting::Waiting;
+use cave_base::Cell;
 use cave_model::{OutOfMemory, World};
-use scan_core::Cell;
 use std::alloc::Global;
 use std::marker::Model;
 

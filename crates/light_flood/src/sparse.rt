@@ -3,7 +3,7 @@ ghost use Rattle.std.specs.Ordering.{nat_cmp};
 ghost use Rattle.std.specs.BTreeMap.{get};
 
 use crate::store::Store;
-use scan_core::Cell;
+use cave_base::Cell;
 use std::alloc::{AllocError, Global};
 use std::collections::BTreeMap;
 

@@ -1,14 +1,14 @@
 //! Passing light on. The cells that wait are a bucket queue (Dial's algorithm: E. Dial, "Algorithm 360: shortest-path
 //! forest with topological ordering", 1969): levels from 15 down, each with the cells that got it.
 ghost use Rattle.std.specs.Prelude.{◌≡◌, ◌<◌, ◌≤◌, ◌+◌, OnOk};
-ghost use Rattle.scan_core.specs.Box.{cell_count};
+ghost use Rattle.cave_base.specs.Box.{cell_count};
 ghost use Rattle.cave_model.specs.Cells.{AreNeighbours};
 ghost use Rattle.light_flood.specs.Spreading.{HasPassed, IsFloodIn, IsPassed, IsRaised, IsSettled, IsStep, IsSource};
 
 use crate::store::Store;
 use crate::waiting::Waiting;
+use cave_base::Cell;
 use cave_model::World;
-use scan_core::Cell;
 use std::alloc::AllocError;
 
 /// A flood of light: the levels so far, and the cells that have yet to pass theirs on.

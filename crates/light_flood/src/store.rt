@@ -1,7 +1,7 @@
 ghost use Rattle.std.specs.Prelude.{◌≡◌, ◌<◌, ℕ, OnOk, OnErr};
 ghost use Rattle.light_flood.specs.Spreading.{IsRaised};
 
-use scan_core::Cell;
+use cave_base::Cell;
 use std::alloc::AllocError;
 
 /// Where a flood keeps its levels: 0 for a cell that no light has reached.

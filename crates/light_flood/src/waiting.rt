@@ -1,7 +1,7 @@
 ghost use Rattle.std.specs.Prelude.{◌≡◌, ◌<◌, [], ◌∷◌, ◌++◌, IfOk, OnOk};
 ghost use Rattle.light_flood.specs.Spreading.{IsWaiting, NoneWaits, waiting_at};
 
-use scan_core::Cell;
+use cave_base::Cell;
 use std::alloc::{AllocError, Global};
 use std::marker::Model;
 use std::mem;

@@ -8,7 +8,7 @@ use Rattle.std.proofs.lemmas.Bool.{cases_eq, cases_lt, cases_Bool, true≢false}
 use Rattle.std.proofs.lemmas.Grind.{get_or_default_zero}
 use Rattle.std.proofs.lemmas.List.{get_or-take, length-take-le, get_or_past, get_or_push, get_or_append_left}
 use Rattle.std.proofs.lemmas.List.Elements.{Contains-append_left, Contains-push, Contains-push_cases}
-use Rattle.scan_core.specs.Box.{cell_count}
+use Rattle.cave_base.specs.Box.{cell_count}
 use Rattle.cave_model.specs.Cave.{Cave}
 use Rattle.cave_model.specs.Spawn.{IsDark}
 use Rattle.cave_model.specs.Torches.{IsPlace}

@@ -7,7 +7,7 @@ use Rattle.std.proofs.lemmas.Grind.{get_or_default_zero}
 use Rattle.std.proofs.lemmas.List.{append-nil, get_or_append_left, get_or-append-add, get_or-append_right}
 use Rattle.std.proofs.lemmas.List.Elements.{Contains-append_left, Contains-append_right, Contains-append_cases}
 use Rattle.std.proofs.lemmas.List.Elements.{Contains-push, Contains-push_cases}
-use Rattle.scan_core.specs.Box.{Point, cell_count}
+use Rattle.cave_base.specs.Box.{Point, cell_count}
 use Rattle.cave_model.specs.Cells.{Face, west, east, north, south, below, above, beyond, neighbours_of, AreNeighbours}
 use Rattle.cave_model.specs.Cave.{Cave}
 use Rattle.cave_model.specs.Light.{Path, entering_cost}

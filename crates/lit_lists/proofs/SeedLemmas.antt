@@ -5,7 +5,7 @@ use Rattle.std.proofs.Common.{get_or-set_other, eq-zero-or-pos}
 use Rattle.std.proofs.lemmas.Bool.{cases_eq, cases_lt}
 use Rattle.std.proofs.lemmas.List.{get_or_past}
 use Rattle.std.proofs.lemmas.List.Elements.{Contains-append_left, Contains-push, Contains-push_cases}
-use Rattle.scan_core.specs.Box.{cell_count}
+use Rattle.cave_base.specs.Box.{cell_count}
 use Rattle.cave_model.specs.Cave.{Cave, class_at, IsSound}
 use Rattle.cave_model.specs.Light.{Path, BringsFrom}
 use Rattle.cave_model.proofs.LightLemmas.{AreSettled, settled_level, path_settled, path_end_inside}

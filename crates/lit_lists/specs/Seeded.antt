@@ -1,6 +1,6 @@
 -- Levels before light spreads. This is this project's own.
 use Rattle.std.specs.Prelude.{◌≡◌, ℕ, ◌<◌, ◌≤◌, ◌↔◌, List, Contains, slice_index}
-use Rattle.scan_core.specs.Box.{cell_count}
+use Rattle.cave_base.specs.Box.{cell_count}
 use Rattle.cave_model.specs.Cave.{Cave, class_at}
 use Rattle.cave_model.specs.Plan.{AreDistinct}
 use Rattle.lit_lists.specs.Relaxing.{Queues}

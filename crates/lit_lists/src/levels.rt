@@ -1,11 +1,11 @@
 ghost use Rattle.std.specs.Prelude.{◌≡◌, [], length, slice_index, IfOk, OnOk};
-ghost use Rattle.scan_core.specs.Box.{cell_count};
+ghost use Rattle.cave_base.specs.Box.{cell_count};
 ghost use Rattle.lit_lists.specs.Relaxing.{AreLevelsOf};
 ghost use Rattle.lit_lists.specs.Seeded.{AreSeeded};
 
 use crate::relaxing::relax;
+use cave_base::Cell;
 use cave_model::World;
-use scan_core::Cell;
 use std::alloc::{AllocError, Global};
 
 /// Gives each cell its emission; those that have some join the queue.

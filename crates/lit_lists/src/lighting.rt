@@ -1,11 +1,11 @@
 ghost use Rattle.std.specs.Prelude.{◌≡◌, ◌<◌, ◌≤◌, length, All, IfOk};
-ghost use Rattle.scan_core.specs.Box.{cell_count};
+ghost use Rattle.cave_base.specs.Box.{cell_count};
 ghost use Rattle.lit_lists.specs.Seeded.{AreTaken, AreUnlit, ArePutOut};
 ghost use Rattle.lit_lists.specs.Lists.{AreLitCells};
 
 use crate::relaxing::relax;
+use cave_base::Cell;
 use cave_model::World;
-use scan_core::Cell;
 use std::alloc::{AllocError, Global};
 
 /// The level of light of a torch (Minecraft Wiki, "Torch").

@@ -4,8 +4,8 @@ ghost use Rattle.lit_lists.specs.Lists.{AreListsOf, is_marked, row_at};
 use crate::levels::light;
 use crate::marking::{dark_marks, place_marks};
 use crate::pairs::{Pairs, pairs_of};
+use cave_base::Cell;
 use cave_model::World;
-use scan_core::Cell;
 use std::alloc::{AllocError, Global};
 use std::marker::Model;
 

@@ -1,12 +1,12 @@
 ghost use Rattle.std.specs.Prelude.{◌≡◌, ◌<◌, ◌↔◌, IsTrue, IfOk};
-ghost use Rattle.scan_core.specs.Box as grid;
+ghost use Rattle.cave_base.specs.Box as grid;
 ghost use Rattle.cave_model.specs.Spawn.{IsDark};
 ghost use Rattle.cave_model.specs.Torches.{IsPlace};
 ghost use Rattle.lit_lists.specs.Lists.{AreMarksOf};
 ghost use Rattle.lit_lists.specs.Relaxing.{AreLevelsOf};
 
+use cave_base::Cell;
 use cave_model::World;
-use scan_core::Cell;
 use std::alloc::{AllocError, Global};
 
 /// Whether a mob may spawn in the cell, and less light comes than keeps it away.

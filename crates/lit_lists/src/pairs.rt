@@ -1,5 +1,5 @@
 ghost use Rattle.std.specs.Prelude.{◌≡◌, ◌<◌, length, All, IfOk, OnOk};
-ghost use Rattle.scan_core.specs.Box.{cell_count};
+ghost use Rattle.cave_base.specs.Box.{cell_count};
 ghost use Rattle.cave_model.specs.Plan.{AreDistinct};
 ghost use Rattle.cave_model.specs.Spawn.{IsDark};
 ghost use Rattle.cave_model.specs.Torches.{IsPlace};
@@ -8,8 +8,8 @@ ghost use Rattle.lit_lists.specs.Lists.{AreAdded, AreMarksOf, AreNoPairs, ArePai
 
 use crate::lighting::lit_cells;
 use crate::rows::Rows;
+use cave_base::Cell;
 use cave_model::World;
-use scan_core::Cell;
 use std::alloc::{AllocError, Global};
 use std::marker::Model;
 

@@ -1,10 +1,10 @@
 ghost use Rattle.std.specs.Prelude.{◌≡◌, ◌<◌, ◌≤◌, ◌-◌, length, slice_index, IfOk, OnOk};
-ghost use Rattle.scan_core.specs.Box.{cell_count};
+ghost use Rattle.cave_base.specs.Box.{cell_count};
 ghost use Rattle.cave_model.specs.Cells.{AreNeighbours};
 ghost use Rattle.lit_lists.specs.Relaxing.{Grows, HasPassed, IsSeeded, IsPassed, IsSettled, Queued, Relaxes};
 
+use cave_base::Cell;
 use cave_model::World;
-use scan_core::Cell;
 use std::alloc::AllocError;
 
 /// Levels are at most 15 and fall by one a step at least, so that after so many rounds no cell is left that can raise

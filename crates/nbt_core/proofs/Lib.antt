@@ -1,6 +1,6 @@
 pub mod Numbers
 pub mod Steps
-pub mod Lists
+pub mod ListLemmas
 pub mod ItemsLoop
 pub mod MembersLoop
 pub mod Results

@@ -8,7 +8,7 @@ use Rattle.nbt_core.specs.Reading.{Fails, GivesWhole}
 use Rattle.nbt_core.specs.TreeReading.{root_at}
 use Rattle.nbt_core.specs.Spelling.{Root}
 use Rattle.nbt_core.specs.Breaking.{FaultOf}
-use Rattle.nbt_core.specs.Answer.{IsAnswer, IsRefusal}
+use Rattle.cave_base.specs.Answer.{IsAnswer, IsRefusal}
 use Rattle.nbt_core.proofs.Results.{ok_is, err_is, err_never}
 use Rattle.nbt_core.proofs.RootLaws.{root_takes, root_again, root_err, root_breaks}
 

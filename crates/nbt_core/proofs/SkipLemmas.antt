@@ -11,7 +11,7 @@ use Rattle.nbt_core.specs.Skipping.{IsRead, Skips}
 use Rattle.nbt_core.proofs.Steps.{mapped_fails}
 use Rattle.nbt_core.proofs.ItemsLoop.{with_items, join_items, items_go_on, items_done, items_start}
 use Rattle.nbt_core.proofs.MembersLoop.{MembersSoFar, join_members, members_go_on, members_done, members_start}
-use Rattle.nbt_core.proofs.Lists.{list_full, list_empty, list_no_items}
+use Rattle.nbt_core.proofs.ListLemmas.{list_full, list_empty, list_no_items}
 
 -- what passes over a reading passes over it with its value changed
 pub skips_mapped : {X A B : Type 0} (f : A → B) (r : Result X NbtFault) (left : List ℕ) (read : Reads A)

@@ -20,7 +20,7 @@ use Rattle.nbt_core.specs.Borrowed.{payload_value, item_values, entry_values, Is
 use Rattle.nbt_core.proofs.Results.{gave, failed, mapped_ok, ok_is, err_never}
 use Rattle.nbt_core.proofs.Steps.{mapped_fails, value_leaf, value_list, value_compound, value_too_deep_list}
 use Rattle.nbt_core.proofs.Steps.{value_too_deep_compound}
-use Rattle.nbt_core.proofs.Lists.{list_no_kind, list_no_count}
+use Rattle.nbt_core.proofs.ListLemmas.{list_no_kind, list_no_count}
 use Rattle.nbt_core.proofs.KindLemmas.{never, kind_of, kind_read, differ}
 use Rattle.nbt_core.proofs.MemberLemmas.{members_more}
 

@@ -7,7 +7,6 @@ pub mod Falls
 pub mod Ids
 pub mod Spelling
 pub mod Breaking
-pub mod Answer
 pub mod Parts
 pub mod Borrowed
 pub mod Texts

@@ -1,6 +1,6 @@
 ghost use Rattle.std.specs.Prelude.{◌≡◌, ◌≢◌, [], ◌∷◌, take, IfOk, IfErr};
 ghost use Rattle.nbt_core.specs.declared.fault.NbtFault.{NbtFault};
-ghost use Rattle.nbt_core.specs.Answer.{IsAnswer, IsRefusal};
+ghost use Rattle.cave_base.specs.Answer.{IsAnswer, IsRefusal};
 ghost use Rattle.nbt_core.specs.Breaking.{FaultOf};
 ghost use Rattle.nbt_core.specs.Spelling.{Root};
 ghost use Rattle.nbt_core.specs.Value.{Nbt};

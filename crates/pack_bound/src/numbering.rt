@@ -4,8 +4,8 @@ ghost use Rattle.cave_regions.specs.Region.{IsRegion};
 ghost use Rattle.pack_bound.specs.Naming.{AreIndicesOf, cell_numbers};
 
 use crate::node::place_index;
+use cave_base::Cell;
 use cave_regions::Region;
-use scan_core::Cell;
 use set_cover::find;
 use std::alloc::{AllocError, Global};
 

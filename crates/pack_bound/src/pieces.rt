@@ -5,10 +5,10 @@ ghost use Rattle.pack_bound.specs.Pieces.{IsNodeOf, IsScattered, SomeWhereUnlit}
 use crate::node::Node;
 use crate::numbering::{indices_of, numbers_of_cells};
 use crate::packing::packed;
+use cave_base::Cell;
 use cave_model::OutOfMemory;
 use cave_regions::Region;
 use proof_tree::Piece;
-use scan_core::Cell;
 use std::alloc::Global;
 
 /// What a piece leaves of its region, by indices.

@@ -1,8 +1,9 @@
 //! Makes each call that takes memory on the pillar, and looks whether it answers what it has to, or that memory was
 //! refused.
-use crate::taking::Taking;
 use block_rows::{Rows, RowsFault};
-use cave_model::{BuildFault, Rule, World, build, read_cave};
+use cave_files::streams::ShortWriter;
+use cave_model::{Rule, World};
+use cave_reading::{BuildFault, build, read_cave};
 use cover_rows::{CoverFault, Problem};
 use light_flood::{dark_cells, light, reach};
 use nbt_core::{NbtFault, read_root};
@@ -117,7 +118,7 @@ fn read_table_is_wrong(alloc: Global) -> bool {
 /// The text is that of one dark cell; where memory is refused nothing is written.
 fn run_dark_is_wrong(alloc: Global, pillar: &[u8]) -> bool {
     let mut reader = pillar;
-    let mut writer = Taking::new();
+    let mut writer = ShortWriter::new();
     let ended = run_dark(
         alloc,
         &mut reader,
@@ -125,7 +126,7 @@ fn run_dark_is_wrong(alloc: Global, pillar: &[u8]) -> bool {
         Rule::new(2, 1),
         &mut writer,
     );
-    let Taking { taken, count } = writer;
+    let ShortWriter { taken, count } = writer;
     match ended {
         Ok(()) => count != 13 || &taken != b"dark 1\n0 1 0\n\0\0\0",
         Err(RunFault::OutOfMemory) => count != 0,
@@ -134,7 +135,7 @@ fn run_dark_is_wrong(alloc: Global, pillar: &[u8]) -> bool {
 }
 
 /// Prints which calls are wrong, and how many there are: the same line whichever request for memory is
-/// refused, as tools/refuse-memory refuses each in turn.
+/// refused, as tools/dev/refuse-memory refuses each in turn.
 pub fn run(rt: &HostRuntime) -> Result<(), Fail> {
     let alloc = rt.alloc();
     let mut pillar = [0u8; 213];

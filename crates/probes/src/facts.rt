@@ -1,6 +1,7 @@
 //! The table of examples/tables/vanilla-1.18.toml: twenty of its blocks, by the game's facts.
 
-use block_rows::{Class, Rows};
+use block_rows::Rows;
+use cave_base::Class;
 use nbt_core::Sequence;
 use scan_core::BlockState;
 use std::alloc::{AllocError, Global};

@@ -1,40 +1,11 @@
 //! Takes the largest box, a floor of stone and air above it, through each step from its bytes to its coverage: with
 //! ample memory each step answers.
 use crate::parts::{counted, world_of};
-use cave_files::{Block, Fill, Structure};
+use cave_files::caves::LARGEST_FLOOR;
 use cave_model::Rule;
 use std::alloc::Global;
 use std::test::Fail;
 use torch_plan::run_dark;
-
-const STONE: Block<'static> = Block {
-    name: "minecraft:stone",
-    props: &[],
-};
-
-const AIR: Block<'static> = Block {
-    name: "minecraft:air",
-    props: &[],
-};
-
-const FLOOR: Fill = Fill {
-    from: [0, 0, 0],
-    to: [127, 0, 127],
-    state: Some(0),
-};
-
-const ROOM: Fill = Fill {
-    from: [0, 1, 0],
-    to: [127, 15, 127],
-    state: Some(1),
-};
-
-const FULL: Structure<'static> = Structure {
-    size: [128, 16, 128],
-    palette: &[STONE, AIR],
-    fills: &[FLOOR, ROOM],
-    more: &[],
-};
 
 /// How many bytes the dark text of the structure has.
 fn text_length(alloc: Global, bytes: &[u8]) -> Result<usize, Fail> {
@@ -47,7 +18,7 @@ fn text_length(alloc: Global, bytes: &[u8]) -> Result<usize, Fail> {
 /// Prints how many cells the box has, how many of them are dark and how many places, and how long the dark text is.
 pub fn run(rt: &HostRuntime) -> Result<(), Fail> {
     let alloc = rt.alloc();
-    let bytes = FULL.bytes(alloc)?;
+    let bytes = LARGEST_FLOOR.bytes(alloc)?;
     let world = world_of(alloc, &bytes, Rule::new(2, 1))?;
     let dark = counted(alloc, &world, "light")?;
     let places = counted(alloc, &world, "coverage")?;

@@ -13,7 +13,6 @@ mod full;
 mod parts;
 mod regions;
 mod table;
-mod taking;
 
 use cave_model::{Rule, World};
 use std::env;
@@ -37,9 +36,9 @@ fn cave(rt: &HostRuntime, path: &str, rule: Rule) -> Result<World, Fail> {
 }
 
 /// Plans each region, and prints a line for each.
-fn plan(rt: &HostRuntime, world: &World, turns: u64) -> Result<(), Fail> {
+fn plan_each(rt: &HostRuntime, world: &World, turns: u64) -> Result<(), Fail> {
     for region in regions::shared(rt.alloc(), world)? {
-        let told = regions::planned(rt.alloc(), &region, turns)?;
+        let told = regions::found_line(rt.alloc(), &region, turns)?;
         println!(rt; "{told}")?;
     }
     Ok(())
@@ -48,7 +47,7 @@ fn plan(rt: &HostRuntime, world: &World, turns: u64) -> Result<(), Fail> {
 fn run(rt: &HostRuntime, part: &str, path: &str, number: u64, rule: &str) -> Result<(), Fail> {
     if part == "plan" {
         let world = cave(rt, path, rule_of(rule))?;
-        return plan(rt, &world, number);
+        return plan_each(rt, &world, number);
     }
     let world = cave(rt, path, rule_of(rule))?;
     let mut found = 0;

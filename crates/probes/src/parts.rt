@@ -1,9 +1,10 @@
 //! Parts of the path, each with what it counts.
 use crate::regions;
-use cave_model::{OutOfMemory, Rule, World, read_cave};
+use cave_base::Cell;
+use cave_model::{OutOfMemory, Rule, World};
+use cave_reading::read_cave;
 use cover_rows::{CoverFault, Problem};
 use light_flood::{Scratch, dark_cells, light, reach};
-use scan_core::Cell;
 use std::alloc::Global;
 use std::test::Fail;
 

@@ -5,6 +5,7 @@ use cave_regions::{Region, split};
 use cover_rows::{CoverFault, Problem};
 use proof_tree::Proof;
 use search_core::{AloneFault, plan_alone};
+use search_moves::Moves;
 use std::alloc::Global;
 use std::sync::Arc;
 
@@ -26,10 +27,10 @@ pub fn shared(alloc: Global, world: &World) -> Result<Vec<Arc<Region>>, CoverFau
 }
 
 /// What planning a region alone finds, as a line of text.
-pub fn planned(alloc: Global, region: &Arc<Region>, turns: u64) -> Result<String, OutOfMemory> {
+pub fn found_line(alloc: Global, region: &Arc<Region>, turns: u64) -> Result<String, OutOfMemory> {
     let cells = region.cells().len();
     let places = region.places().len();
-    match plan_alone(alloc, region, Some(turns)) {
+    match plan_alone::<Moves>(alloc, region, Some(turns)) {
         Ok((cover, proof)) => {
             let lines = lines(alloc, &proof)?;
             let size = cover.size();

@@ -7,7 +7,7 @@ use Rattle.std.proofs.lemmas.List.Elements.{All-nil, All-cons, All-head, All-tai
 use Rattle.std.proofs.lemmas.List.Kept.{AllPairs-from_increasing}
 use Rattle.proof_rules.proofs.ListLemmas.{no_member, cons_cases, later, here, all_members, at_member, distinct_nil}
 use Rattle.proof_rules.proofs.ListLemmas.{distinct_append}
-use Rattle.scan_core.specs.Box.{cell_count}
+use Rattle.cave_base.specs.Box.{cell_count}
 use Rattle.cave_model.specs.Cave.{Cave}
 use Rattle.cave_model.specs.Coverage.{of_cave, IsLitBy}
 use Rattle.cave_model.specs.Least.{IsLeast}

@@ -16,7 +16,7 @@ use Rattle.proof_check.specs.Judged.{Frame, JudgeState, at, stuck, enter, goes_t
 use Rattle.proof_check.specs.Tests.{IsFree, AreApartIn, AreLeft, IsDominatedIn, lit_by}
 use Rattle.proof_check.specs.Track.{Fits, IsAt, ClosesFrames, Enters}
 use Rattle.proof_check.specs.Kept.{IsIn, JudgesLeaf, JudgesBranch, JudgesBar}
-use Rattle.proof_check.specs.declared.nodes.Nodes.{Nodes}
+use Rattle.proof_check.specs.declared.nodes.NodeJudge.{NodeJudge}
 use Rattle.proof_check.specs.declared.track.Frame as held
 use Rattle.proof_check.proofs.TestLemmas.{element_of}
 use Rattle.proof_check.proofs.TrackLemmas.{fits_wider}
@@ -127,7 +127,7 @@ module _ (cave : Cave) (lists : LitLists) (known : AreListsOf cave lists) (cells
 -- ---- what the judge makes of a node
 
 -- of a judge in a state: its tests are those of the state
-chosen_legal : (cave : Cave) (lists : LitLists) (nodes : Nodes) (s : JudgeState) → AreListsOf cave lists
+chosen_legal : (cave : Cave) (lists : LitLists) (nodes : NodeJudge) (s : JudgeState) → AreListsOf cave lists
     → IsIn cave lists nodes s → (p : ℕ) → Contains s.spot.chosen p → IsPlace cave p
 chosen_legal cave lists nodes s known k p h =
     (known.places.exact p).0
@@ -135,7 +135,7 @@ chosen_legal cave lists nodes s known k p h =
     k.spot.fits p (subst (λ (l : List ℕ). Contains l p) (sym k.spot.chosen_is) h))
 
 -- the judge's lists are those of the state
-in_state : (lists : LitLists) (cave : Cave) (nodes : Nodes) (s : JudgeState) (P : List ℕ → List ℕ → List ℕ → Type 0)
+in_state : (lists : LitLists) (cave : Cave) (nodes : NodeJudge) (s : JudgeState) (P : List ℕ → List ℕ → List ℕ → Type 0)
     → IsIn cave lists nodes s → P nodes.region.items nodes.track.chosen.items nodes.track.barred.items
     → P s.cells s.spot.chosen s.spot.barred
 in_state lists cave nodes s P k p =
@@ -143,7 +143,7 @@ in_state lists cave nodes s P k p =
     (subst (λ (l : List ℕ). P s.cells l nodes.track.barred.items) k.spot.chosen_is
     (subst (λ (l : List ℕ). P l nodes.track.chosen.items nodes.track.barred.items) k.cells p))
 
-module _ (lists : LitLists) (old new : Nodes) (line : ℕ) where
+module _ (lists : LitLists) (old new : NodeJudge) (line : ℕ) where
   -- a leaf whose cells aren't apart is bad
   pub leaf_bad : (these : List ℕ)
       → (AreDistinct these → ¬ AreApartIn lists old.region.items old.track.chosen.items old.track.barred.items these)

@@ -1,7 +1,7 @@
 -- The reason against a certificate, from what the judge has kept of it.
 use Rattle.std.proofs.Common.{◌≡◌, ℕ, ◌⊎◌, inl, inr, List, All, refl, sym, subst, ◌∙◌}
 use Rattle.std.specs.Prelude.{Option, Some, None, MatchOption}
-use Rattle.scan_core.specs.Box.{Point, cell_count}
+use Rattle.cave_base.specs.Box.{Point, cell_count}
 use Rattle.cave_model.specs.Cave.{Cave}
 use Rattle.lit_lists.specs.Lists.{LitLists}
 use Rattle.proof_rules.specs.Certificate.{Certificate, AreListed, IsSectionIn, IsInRange, regions_of, torch_lists}
@@ -16,7 +16,7 @@ use Rattle.proof_check.specs.Kept.{Keeps}
 use Rattle.proof_check.specs.Refused.{IsListed, IsBadCell, IsFirstBad, first_weak, start_line, IsReasonOf}
 use Rattle.proof_check.specs.Refused.{PassesPlaces, PassesLight, PassesRegions}
 use Rattle.proof_check.specs.declared.judge.Judge.{Judge}
-use Rattle.proof_check.specs.declared.nodes.Nodes.{Nodes}
+use Rattle.proof_check.specs.declared.nodes.NodeJudge.{NodeJudge}
 use Rattle.proof_check.specs.declared.reason.Reason.{Reason}
 use Rattle.proof_check.specs.declared.reason.Reason.TheVariants.{IllegalPlace, LeftDark, BadRegions}
 use Rattle.proof_check.proofs.EndLemmas.{least_of, least_bad, places_of, least_left, none_left, regions_of_none}
@@ -25,13 +25,14 @@ use Rattle.proof_check.proofs.RefusalLemmas.{listed, all_strong}
 use Rattle.proof_check.proofs.SayLemmas.{torches_said, regions_said, torches_in, regions_in, regions_filled}
 
 -- the judge of nodes at the end: the first bad line; or that there is none, and the first weak one
-abbrev NodesSay : Cave → Certificate → Nodes → Type 0
+abbrev NodesSay : Cave → Certificate → NodeJudge → Type 0
 NodesSay cave c nodes = ((bad : ℕ) × IsFirstBad cave c.sections (start_line c.version) bad × (nodes.bad ≡ Some bad))
     ⊎ (AreProved cave (λ section. 0) c.sections × (nodes.bad ≡ None)
     × (nodes.weak ≡ first_weak c.sections (start_line c.version)))
 
 -- what was found over all lines is what the judge of nodes says at the end
-nodes_say : (cave : Cave) (c : Certificate) (lists : LitLists) (nodes : Nodes) (j : Judged) → Keeps cave lists nodes j
+nodes_say : (cave : Cave) (c : Certificate) (lists : LitLists) (nodes : NodeJudge) (j : Judged)
+    → Keeps cave lists nodes j
     → Found cave c.sections (start_line c.version) None j → NodesSay cave c nodes
 nodes_say cave c lists nodes j kept (inl (bad, b, e)) = inl (bad, b, subst (Keeps cave lists nodes) e kept)
 nodes_say cave c lists nodes j kept (inr (good, last, e, w)) =

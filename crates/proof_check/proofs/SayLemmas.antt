@@ -4,7 +4,7 @@ use Rattle.std.proofs.Common.{append_assoc}
 use Rattle.std.specs.Prelude.{flat_map}
 use Rattle.std.proofs.lemmas.Grind.{flat_map-append}
 use Rattle.std.proofs.lemmas.List.Elements.{All-nil, All-cons, All-head, All-tail, All-append}
-use Rattle.scan_core.specs.Box.{Point}
+use Rattle.cave_base.specs.Box.{Point}
 use Rattle.cave_model.specs.Cave.{Cave}
 use Rattle.proof_rules.specs.Tree.{Tree, Forest, leaf, branch, bar, none, more, tree_count}
 use Rattle.proof_rules.specs.Certificate.{Section, Version, first, second, Certificate, AreListed, IsSectionIn}

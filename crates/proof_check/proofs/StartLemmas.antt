@@ -1,6 +1,6 @@
 -- The judge before the first line.
 use Rattle.std.proofs.Common.{◌≡◌, [], length, refl, sym, ◌∙◌, arith}
-use Rattle.scan_core.specs.Box.{cell_count}
+use Rattle.cave_base.specs.Box.{cell_count}
 use Rattle.cave_model.specs.Cave.{Cave}
 use Rattle.cave_model.specs.Torches.{IsPlace}
 use Rattle.lit_lists.specs.Lists.{LitLists, AreListsOf}
@@ -11,10 +11,10 @@ use Rattle.proof_check.specs.Homes.{AreHomesOf}
 use Rattle.proof_check.specs.Judged.{start}
 use Rattle.proof_check.specs.Kept.{IsNew, IsWide}
 use Rattle.proof_check.specs.declared.judge.Judge.{Judge}
-use Rattle.proof_check.specs.declared.nodes.Nodes.{Nodes}
+use Rattle.proof_check.specs.declared.nodes.NodeJudge.{NodeJudge}
 
 -- new nodes are as wide as the box
-wide_start : (cave : Cave) (lists : LitLists) (nodes : Nodes) → AreListsOf cave lists
+wide_start : (cave : Cave) (lists : LitLists) (nodes : NodeJudge) → AreListsOf cave lists
     → IsNew (cell_count cave.size) nodes
     → IsWide lists nodes
 wide_start cave lists nodes known n = record {

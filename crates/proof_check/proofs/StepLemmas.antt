@@ -11,7 +11,7 @@ use Rattle.certificate_lines.specs.declared.kind.Kind.TheVariants as kind
 use Rattle.proof_check.specs.Judged.{JudgeState, at, next_line, NodeSteps}
 use Rattle.proof_check.specs.Track.{IsAt}
 use Rattle.proof_check.specs.Kept.{IsWide, JudgesLeaf, StepsOn, BeginsRegion, Expects}
-use Rattle.proof_check.specs.declared.nodes.Nodes.{Nodes}
+use Rattle.proof_check.specs.declared.nodes.NodeJudge.{NodeJudge}
 use Rattle.proof_check.specs.declared.track.Track.{Track}
 use Rattle.proof_check.specs.Tally.{Tally}
 
@@ -20,7 +20,7 @@ abbrev SaysNothing : Kind → List ℕ → Type 0
 SaysNothing k numbers = (cave : Cave) (s : JudgeState) → NodeSteps cave k numbers s (at (next_line s))
 
 -- a line by which no state changes but its number leaves the nodes as they are
-pub nothing_said : (lists : LitLists) (k : Kind) (numbers : List ℕ) (line : ℕ) (nodes : Nodes)
+pub nothing_said : (lists : LitLists) (k : Kind) (numbers : List ℕ) (line : ℕ) (nodes : NodeJudge)
     → ((cave : Cave) (s : JudgeState) → NodeSteps cave k numbers s (at (next_line s)))
     → StepsOn lists k numbers line nodes nodes
 nothing_said lists k numbers line nodes f = record {
@@ -32,13 +32,13 @@ nothing_said lists k numbers line nodes f = record {
 }
 
 -- a leaf with no numbers says nothing
-pub leaf_nothing : (lists : LitLists) (numbers : List ℕ) (line : ℕ) (nodes : Nodes) → length numbers < 1
+pub leaf_nothing : (lists : LitLists) (numbers : List ℕ) (line : ℕ) (nodes : NodeJudge) → length numbers < 1
     → StepsOn lists kind.Leaf numbers line nodes nodes
 leaf_nothing lists [] line nodes h = nothing_said lists kind.Leaf [] line nodes (λ cave s. refl)
 leaf_nothing lists (n ∷ ns) line nodes h = absurd (omega arith)
 
 -- nor does a branch with other than two
-pub branch_nothing : (lists : LitLists) (numbers : List ℕ) (line : ℕ) (nodes : Nodes) → (length numbers ≢ 2)
+pub branch_nothing : (lists : LitLists) (numbers : List ℕ) (line : ℕ) (nodes : NodeJudge) → (length numbers ≢ 2)
     → StepsOn lists kind.Branch numbers line nodes nodes
 branch_nothing lists [] line nodes h = nothing_said lists kind.Branch [] line nodes (λ cave s. refl)
 branch_nothing lists (a ∷ []) line nodes h = nothing_said lists kind.Branch (a ∷ []) line nodes (λ cave s. refl)
@@ -47,7 +47,7 @@ branch_nothing lists (a ∷ b ∷ c ∷ ns) line nodes h = nothing_said lists ki
     (λ cave s. refl)
 
 -- nor a bar with other than two
-pub bar_nothing : (lists : LitLists) (numbers : List ℕ) (line : ℕ) (nodes : Nodes) → (length numbers ≢ 2)
+pub bar_nothing : (lists : LitLists) (numbers : List ℕ) (line : ℕ) (nodes : NodeJudge) → (length numbers ≢ 2)
     → StepsOn lists kind.Bar numbers line nodes nodes
 bar_nothing lists [] line nodes h = nothing_said lists kind.Bar [] line nodes (λ cave s. refl)
 bar_nothing lists (a ∷ []) line nodes h = nothing_said lists kind.Bar (a ∷ []) line nodes (λ cave s. refl)
@@ -56,7 +56,7 @@ bar_nothing lists (a ∷ b ∷ c ∷ ns) line nodes h = nothing_said lists kind.
     (λ cave s. refl)
 
 -- a leaf that is judged by the cells after its count is a step
-pub leaf_steps : (lists : LitLists) (numbers : List ℕ) (line : ℕ) (old new : Nodes) → 0 < length numbers
+pub leaf_steps : (lists : LitLists) (numbers : List ℕ) (line : ℕ) (old new : NodeJudge) → 0 < length numbers
     → JudgesLeaf lists (take (length numbers - 1) (drop 1 numbers)) line old new
     → StepsOn lists kind.Leaf numbers line old new
 leaf_steps lists [] line old new h j = absurd (omega arith)
@@ -66,7 +66,7 @@ leaf_steps lists (n ∷ ns) line old new h j =
     record { each = λ cave s known i e d. here.each cave s known i e }
 
 -- a line of no kind of node says nothing of nodes
-pub other_nothing : (lists : LitLists) (k : Kind) (numbers : List ℕ) (line : ℕ) (nodes : Nodes) → (k ≢ kind.Dark)
+pub other_nothing : (lists : LitLists) (k : Kind) (numbers : List ℕ) (line : ℕ) (nodes : NodeJudge) → (k ≢ kind.Dark)
     → (k ≢ kind.Torches) → (k ≢ kind.Leaf) → (k ≢ kind.Branch) → (k ≢ kind.Bar)
     → StepsOn lists k numbers line nodes nodes
 other_nothing lists kind.Version numbers line nodes a b c d e = nothing_said lists kind.Version numbers line nodes
@@ -97,7 +97,7 @@ spot_kept lists s old new e i = subst (λ (t : Track). IsAt lists s.spot t.chose
     (sym e) i
 
 -- a line of dark cells begins a region
-pub dark_steps : (lists : LitLists) (cells : List ℕ) (line : ℕ) (old new : Nodes) → IsWide lists old
+pub dark_steps : (lists : LitLists) (cells : List ℕ) (line : ℕ) (old new : NodeJudge) → IsWide lists old
     → BeginsRegion cells old new
     → StepsOn lists kind.Dark cells line old new
 dark_steps lists cells line old new w b = record {
@@ -117,7 +117,8 @@ dark_steps lists cells line old new w b = record {
 }
 
 -- a line of torches says how many are to be proved
-pub torch_steps : (lists : LitLists) (torches : List ℕ) (line : ℕ) (old new : Nodes) → Expects (length torches) old new
+pub torch_steps : (lists : LitLists) (torches : List ℕ) (line : ℕ) (old new : NodeJudge)
+    → Expects (length torches) old new
     → StepsOn lists kind.Torches torches line old new
 torch_steps lists torches line old new x = record {
   each = λ cave s known i e d. (

@@ -1,12 +1,12 @@
 -- Verdicts and faults, from those of the cave.
 use Rattle.std.proofs.Common.{◌≡◌, ◌≢◌, ℕ, List, Option, Some, None, refl, sym, ap, subst, ◌∙◌, ◌⊎◌, inl, inr}
 use Rattle.std.specs.Prelude.{IfSome}
-use Rattle.cave_model.specs.Bytes.{IsCaveOfBytes}
-use Rattle.cave_model.specs.Bytes as caves
+use Rattle.cave_reading.specs.Bytes.{IsCaveOfBytes}
+use Rattle.cave_reading.specs.Bytes as caves
 use Rattle.cave_model.specs.Cave.{Cave}
 use Rattle.cave_model.specs.Rule.{Rule}
-use Rattle.cave_model.specs.declared.cave_fault.CaveFault.{CaveFault}
-use Rattle.cave_model.specs.declared.cave_fault.CaveFault.TheVariants as cave
+use Rattle.cave_reading.specs.declared.cave_fault.CaveFault.{CaveFault}
+use Rattle.cave_reading.specs.declared.cave_fault.CaveFault.TheVariants as cave
 use Rattle.proof_check.specs.Faults.{check_fault_of}
 use Rattle.proof_check.specs.Tried.{IsTheVerdict}
 use Rattle.proof_check.specs.Verdict.{IsJudged, IsFaultOfBytes, IsOfReading}

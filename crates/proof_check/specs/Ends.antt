@@ -1,7 +1,7 @@
 -- What is asked at the end, cell by cell. This is this project's own.
 use Rattle.std.specs.Prelude.{◌≡◌, ◌↔◌, ℕ, ◌<◌, Bool, true, false, not, IsTrue, List, length, Contains, Option}
 use Rattle.std.specs.Prelude.{MatchOption, slice_index_or}
-use Rattle.scan_core.specs.Box.{cell_count}
+use Rattle.cave_base.specs.Box.{cell_count}
 use Rattle.cave_model.specs.Cave.{Cave}
 use Rattle.proof_check.specs.Refused.{LightsTwo, IsBadCell}
 use Rattle.lit_lists.specs.Lists.{LitLists, AreListsOf, is_marked}

@@ -1,6 +1,6 @@
 -- The fault of a check, of that of a cave.
-use Rattle.cave_model.specs.declared.cave_fault.CaveFault.{CaveFault}
-use Rattle.cave_model.specs.declared.cave_fault.CaveFault.TheVariants as cave
+use Rattle.cave_reading.specs.declared.cave_fault.CaveFault.{CaveFault}
+use Rattle.cave_reading.specs.declared.cave_fault.CaveFault.TheVariants as cave
 use Rattle.proof_check.specs.declared.fault.CheckFault.{CheckFault}
 use Rattle.proof_check.specs.declared.fault.CheckFault.TheVariants.{Scan, Table, Build, OutOfMemory}
 

@@ -9,10 +9,10 @@ use Rattle.certificate_lines.specs.declared.kind.Kind.{Kind}
 use Rattle.certificate_lines.specs.declared.kind.Kind.TheVariants as kind
 use Rattle.proof_check.specs.Judged.{JudgeState, Judged, at, stuck, LeafSteps, BranchSteps, BarSteps, NodeSteps}
 use Rattle.proof_check.specs.Track.{IsAt, AreInside}
-use Rattle.proof_check.specs.declared.nodes.Nodes.{Nodes}
+use Rattle.proof_check.specs.declared.nodes.NodeJudge.{NodeJudge}
 
 -- the tallies are as wide as the box, and none is seen
-pub record IsWide (lists : LitLists) (nodes : Nodes) : Type 0 where
+pub record IsWide (lists : LitLists) (nodes : NodeJudge) : Type 0 where
   pub region : length nodes.region.counts ≡ length lists.places
   pub seen : length nodes.seen.counts ≡ length lists.places
   pub chosen : length nodes.track.chosen.counts ≡ length lists.places
@@ -21,7 +21,7 @@ pub record IsWide (lists : LitLists) (nodes : Nodes) : Type 0 where
   pub inside : AreInside lists (length lists.places)
 
 -- nothing is judged, in a box of so many cells
-pub record IsNew (count : ℕ) (nodes : Nodes) : Type 0 where
+pub record IsNew (count : ℕ) (nodes : NodeJudge) : Type 0 where
   pub region : length nodes.region.counts ≡ count
   pub seen : length nodes.seen.counts ≡ count
   pub chosen : length nodes.track.chosen.counts ≡ count
@@ -36,7 +36,7 @@ pub record IsNew (count : ℕ) (nodes : Nodes) : Type 0 where
   pub bad : nodes.bad ≡ None
 
 -- the judge is in this state
-pub record IsIn (cave : Cave) (lists : LitLists) (nodes : Nodes) (state : JudgeState) : Type 0 where
+pub record IsIn (cave : Cave) (lists : LitLists) (nodes : NodeJudge) (state : JudgeState) : Type 0 where
   pub good : nodes.bad ≡ None
   pub cells : nodes.region.items ≡ state.cells
   pub floor : nodes.floor ≡ state.floor
@@ -45,22 +45,22 @@ pub record IsIn (cave : Cave) (lists : LitLists) (nodes : Nodes) (state : JudgeS
   pub dark : (cell : ℕ) → Contains state.cells cell → IsDark cave cell
 
 -- the judge of nodes keeps what judging has come to: its state, or the bad line
-abbrev pub Keeps : Cave → LitLists → Nodes → Judged → Type 0
+abbrev pub Keeps : Cave → LitLists → NodeJudge → Judged → Type 0
 Keeps cave lists nodes (at state) = IsIn cave lists nodes state
 Keeps cave lists nodes (stuck bad) = nodes.bad ≡ Some bad
 
 -- from any state on this line the judge takes the step of a leaf with these cells
-pub record JudgesLeaf (lists : LitLists) (these : List ℕ) (line : ℕ) (old new : Nodes) : Type 0 where
+pub record JudgesLeaf (lists : LitLists) (these : List ℕ) (line : ℕ) (old new : NodeJudge) : Type 0 where
   pub each : (cave : Cave) (state : JudgeState) → AreListsOf cave lists → IsIn cave lists old state → line ≡ state.line
       → (next : Judged) × LeafSteps cave these state next × Keeps cave lists new next
 
 -- from any state on this line the judge takes the step of a branch on this cell with so many kids
-pub record JudgesBranch (lists : LitLists) (cell count line : ℕ) (old new : Nodes) : Type 0 where
+pub record JudgesBranch (lists : LitLists) (cell count line : ℕ) (old new : NodeJudge) : Type 0 where
   pub each : (cave : Cave) (state : JudgeState) → AreListsOf cave lists → IsIn cave lists old state → line ≡ state.line
       → (next : Judged) × BranchSteps cave cell count state next × Keeps cave lists new next
 
 -- from any state on this line the judge takes the step of a bar of this place by the other
-pub record JudgesBar (lists : LitLists) (place by line : ℕ) (old new : Nodes) : Type 0 where
+pub record JudgesBar (lists : LitLists) (place by line : ℕ) (old new : NodeJudge) : Type 0 where
   pub each : (cave : Cave) (state : JudgeState) → AreListsOf cave lists → IsIn cave lists old state → line ≡ state.line
       → (next : Judged) × BarSteps cave place by state next × Keeps cave lists new next
 
@@ -69,13 +69,13 @@ abbrev pub AreDarkAt : Cave → Kind → List ℕ → Type 0
 AreDarkAt cave k numbers = k ≡ kind.Dark → (cell : ℕ) → Contains numbers cell → IsDark cave cell
 
 -- from any state on this line, a step with the numbers of a line of this kind
-pub record StepsOn (lists : LitLists) (k : Kind) (numbers : List ℕ) (line : ℕ) (old new : Nodes) : Type 0 where
+pub record StepsOn (lists : LitLists) (k : Kind) (numbers : List ℕ) (line : ℕ) (old new : NodeJudge) : Type 0 where
   pub each : (cave : Cave) (state : JudgeState) → AreListsOf cave lists → IsIn cave lists old state
       → line ≡ state.line → AreDarkAt cave k numbers
       → (next : Judged) × NodeSteps cave k numbers state next × Keeps cave lists new next
 
 -- a line is judged; after a bad one nothing is
-pub record Judges (lists : LitLists) (k : Kind) (numbers : List ℕ) (line : ℕ) (old new : Nodes) : Type 0 where
+pub record Judges (lists : LitLists) (k : Kind) (numbers : List ℕ) (line : ℕ) (old new : NodeJudge) : Type 0 where
   pub steps : old.bad ≡ None → StepsOn lists k numbers line old new
   pub still : (bad : ℕ) → old.bad ≡ Some bad → new.bad ≡ Some bad
 
@@ -84,7 +84,7 @@ pub record AreAscending (lists : LitLists) : Type 0 where
   pub each : (cell : ℕ) → IsStrictlyIncreasing (lit_by lists cell)
 
 -- the region has these cells, where all are of the box; all else stays
-pub record BeginsRegion (cells : List ℕ) (old new : Nodes) : Type 0 where
+pub record BeginsRegion (cells : List ℕ) (old new : NodeJudge) : Type 0 where
   pub region : ((cell : ℕ) → Contains cells cell → cell < length old.region.counts) → new.region.items ≡ cells
   pub whole : length new.region.counts ≡ length old.region.counts
   pub seen : new.seen ≡ old.seen
@@ -94,7 +94,7 @@ pub record BeginsRegion (cells : List ℕ) (old new : Nodes) : Type 0 where
   pub bad : new.bad ≡ old.bad
 
 -- so many are to be proved, and no branch is open; all else stays
-pub record Expects (count : ℕ) (old new : Nodes) : Type 0 where
+pub record Expects (count : ℕ) (old new : NodeJudge) : Type 0 where
   pub floor : new.floor ≡ count
   pub chosen : new.track.chosen.items ≡ []
   pub barred : new.track.barred.items ≡ []

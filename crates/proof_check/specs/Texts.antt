@@ -1,7 +1,7 @@
 -- What is printed of a verdict and of a fault. The words are this project's own.
 use Rattle.std.specs.Prelude.{ℕ, List, ◌++◌, codes, decimal}
 use Rattle.block_rows.specs.Texts as rows
-use Rattle.cave_model.specs.Texts as caves
+use Rattle.cave_reading.specs.Texts as caves
 use Rattle.scan_core.specs.Texts as scans
 use Rattle.proof_check.specs.declared.fault.CheckFault.{CheckFault}
 use Rattle.proof_check.specs.declared.fault.CheckFault.TheVariants.{Scan, Table, Build, ReadFailed, TooLong}

@@ -1,11 +1,11 @@
 -- What is to be said of the bytes of a certificate: accepted, or the first reason against it.
 -- That there are such verdicts is this project's own.
 use Rattle.std.specs.Prelude.{◌≡◌, ◌⊎◌, ℕ, List, length, Option, Result, MatchResult}
-use Rattle.cave_model.specs.Bytes.{IsCaveOfBytes}
-use Rattle.cave_model.specs.Bytes as caves
+use Rattle.cave_reading.specs.Bytes.{IsCaveOfBytes}
+use Rattle.cave_reading.specs.Bytes as caves
 use Rattle.cave_model.specs.Cave.{Cave}
 use Rattle.cave_model.specs.Rule.{Rule}
-use Rattle.cave_model.specs.declared.cave_fault.CaveFault.{CaveFault}
+use Rattle.cave_reading.specs.declared.cave_fault.CaveFault.{CaveFault}
 use Rattle.proof_rules.specs.Certificate.{Certificate, torches_of}
 use Rattle.proof_check.specs.Accepted.{Accepts}
 use Rattle.proof_check.specs.Faults.{check_fault_of}

@@ -1,5 +1,5 @@
 ghost use Rattle.std.specs.Prelude.{◌≡◌, ◌≢◌, ◌<◌, length, IfOk, IfErr, IfSome, MatchResult, option_copied};
-ghost use Rattle.nbt_core.specs.Answer.{IsAnswer, IsRefusal};
+ghost use Rattle.cave_base.specs.Answer.{IsAnswer, IsRefusal};
 ghost use Rattle.cave_model.specs.RuleOf.{rule_of};
 ghost use Rattle.proof_check.specs.Reading.{GivesAtMost};
 ghost use Rattle.proof_check.specs.Tried.{IsTheVerdict};
@@ -11,7 +11,8 @@ use crate::fault::CheckFault;
 use crate::reading::{judge_from, pass_over};
 use crate::trial::Trial;
 use crate::verdict::Verdict;
-use cave_model::{Rule, World, read_cave};
+use cave_model::{Rule, World};
+use cave_reading::read_cave;
 use std::alloc::{AllocError, Global};
 use std::io::Read;
 

@@ -3,7 +3,7 @@ ghost use Rattle.proof_check.specs.Ending.{Ends, node_reason};
 
 use crate::ends::{first_misplaced, first_unlit};
 use crate::judge::Judge;
-use crate::nodes::Nodes;
+use crate::nodes::NodeJudge;
 use crate::parts::bad_cell;
 use crate::reason::Reason;
 use cave_model::World;
@@ -27,7 +27,7 @@ pub fn reason_of(alloc: Global, world: &World, judge: &Judge) -> Result<Option<R
 }
 
 /// The first bad node, or else the first weak leaf.
-fn reason_of_nodes(nodes: &Nodes) -> Option<Reason>
+fn reason_of_nodes(nodes: &NodeJudge) -> Option<Reason>
     ensures { result ≡ node_reason nodes.now.bad nodes.now.weak }
 {
     if let Some(line) = nodes.bad {

@@ -2,8 +2,8 @@ ghost use Rattle.std.specs.Prelude.{◌≡◌, ◌↔◌, IsTrue};
 ghost use Rattle.proof_check.specs.Ends as ends;
 
 use crate::homes::{Home, Homes};
+use cave_base::Cell;
 use lit_lists::Lists;
-use scan_core::Cell;
 
 /// Whether a cell is in some list.
 fn is_somewhere(home: Home) -> bool

@@ -3,7 +3,7 @@ ghost use Rattle.proof_check.specs.Faults.{check_fault_of};
 ghost use Rattle.proof_check.specs.declared.fault.CheckFault.TheVariants.{OutOfMemory};
 
 use block_rows::RowsFault;
-use cave_model::{BuildFault, CaveFault};
+use cave_reading::{BuildFault, CaveFault};
 use scan_core::ScanFault;
 use std::alloc::AllocError;
 use std::error::Error;

@@ -2,7 +2,7 @@ ghost use Rattle.std.specs.Prelude.{◌≡◌, ◌↔◌, ◌<◌, ◌+◌, ◌^
 ghost use Rattle.proof_check.specs.Homes.{AreHomesOf, DecidesTwo, Joins, PutsAll, both_homes};
 ghost use Rattle.proof_check.specs.declared.homes.Home.TheVariants as home_kinds;
 
-use scan_core::Cell;
+use cave_base::Cell;
 use std::alloc::{AllocError, Global};
 use std::marker::Model;
 

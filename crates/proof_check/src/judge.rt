@@ -3,7 +3,7 @@ ghost use Rattle.proof_check.specs.Heard.{Hears, IsAfter};
 ghost use Rattle.proof_check.specs.Kept.{AreAscending, IsWide};
 
 use crate::homes::Homes;
-use crate::nodes::Nodes;
+use crate::nodes::NodeJudge;
 use cave_model::World;
 use certificate_lines::Kind;
 use lit_lists::Lists;
@@ -13,7 +13,7 @@ use std::alloc::{AllocError, Global};
 #[derive(Debug, Drop)]
 pub struct Judge {
     pub lists: Lists,
-    pub nodes: Nodes,
+    pub nodes: NodeJudge,
     pub torches: Homes,
     pub regions: Homes,
 }
@@ -25,7 +25,7 @@ impl Judge {
     {
         let count = world.cell_count();
         let lists = Lists::new(alloc, world)?;
-        let nodes = Nodes::new(alloc, count)?;
+        let nodes = NodeJudge::new(alloc, count)?;
         let torches = Homes::new(alloc, count)?;
         let regions = Homes::new(alloc, count)?;
         Ok(Judge {

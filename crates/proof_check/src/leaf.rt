@@ -3,8 +3,8 @@ ghost use Rattle.proof_check.specs.Track.{AreInside, DecidesApart};
 
 use crate::tally::Tally;
 use crate::testing::{is_free, mark, meet_open};
+use cave_base::Cell;
 use lit_lists::Lists;
-use scan_core::Cell;
 use std::alloc::AllocError;
 
 /// Whether the cells are free, and no place that isn't barred lights two of them; marks the places seen.

@@ -10,14 +10,14 @@ use crate::leaf::is_leaf;
 use crate::tally::Tally;
 use crate::testing::{is_dominated, is_free, left_of, mark};
 use crate::track::Track;
+use cave_base::Cell;
 use certificate_lines::Kind;
 use lit_lists::Lists;
-use scan_core::Cell;
 use std::alloc::{AllocError, Global};
 
 /// The judge of nodes.
 #[derive(Debug, Drop)]
-pub struct Nodes {
+pub struct NodeJudge {
     pub alloc: Global,
     /// The cells of the region.
     pub region: Tally,
@@ -32,9 +32,9 @@ pub struct Nodes {
     pub bad: Option<u64>,
 }
 
-impl Nodes {
+impl NodeJudge {
     /// Nothing judged, in a box of so many cells.
-    pub fn new(alloc: Global, count: u32) -> Result<Nodes, AllocError>
+    pub fn new(alloc: Global, count: u32) -> Result<NodeJudge, AllocError>
         ensures { IfOk result (IsNew count) }
     {
         let region = Tally::new(alloc, count)?;
@@ -46,7 +46,7 @@ impl Nodes {
             barred,
             frames: Vec::new(alloc),
         };
-        Ok(Nodes {
+        Ok(NodeJudge {
             alloc,
             region,
             seen,

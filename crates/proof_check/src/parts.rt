@@ -1,12 +1,12 @@
 ghost use Rattle.std.specs.Prelude.{◌≡◌, ◌<◌, ◌≤◌, length, IfOk};
-ghost use Rattle.scan_core.specs.Box.{cell_count};
+ghost use Rattle.cave_base.specs.Box.{cell_count};
 ghost use Rattle.lit_lists.specs.Seeded.{AreUnlit};
 ghost use Rattle.proof_check.specs.Ends as ends;
 
 use crate::homes::{Home, Homes};
+use cave_base::Cell;
 use cave_model::World;
 use lit_lists::{Lists, lit_cells};
-use scan_core::Cell;
 use std::alloc::{AllocError, Global};
 
 /// Whether a cell isn't in just one list, or is in one and may not be.

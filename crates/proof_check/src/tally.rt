@@ -1,7 +1,7 @@
 ghost use Rattle.std.specs.Prelude.{◌≡◌, ◌<◌, ◌≤◌, [], ◌∷◌, ◌++◌, ◌-◌, ◌↔◌, length, take, Contains, IsTrue, IfOk};
 ghost use Rattle.std.specs.Prelude.{OnOk};
 
-use scan_core::Cell;
+use cave_base::Cell;
 use std::alloc::{AllocError, Global};
 use std::marker::Model;
 

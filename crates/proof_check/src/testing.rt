@@ -5,8 +5,8 @@ ghost use Rattle.proof_check.specs.Tests as tests;
 ghost use Rattle.lit_lists.specs.Lists.{row_at};
 
 use crate::tally::Tally;
+use cave_base::Cell;
 use lit_lists::Lists;
-use scan_core::Cell;
 use std::alloc::{AllocError, Global};
 
 /// Whether one of the places is in the tally.

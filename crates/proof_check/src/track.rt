@@ -2,7 +2,7 @@ ghost use Rattle.std.specs.Prelude.{◌≡◌, ◌<◌, ◌+◌, [], length, IfO
 ghost use Rattle.proof_check.specs.Track.{ClosesFrames, Enters, IsNextKid};
 
 use crate::tally::Tally;
-use scan_core::Cell;
+use cave_base::Cell;
 use std::alloc::{AllocError, Global};
 
 /// An open branch.

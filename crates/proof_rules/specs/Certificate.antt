@@ -1,7 +1,7 @@
 -- What a certificate says, apart from its text. This is this project's own.
 use Rattle.std.specs.Prelude.{◌≡◌, ℕ, ◌<◌, ◌≤◌, ◌⊎◌, List, length, All, IsTrue, map}
 use Rattle.std.specs.List.Sorted.{IsStrictlyIncreasing}
-use Rattle.scan_core.specs.Box.{Point, cell_count, is_small}
+use Rattle.cave_base.specs.Box.{Point, cell_count, is_small}
 use Rattle.cave_model.specs.Regions.{all_cells}
 use Rattle.proof_rules.specs.Tree.{Tree, Forest, leaf, branch, bar, none, more, tree_count}
 

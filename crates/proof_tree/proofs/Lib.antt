@@ -1,9 +1,3 @@
 pub mod OrderLemmas
-pub mod WritingLemmas
-pub mod SentLemmas
-pub mod NodeLemmas
-pub mod SectionLemmas
-pub mod PlanLemmas
-pub mod WholeLemmas
 pub mod SieveLemmas
 pub mod KidLemmas

@@ -4,8 +4,8 @@ ghost use Rattle.proof_tree.specs.Opened.{kid_of, kids_of};
 
 use crate::opened::Opened;
 use crate::piece::Piece;
+use cave_base::Cell;
 use cave_model::OutOfMemory;
-use scan_core::Cell;
 use std::alloc::Global;
 use std::sync::Arc;
 

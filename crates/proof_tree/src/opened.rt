@@ -3,8 +3,8 @@ ghost use Rattle.proof_tree.specs.Opened.{AreOpenedPlaces, IsSplit, MayBeOpened}
 
 use crate::opening::{is_unlit, kid_places};
 use crate::piece::Piece;
+use cave_base::Cell;
 use cave_model::OutOfMemory;
-use scan_core::Cell;
 use std::alloc::Global;
 use std::marker::Model;
 

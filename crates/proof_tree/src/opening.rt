@@ -3,9 +3,9 @@ ghost use Rattle.std.specs.Prelude.{◌≡◌, ◌↔◌, IfOk, IsTrue, All, Con
 ghost use Rattle.set_cover.specs.Instance.{LightsIn, of_instance};
 ghost use Rattle.proof_rules.specs.Good.{AreOpen, IsUnlit};
 
+use cave_base::Cell;
 use cave_model::OutOfMemory;
 use cave_regions::Region;
-use scan_core::Cell;
 use set_cover::find;
 use std::alloc::Global;
 

@@ -3,9 +3,9 @@ ghost use Rattle.std.specs.Arc.{arc_value};
 ghost use Rattle.proof_tree.specs.Piece.{IsPiece, root_of};
 
 use crate::name::Name;
+use cave_base::Cell;
 use cave_model::OutOfMemory;
 use cave_regions::Region;
-use scan_core::Cell;
 use std::alloc::Global;
 use std::marker::Model;
 use std::sync::Arc;

@@ -6,7 +6,7 @@ use Rattle.std.proofs.lemmas.List.Elements.{All-nil, All-cons}
 use Rattle.std.specs.Prelude.{if◌then◌else◌}
 use Rattle.nbt_core.specs.Value.{Nbt, leaf, list, compound, Items, no_items, item, field, items_of, listed}
 use Rattle.nbt_core.specs.Value as values
-use Rattle.scan_core.specs.Box.{Point, cell_count, is_small, is_within}
+use Rattle.cave_base.specs.Box.{Point, cell_count, is_small, is_within}
 use Rattle.scan_core.specs.Properties.{props_of}
 use Rattle.scan_core.specs.Scan.{Structure, Entry, triple, point_value, last_state, IsEntryState, IsEntryOf, AreEach}
 use Rattle.scan_core.specs.Scan.{IsListOf, IsScanOf}

@@ -6,12 +6,12 @@ use Rattle.std.proofs.lemmas.Bool.{eqb-true}
 use Rattle.std.proofs.lemmas.List.{get_or-set_same, get_or-set_other, length-set}
 use Rattle.std.proofs.lemmas.List.Elements.{All-push}
 use Rattle.nbt_core.specs.Value.{Nbt}
-use Rattle.scan_core.specs.Box.{Point, cell_count, number, is_within}
+use Rattle.cave_base.specs.Box.{Point, cell_count, number, is_within}
 use Rattle.scan_core.specs.Cells.{IsPlaced}
 use Rattle.scan_core.specs.Scan.{Entry, IsEntryOf, or_else, last_state}
 use Rattle.scan_core.specs.Faults.{entry_faults}
 use Rattle.scan_core.specs.Judging.{first_fault}
-use Rattle.scan_core.proofs.CellLemmas.{within_parts, number_below}
+use Rattle.cave_base.proofs.CellLemmas.{within_parts, number_below}
 use Rattle.scan_core.proofs.EachLemmas.{AreTold, told_more}
 
 -- the cells show the last of the entries below the index

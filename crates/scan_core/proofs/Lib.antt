@@ -1,4 +1,3 @@
-pub mod CellLemmas
 pub mod ScanLemmas
 pub mod Building
 pub mod One

@@ -3,11 +3,11 @@ use Rattle.std.proofs.Common.{◌≡◌, ℕ, pos, ◌<◌, List, [], ◌∷◌,
 use Rattle.std.proofs.Common.{subst, ◌∙◌, ext_get_or}
 use Rattle.nbt_core.specs.Value.{Nbt, leaf, list, Items, no_items, item, field, items_of, listed}
 use Rattle.nbt_core.specs.Value as values
-use Rattle.scan_core.specs.Box.{Point, cell_count}
+use Rattle.cave_base.specs.Box.{Point, cell_count}
 use Rattle.scan_core.specs.Scan.{Structure, Entry, point_value, last_state, IsEntryState, IsEntryOf, AreEach, IsListOf}
 use Rattle.scan_core.specs.Scan.{IsScanOf}
 use Rattle.scan_core.specs.declared.state.BlockState.{BlockState}
-use Rattle.scan_core.proofs.CellLemmas.{point_is}
+use Rattle.cave_base.proofs.CellLemmas.{point_is}
 use Rattle.scan_core.proofs.ScanLemmas.{listed-items_of}
 
 -- two values that are there and equal

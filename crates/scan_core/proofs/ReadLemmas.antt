@@ -7,8 +7,8 @@ use Rattle.nbt_core.specs.Value.{Nbt, field}
 use Rattle.nbt_core.specs.declared.fault.NbtFault.{NbtFault}
 use Rattle.nbt_core.specs.declared.fault.NbtFault.TheVariants as inner
 use Rattle.scan_core.specs.Answer.{TellsInRoom}
-use Rattle.nbt_core.specs.Answer.{IsAnswer, IsRefusal}
-use Rattle.scan_core.specs.Box.{Point}
+use Rattle.cave_base.specs.Answer.{IsAnswer, IsRefusal}
+use Rattle.cave_base.specs.Box.{Point}
 use Rattle.scan_core.specs.Cells.{AreCellsOf}
 use Rattle.scan_core.specs.Faults.{size_fault, palette_fault, blocks_fault, fault_of, told_size, IsFaultOf}
 use Rattle.scan_core.specs.Judging.{first_fault, on_field}

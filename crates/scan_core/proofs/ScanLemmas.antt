@@ -5,7 +5,7 @@ use Rattle.std.proofs.lemmas.List.Elements.{All-head, All-tail}
 use Rattle.std.specs.Prelude.{if◌then◌else◌}
 use Rattle.nbt_core.specs.Value.{Nbt, leaf, list, compound, Items, no_items, item, field, items_of, listed}
 use Rattle.nbt_core.specs.Value as values
-use Rattle.scan_core.specs.Box.{Point, is_small, is_within}
+use Rattle.cave_base.specs.Box.{Point, is_small, is_within}
 use Rattle.scan_core.specs.Scan.{Structure, Entry, point_value, IsEntryState, IsEntryOf, AreEach, IsListOf, IsScanOf}
 use Rattle.scan_core.specs.Faults.{list_fault, name_fault, entry_faults, told_size, told_states, fault_of}
 use Rattle.nbt_core.specs.Parts.{is_compound, are_compounds}
@@ -15,7 +15,7 @@ use Rattle.scan_core.specs.declared.fault.Field.{Field}
 use Rattle.scan_core.specs.declared.fault.Field.TheVariants.{PaletteField, BlocksField}
 use Rattle.scan_core.specs.declared.fault.ScanFault.{ScanFault}
 use Rattle.scan_core.specs.declared.fault.ScanFault.TheVariants as faults
-use Rattle.scan_core.proofs.CellLemmas.{true_both}
+use Rattle.cave_base.proofs.CellLemmas.{true_both}
 
 -- ---- first faults
 

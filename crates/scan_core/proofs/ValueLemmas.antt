@@ -5,7 +5,7 @@ use Rattle.std.proofs.lemmas.List.{nil_from_length}
 use Rattle.nbt_core.specs.Value.{Nbt, leaf, list, compound, items_of, listed}
 use Rattle.nbt_core.specs.Value as values
 use Rattle.nbt_core.specs.Parts.{items_in, are_compounds}
-use Rattle.scan_core.specs.Box.{Point}
+use Rattle.cave_base.specs.Box.{Point}
 use Rattle.scan_core.specs.Judging.{on_triple}
 use Rattle.scan_core.specs.Told.{AreCompoundsOf, triple_value}
 use Rattle.scan_core.proofs.ScanLemmas.{listed-items_of, items_of-listed}

@@ -5,7 +5,7 @@ use Rattle.std.specs.Prelude.{if◌then◌else◌}
 use Rattle.std.proofs.lemmas.List.{get_or_default}
 use Rattle.std.proofs.lemmas.List.Elements.{All-nil, All-cons, All-head, All-tail}
 use Rattle.nbt_core.specs.Value.{Nbt, field}
-use Rattle.scan_core.specs.Box.{Point, number}
+use Rattle.cave_base.specs.Box.{Point, number}
 use Rattle.scan_core.specs.Properties.{HasEachOnce}
 use Rattle.scan_core.specs.Scan.{Structure, Entry, or_else, last_state, IsEntryState, AreEach, IsScanOf, IsWholeScan}
 use Rattle.scan_core.specs.declared.state.BlockState.{BlockState}

@@ -2,7 +2,7 @@
 use Rattle.std.specs.Prelude.{◌≡◌, ℕ, pos, ◌<◌, IsTrue, List, length, All, codes, Option, Some, None, slice_index_or}
 use Rattle.nbt_core.specs.Value.{Nbt, leaf, list, items_of, field}
 use Rattle.nbt_core.specs.Value as values
-use Rattle.scan_core.specs.Box.{Point, cell_count, number, is_within}
+use Rattle.cave_base.specs.Box.{Point, cell_count, number, is_within}
 use Rattle.scan_core.specs.Scan.{Entry, point_value, last_state, IsEntryOf, AreEach}
 
 -- the place of an entry, which lies in the box

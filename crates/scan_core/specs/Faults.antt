@@ -6,7 +6,7 @@ use Rattle.nbt_core.specs.Value.{Nbt, field}
 use Rattle.nbt_core.specs.Spelling.{Root}
 use Rattle.nbt_core.specs.Breaking.{FaultOf}
 use Rattle.nbt_core.specs.declared.fault.NbtFault.{NbtFault}
-use Rattle.scan_core.specs.Box.{Point, is_within, is_small}
+use Rattle.cave_base.specs.Box.{Point, is_within, is_small}
 use Rattle.scan_core.specs.Judging.{first_fault, each_from, on_field, on_triple, on_compounds, on_text, on_int}
 use Rattle.scan_core.specs.declared.fault.Field.{Field}
 use Rattle.scan_core.specs.declared.fault.Field.TheVariants.{SizeField, PaletteField, NameField, BlocksField}

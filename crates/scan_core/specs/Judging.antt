@@ -3,7 +3,7 @@ use Rattle.std.specs.Prelude.{ℕ, suc, ℤ, pos, List, [], ◌∷◌, ◌++◌,
 use Rattle.nbt_core.specs.Value.{Nbt, leaf, list, compound, no_items, item, listed}
 use Rattle.nbt_core.specs.Value as values
 use Rattle.nbt_core.specs.Parts.{are_compounds}
-use Rattle.scan_core.specs.Box.{Point}
+use Rattle.cave_base.specs.Box.{Point}
 use Rattle.scan_core.specs.declared.fault.ScanFault.{ScanFault}
 
 -- of what is judged in order, each none or a fault, the first fault

@@ -1,5 +1,4 @@
 -- public clauses cite
-pub mod Box
 pub mod Properties
 pub mod Scan
 pub mod Judging

@@ -5,7 +5,7 @@ use Rattle.std.specs.Prelude.{None, IfSome, slice_index_or, if◌then◌else◌}
 use Rattle.nbt_core.specs.Value.{Nbt, leaf, list, items_of, field}
 use Rattle.nbt_core.specs.Value as values
 use Rattle.nbt_core.specs.Spelling.{Root}
-use Rattle.scan_core.specs.Box.{Point, point, cell_count, number, is_within, is_small}
+use Rattle.cave_base.specs.Box.{Point, point, cell_count, number, is_within, is_small}
 use Rattle.scan_core.specs.Properties.{props_of, HasEachOnce}
 use Rattle.scan_core.specs.declared.state.BlockState.{BlockState}
 

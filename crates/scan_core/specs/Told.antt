@@ -2,7 +2,7 @@
 use Rattle.std.specs.Prelude.{◌≡◌, ◌≢◌, ℤ, pos, true, false, IsTrue, List, Option, Some, None, codes, slice_index_or}
 use Rattle.nbt_core.specs.Value.{Nbt, list, items_of, field}
 use Rattle.nbt_core.specs.Parts.{are_compounds}
-use Rattle.scan_core.specs.Box.{Point, is_small}
+use Rattle.cave_base.specs.Box.{Point, is_small}
 use Rattle.scan_core.specs.Scan.{triple, point_value, IsEntryState, IsListOf}
 use Rattle.scan_core.specs.Judging.{point_of}
 use Rattle.scan_core.specs.declared.state.BlockState.{BlockState}

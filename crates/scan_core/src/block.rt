@@ -1,13 +1,13 @@
 ghost use Rattle.std.specs.Prelude.{◌≡◌, All, None, length, IsTrue};
 ghost use Rattle.scan_core.specs.Answer.{TellsOrFaults, TellsInRoom};
-ghost use Rattle.scan_core.specs.Box as grid;
+ghost use Rattle.cave_base.specs.Box as grid;
 ghost use Rattle.scan_core.specs.Cells.{AreCellsOf, IsIndexOf, IsPlaced, IsPointOf, ShowEntries};
 ghost use Rattle.scan_core.specs.Faults.{blocks_fault, entry_faults, pos_fault, state_fault};
 ghost use Rattle.scan_core.specs.Judging.{each_from, first_fault};
 
 use crate::fault::{Field, ScanFault};
-use crate::grid::{Cell, is_within, number};
 use crate::value::{compounds, int, natural, triple};
+use cave_base::{Cell, is_within, number};
 use nbt_core::{ItemsView, View};
 use std::alloc::Global;
 

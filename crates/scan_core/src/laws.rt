@@ -1,22 +1,8 @@
 //! Laws over the definitions alone.
-ghost use Rattle.std.specs.Prelude.{◌≡◌, ◌↔◌, ◌<◌, ℕ, IsTrue, None};
+ghost use Rattle.std.specs.Prelude.{◌≡◌, ◌↔◌, None};
 ghost use Rattle.nbt_core.specs.Value.{Nbt};
-ghost use Rattle.scan_core.specs.Box.{Point, cell_count, coordinates, is_within, number};
 ghost use Rattle.scan_core.specs.Faults.{fault_of};
 ghost use Rattle.scan_core.specs.Scan.{IsScanOf, IsWholeScan, Structure};
-
-/// A point of the box has a number of the box, whose coordinates are the point.
-pub fn number_then_coordinates()
-    ensures { (size at : Point) → IsTrue (is_within size at)
-        → (number size at < cell_count size) × (coordinates size (number size at) ≡ at) }
-{}
-
-/// A number of the box has coordinates in the box, whose number it is.
-pub fn coordinates_then_number()
-    ensures { (size : Point) (cell : ℕ) → cell < cell_count size
-        → IsTrue (is_within size (coordinates size cell))
-        × (number size (coordinates size cell) ≡ cell) }
-{}
 
 /// A root has no fault exactly where it tells a structure.
 pub fn structure_or_fault()

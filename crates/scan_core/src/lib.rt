@@ -6,7 +6,6 @@
 
 mod block;
 mod fault;
-mod grid;
 pub mod laws;
 mod palette;
 mod property;
@@ -17,7 +16,6 @@ mod state;
 mod value;
 
 pub use fault::{Field, ScanFault};
-pub use grid::{Cell, coordinates, number};
 pub use read::read_scan;
 pub use scan::Scan;
 pub use state::BlockState;

@@ -1,5 +1,5 @@
 ghost use Rattle.std.specs.Prelude.{◌≡◌, reverse};
-ghost use Rattle.nbt_core.specs.Answer.{IsAnswer};
+ghost use Rattle.cave_base.specs.Answer.{IsAnswer};
 ghost use Rattle.nbt_core.specs.Value.{members_of};
 ghost use Rattle.scan_core.specs.Named.{named_values};
 ghost use Rattle.scan_core.specs.Properties as texts;

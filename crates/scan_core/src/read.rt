@@ -1,5 +1,5 @@
 ghost use Rattle.std.specs.Prelude.{◌≡◌, ◌≢◌, IfOk, IfErr};
-ghost use Rattle.nbt_core.specs.Answer.{IsAnswer, IsRefusal};
+ghost use Rattle.cave_base.specs.Answer.{IsAnswer, IsRefusal};
 ghost use Rattle.nbt_core.specs.Spelling.{Root};
 ghost use Rattle.nbt_core.specs.Value.{Nbt};
 ghost use Rattle.scan_core.specs.declared.fault.ScanFault.{ScanFault};

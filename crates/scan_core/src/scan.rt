@@ -25,7 +25,7 @@ impl Model for Scan {
 
 impl Scan {
     ghost use Rattle.std.specs.Prelude.{◌≡◌, ◌<◌, length, All, IfSome, IsTrue};
-    ghost use Rattle.scan_core.specs.Box.{cell_count, is_small, point};
+    ghost use Rattle.cave_base.specs.Box.{cell_count, is_small, point};
     ghost use Rattle.scan_core.specs.Properties.{HasEachOnce};
     ghost use Rattle.scan_core.specs.Scan.{IsWholeScan, structure};
 

@@ -1,11 +1,11 @@
 ghost use Rattle.scan_core.specs.Answer.{TellsOrFaults};
-ghost use Rattle.scan_core.specs.Box as grid;
+ghost use Rattle.cave_base.specs.Box as grid;
 ghost use Rattle.scan_core.specs.Faults.{size_fault};
 ghost use Rattle.scan_core.specs.Told.{IsSizeOf};
 
 use crate::fault::{Field, ScanFault};
-use crate::grid::is_small;
 use crate::value::{natural, triple};
+use cave_base::is_small;
 use nbt_core::View;
 
 /// The sides of the box that the root tells.

@@ -5,7 +5,4 @@ pub mod Stops
 pub mod Pieces
 -- private
 pub mod Alone
-pub mod Bars
 pub mod Desks
-pub mod Kids
-pub mod Thinning

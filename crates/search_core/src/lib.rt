@@ -1,67 +1,32 @@
-//! Closing a piece by branch and bound: a search proposes, judges accept.
+//! The search for the fewest places, as far as it is proved: branch and bound in which a strategy proposes and judges
+//! accept. It is generic over the strategy, of which nothing is promised.
 #![tactic(auto)]
 
 mod aimed;
 mod alone;
-mod barring;
-mod bars;
 mod beginning;
-mod bit_lists;
-mod branching;
+mod branch_and_bound;
 mod carrying;
-mod closing;
-mod closing_piece;
-mod conflicts;
-mod cover_search;
 mod desk;
-mod dice;
 mod fault;
 mod halt;
-mod kernel;
-mod known_zones;
-mod lists;
-mod needless;
-mod numbering;
+mod observed;
+mod observer;
 mod opening;
-mod packings;
-mod plain;
+mod pieces;
 mod planning;
-mod plateau;
-mod pool;
 mod proposer;
-mod pruning;
-mod reduction;
 mod rounds;
-mod row_scores;
-mod row_weighting;
 mod steps;
-mod strategy;
-mod thinning;
-mod told;
-mod tree_judge;
-mod waste;
-mod watch;
-mod zone;
-mod zone_branching;
-mod zone_finder;
-mod zone_keeper;
-mod zone_prover;
-mod zone_reduction;
-mod zone_site;
-mod zone_trees;
 
 pub use alone::AloneDesk;
-pub use bars::Bar;
 pub use beginning::{Beginning, begin};
 pub use carrying::{carried_cover, carried_plan, core_region};
-pub use closing::close;
-pub use closing_piece::{CloseFault, close_piece};
 pub use desk::Desk;
 pub use fault::AloneFault;
 pub use halt::Halt;
+pub use observer::{Observer, Unobserved};
 pub use opening::cell_to_open;
-pub use plain::Plain;
+pub use pieces::{CloseFault, close_piece};
 pub use planning::{plan_alone, plan_watched};
-pub use proposer::Proposer;
-pub use tree_judge::is_good;
-pub use watch::{Unwatched, Watch};
+pub use proposer::{Proposal, Proposer, Strategy};

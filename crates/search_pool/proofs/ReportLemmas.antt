@@ -10,10 +10,10 @@ use Rattle.schedule_law.proofs.LawLemmas.{counts}
 use Rattle.gathering.specs.Counted.{AreCounted}
 use Rattle.gathering.specs.Gathered.{Gathering, IsGathered}
 use Rattle.gathering.proofs.LawLemmas.{counted}
-use Rattle.joined_results.specs.Joining.{IsRootSplit}
+use Rattle.worker_results.specs.Joining.{IsRootSplit}
 use Rattle.search_pool.specs.Reports.{sum_of}
 use Rattle.search_pool.specs.Tallies.{AreTallied}
-use Rattle.search_pool.specs.declared.tally.Tally.{Tally}
+use Rattle.search_pool.specs.declared.piece_counts.PieceCounts.{PieceCounts}
 
 -- zeros add up to zero
 pub no_sum : (count : ℕ) → sum_of (replicate count 0) ≡ 0
@@ -46,7 +46,7 @@ module _ (region : Instance) (first : List ℕ) (root : Split) (works : List Wor
       (subst (λ n. IsGathered region first n works gathered) same is)
 
   -- all that came to be is what was opened, closed, handed back or left
-  pub all_came : (tally : Tally) → IsRootSplit region root → AreTallied works tally
+  pub all_came : (tally : PieceCounts) → IsRootSplit region root → AreTallied works tally
       → length (all_kids (root ∷ all_opened works))
       ≡ tally.opened + tally.closed + (tally.held + tally.refused) + length left
   all_came tally is told =
@@ -55,14 +55,14 @@ module _ (region : Instance) (first : List ℕ) (root : Split) (works : List Wor
       let a = told.closed in let b = told.opened in let c = told.back in omega (arith, all, a, b, c))
 
 -- the caller's thread closed what was handed back and what was left
-pub all_gleaned : (works : List Worked) (left : List Subproblem) (gathered : Gathering) (tally : Tally)
+pub all_gleaned : (works : List Worked) (left : List Subproblem) (gathered : Gathering) (tally : PieceCounts)
     → AreCounted works left gathered → AreTallied works tally
     → length gathered.gleaned ≡ tally.held + tally.refused + length left
 all_gleaned works left gathered tally counted told =
     let a = counted.by_caller in let b = told.back in omega (arith, a, b)
 
 -- and workers closed the rest
-pub all_by_workers : (works : List Worked) (left : List Subproblem) (gathered : Gathering) (tally : Tally)
+pub all_by_workers : (works : List Worked) (left : List Subproblem) (gathered : Gathering) (tally : PieceCounts)
     → AreCounted works left gathered → AreTallied works tally → sum_of gathered.closed_by ≡ tally.closed
 all_by_workers works left gathered tally counted told =
     ap sum_of counted.by_workers ∙ sum_of_closed works ∙ sym told.closed

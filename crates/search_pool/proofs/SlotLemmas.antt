@@ -5,7 +5,7 @@ use Rattle.std.specs.Prelude.{map}
 use Rattle.std.proofs.lemmas.List.Elements.{All-head, All-tail, All-cons, All-push}
 use Rattle.worker_results.specs.Naming.{numbers_from}
 use Rattle.worker_results.specs.Results.{Handed}
-use Rattle.joined_results.specs.Joining.{workers_of}
+use Rattle.worker_results.specs.Joining.{workers_of}
 use Rattle.search_pool.specs.Rows.{AreFrom}
 use Rattle.search_pool.specs.Deques.{AreStocked, HasPushed}
 use Rattle.proof_tree.specs.Piece.{Subproblem}

@@ -6,7 +6,7 @@ use Rattle.proof_tree.specs.Piece.{Subproblem}
 use Rattle.proof_tree.specs.Weights.{weigh}
 use Rattle.piece_deque.specs.declared.dealt.Dealt.{Dealt}
 use Rattle.worker_results.specs.Naming.{AreThieves, DequeId, Thief, numbers_from}
-use Rattle.joined_results.specs.Joining.{StartWith, total}
+use Rattle.worker_results.specs.Joining.{StartWith, total}
 use Rattle.search_pool.specs.Deques.{AreStocked, AreThievesOf, HasPushed, deque_at, pushed_at}
 use Rattle.search_pool.specs.Slots.{AreOwners, Owner, ready}
 

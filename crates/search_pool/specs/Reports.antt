@@ -11,7 +11,7 @@ use Rattle.schedule_law.specs.Worked.{IsCoverFor, Worked}
 use Rattle.gathering.specs.Gathered.{IsGathered}
 use Rattle.gathering.specs.declared.fault.PoolFault.{PoolFault}
 use Rattle.gathering.specs.declared.fault.PoolFault.TheVariants.{Stopped, NoThread, OutOfMemory}
-use Rattle.joined_results.specs.Joining.{IsRootSplit}
+use Rattle.worker_results.specs.Joining.{IsRootSplit}
 use Rattle.search_pool.specs.Runs.{IsRun}
 use Rattle.search_pool.specs.Tallies.{all_refused}
 use Rattle.search_pool.specs.declared.report.Report.{Report}

@@ -3,14 +3,14 @@ use Rattle.std.specs.Prelude.{◌≡◌, ◌+◌, List, length, flat_map}
 use Rattle.proof_tree.specs.Piece.{Subproblem}
 use Rattle.schedule_law.specs.Worked.{Worked}
 use Rattle.schedule_law.specs.Joined.{all_back, all_closed, all_opened}
-use Rattle.search_pool.specs.declared.tally.Tally.{Tally}
+use Rattle.search_pool.specs.declared.piece_counts.PieceCounts.{PieceCounts}
 
 -- the kids whose push was refused
 abbrev pub all_refused : List Worked → List Subproblem
 all_refused works = flat_map (λ work. work.refused) works
 
 -- each number is that of such pieces
-pub record AreTallied (works : List Worked) (tally : Tally) : Type 0 where
+pub record AreTallied (works : List Worked) (tally : PieceCounts) : Type 0 where
   pub closed : tally.closed ≡ length (all_closed works)
   pub opened : tally.opened ≡ length (all_opened works)
   pub back : tally.held + tally.refused ≡ length (all_back works)

@@ -3,8 +3,8 @@
 
 mod deques;
 mod ended;
-mod gate;
 mod merging;
+mod piece_counts;
 mod planning;
 mod pool;
 mod report;
@@ -13,12 +13,10 @@ mod separating;
 mod slots;
 mod starting;
 mod stock;
-mod tally;
 mod unrun;
 mod worker;
 mod workers;
 
-pub use gate::{Gate, Open};
 pub use gathering::PoolFault;
 pub use planning::plan_with;
 pub use report::Report;

@@ -1,7 +1,7 @@
 //! What the results of workers merge to, with the caller's own work.
 ghost use Rattle.std.specs.Prelude.{◌≡◌, ◌≤◌, ◌<◌, ◌+◌, ◌^◌, IfErr, IfOk, IfSome, length};
 ghost use Rattle.std.specs.Arc.{arc_value};
-ghost use Rattle.joined_results.specs.Joining.{IsRootSplit};
+ghost use Rattle.worker_results.specs.Joining.{IsRootSplit};
 ghost use Rattle.proof_tree.specs.Shape.{tree_of};
 ghost use Rattle.schedule_law.specs.Worked.{IsCoverFor};
 ghost use Rattle.search_core.specs.Planned.{IsBest, IsFloor};
@@ -9,20 +9,21 @@ ghost use Rattle.search_pool.specs.Reports.{AddsUp, IsMerged, StopsPool};
 ghost use Rattle.search_pool.specs.Runs.{IsRun};
 ghost use Rattle.search_pool.specs.Turns.{AreLeft};
 
+use crate::piece_counts::{PieceCounts, counted};
 use crate::pool::Ran;
 use crate::report::Report;
-use crate::tally::{Tally, counted};
 use crate::workers::Workers;
 use cave_regions::{Cover, Region};
 use gathering::{Gathered, PoolFault, gather};
-use joined_results::Joined;
 use proof_tree::Opened;
+use search_core::Strategy;
 use std::alloc::Global;
 use std::sync::Arc;
+use worker_results::Joined;
 
 /// Gathers what workers did, and closes what they left with the turns that are left. Where a share was used up, none
 /// are.
-pub(crate) fn merged(
+pub(crate) fn merged<S: Strategy>(
     alloc: Global,
     region: &Arc<Region>,
     first: Cover,
@@ -53,7 +54,7 @@ pub(crate) fn merged(
     let left = left.len() as u128;
     let granted = within(turns, taken);
     let rest = left_of(turns, granted, spent);
-    match gather(alloc, region, first, root.cell(), works, rest) {
+    match gather::<S>(alloc, region, first, root.cell(), works, rest) {
         Ok(gathered) => Ok(report(gathered, counts, left, granted)),
         Err(
             PoolFault::Stopped {
@@ -100,7 +101,7 @@ fn sum(granted: u64, more: u64) -> u64
 }
 
 /// What was gathered, with what workers handed over.
-fn report(gathered: Gathered, counts: Tally, left: u128, granted: u64) -> Report
+fn report(gathered: Gathered, counts: PieceCounts, left: u128, granted: u64) -> Report
     requires few { (counts.closed ≤ 2 ^ 70) × (counts.opened ≤ 2 ^ 70) × (counts.held ≤ 2 ^ 70)
         × (counts.refused ≤ 2 ^ 70) × (left < 2 ^ 64) }
     requires gleaned { length gathered.gleaned.items ≡ counts.held + counts.refused + left }

@@ -1,21 +1,21 @@
 //! Planning a region with many workers.
 ghost use Rattle.std.specs.Prelude.{◌≡◌, ◌≤◌, Contains, IfErr, IfOk, IfSome, length, replicate};
 ghost use Rattle.std.specs.Arc.{arc_value};
-ghost use Rattle.joined_results.specs.Joining.{IsRootSplit};
+ghost use Rattle.worker_results.specs.Joining.{IsRootSplit};
 ghost use Rattle.proof_tree.specs.Shape.{tree_of};
 ghost use Rattle.search_core.specs.Planned.{IsBest, ProvesAt};
 ghost use Rattle.search_pool.specs.Reports.{AddsUp, IsOneLeaf, IsReport, StopsPool};
 
-use crate::gate::Gate;
 use crate::merging::merged;
+use crate::pool::Run;
 use crate::report::Report;
-use crate::starting::run;
+use crate::starting::run_opened;
 use crate::workers::Workers;
+use cave_base::Cell;
 use cave_regions::Region;
 use gathering::PoolFault;
 use proof_tree::{Opened, Piece};
-use scan_core::Cell;
-use search_core::{Beginning, begin};
+use search_core::{Beginning, Observer, Strategy, begin};
 use std::alloc::{AllocError, Global};
 use std::sync::{Arc, Wait};
 use std::thread::Threads;
@@ -23,12 +23,12 @@ use std::thread::Threads;
 /// The fewest places that light every cell of the region, and a tree that proves it, by so many workers. Where one leaf
 /// closes the root no worker starts. One turn is one node worked on, or one piece opened; each worker has the same
 /// share of the turns, and where one share is used up the search stops.
-pub fn plan_with<R: Threads + Wait + Sync, G: Gate>(
+pub fn plan_with<S: Strategy + Send + Sync, R: Threads + Wait + Sync, O: Observer>(
     rt: &R,
     alloc: Global,
     region: &Arc<Region>,
     workers: Workers,
-    gate: &G,
+    observer: &O,
     turns: Option<u64>,
 ) -> Result<Report, PoolFault>
     ensures best { IfOk result (λ report. IsBest (arc_value region.now) report.cover (tree_of report.proof)) }
@@ -37,14 +37,23 @@ pub fn plan_with<R: Threads + Wait + Sync, G: Gate>(
     ensures granted { IfOk result (λ report. IfSome turns (λ limit. report.turns ≤ limit)) }
     ensures stopped { IfErr result (StopsPool (arc_value region.now) turns) }
 {
-    let begun = begin(alloc, region)?;
+    let begun = begin::<S>(alloc, region)?;
     if begun.floor >= begun.cover.size() {
         let report = one_leaf(alloc, begun, workers)?;
         return Ok(report);
     }
     let root = root_on(alloc, region, begun.cell)?;
-    let ran = run(rt, alloc, region, &begun.cover, &root, workers, gate, turns)?;
-    merged(
+    let ran = run_opened::<S, R, O>(Run {
+        rt,
+        alloc,
+        region,
+        best: &begun.cover,
+        root: &root,
+        workers,
+        observer,
+        turns,
+    })?;
+    merged::<S>(
         alloc,
         region,
         begun.cover,

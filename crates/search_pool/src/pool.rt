@@ -4,11 +4,10 @@ ghost use Rattle.std.specs.Arc.{arc_value};
 ghost use Rattle.beacon.specs.Marks.{at_first};
 ghost use Rattle.proof_tree.specs.Opened.{kids_of};
 ghost use Rattle.worker_results.specs.Naming.{AreThieves};
-ghost use Rattle.joined_results.specs.Joining.{IsRootSplit, StartWith};
+ghost use Rattle.worker_results.specs.Joining.{IsRootSplit, StartWith};
 ghost use Rattle.search_pool.specs.Runs.{IsRun};
 ghost use Rattle.search_pool.specs.Slots.{AreOwners};
 
-use crate::gate::Gate;
 use crate::run::run_scope;
 use crate::separating::separate;
 use crate::slots::{fill, hand_out, owned, split_seats};
@@ -17,13 +16,13 @@ use crate::worker::Shared;
 use crate::workers::Workers;
 use beacon::{Beacon, Seat};
 use cave_regions::{Cover, Region};
-use joined_results::{Joined, close_up};
 use piece_deque::{Owner, Thief};
 use proof_tree::Opened;
+use search_core::{Observer, Strategy};
 use std::alloc::Global;
 use std::sync::{Arc, Wait};
 use std::thread::Threads;
-use worker_results::Naming;
+use worker_results::{Joined, Naming, close_up};
 
 /// The longest that names of pieces are.
 const DEEPEST: usize = 3;
@@ -35,6 +34,20 @@ const MANY: usize = 16;
 
 /// A region of no more places makes few pieces.
 const FEW: usize = 128;
+
+/// What workers plan, and by whom: a region with its root opened, and a cover of it.
+#[derive(Drop)]
+pub(crate) struct Run<'e, R, O> {
+    pub(crate) rt: &'e R,
+    pub(crate) alloc: Global,
+    pub(crate) region: &'e Arc<Region>,
+    pub(crate) best: &'e Cover,
+    pub(crate) root: &'e Opened,
+    pub(crate) workers: Workers,
+    pub(crate) observer: &'e O,
+    /// How many nodes may be worked on, or any number of them.
+    pub(crate) turns: Option<u64>,
+}
 
 /// What workers hand over once they are joined, how many turns they were granted, and whether some asked for more.
 #[derive(Drop)]
@@ -62,43 +75,53 @@ fn deepest_for(region: &Region, kids: usize, workers: u32) -> usize {
 }
 
 /// Starts a worker for each deque, joins them, and closes the beacon and the deques.
-pub(crate) fn run_named<B: Naming + Send + Sync, R: Threads + Wait + Sync, G: Gate>(
-    rt: &R,
-    alloc: Global,
+pub(crate) fn run_named<
+    B: Naming + Send + Sync,
+    S: Strategy + Send + Sync,
+    R: Threads + Wait + Sync,
+    O: Observer,
+>(
+    run: Run<'_, R, O>,
     beacon: Beacon,
     first: Seat,
-    region: &Arc<Region>,
-    best: &Cover,
-    root: &Opened,
     owners: Vec<Owner>,
     thieves: &[Thief],
-    workers: Workers,
-    gate: &G,
-    turns: Option<u64>,
 ) -> Result<Ran, Unrun>
-    requires few { (workers.number ≡ B.workers) × (length owners.items ≡ B.workers) }
+    requires few { (run.workers.number ≡ B.workers) × (length owners.items ≡ B.workers) }
     requires seat { (beacon ≡ B.beacon) × (first.beacon ≡ B.beacon)
-        × (first.knows ≡ at_first (length best.now.places)) }
-    requires ground { (arc_value region.now ≡ B.region) × AreThieves B.deque 0 thieves.now }
+        × (first.knows ≡ at_first (length run.best.now.places)) }
+    requires ground { (arc_value run.region.now ≡ B.region) × AreThieves B.deque 0 thieves.now }
     requires owners { AreOwners B.deque B.start 0 owners.items }
-    requires root { IsRootSplit B.region root.now }
-    requires start { StartWith B.start B.workers (kids_of root.now) }
-    ensures { IfOk result (λ ran. IsRun B.region best.now.places root.now workers.number
+    requires root { IsRootSplit B.region run.root.now }
+    requires start { StartWith B.start B.workers (kids_of run.root.now) }
+    ensures { IfOk result (λ ran. IsRun B.region run.entry.best.now.places run.entry.root.now run.entry.workers.number
         ran.joined.works.items ran.joined.left.items) }
 {
+    let alloc = run.alloc;
     let owned = owned::<B>(alloc, owners)?;
-    let passes = hand_out(alloc, owned, workers.number)?;
-    let seats = split_seats(alloc, &beacon, first, workers.number)?;
+    let passes = hand_out(alloc, owned, run.workers.number)?;
+    let seats = split_seats(alloc, &beacon, first, run.workers.number)?;
     let slots = fill(alloc, passes, seats.others)?;
     let shared = Shared {
         beacon: &beacon,
-        region,
+        region: run.region,
         thieves,
-        deepest: deepest_for(region.as_ref(), root.places().len(), workers.number),
+        deepest: deepest_for(
+            run.region.as_ref(),
+            run.root.places().len(),
+            run.workers.number,
+        ),
     };
-    let ended = run_scope::<B, R, G>(rt, alloc, shared, slots.as_slice(), gate, turns)?;
+    let ended = run_scope::<B, S, R, O>(
+        run.rt,
+        alloc,
+        shared,
+        slots.as_slice(),
+        run.observer,
+        run.turns,
+    )?;
     let separated = separate(alloc, ended)?;
-    let joined = close_up(alloc, beacon, seats.first, best, separated.results)?;
+    let joined = close_up(alloc, beacon, seats.first, run.best, separated.results)?;
     Ok(Ran {
         joined,
         turns: separated.turns,

@@ -5,9 +5,9 @@ ghost use Rattle.worker_results.specs.Naming.{AreThieves};
 ghost use Rattle.search_pool.specs.Rows.{AreFrom};
 
 use crate::ended::Ended;
-use crate::gate::Gate;
 use crate::unrun::Unrun;
 use crate::worker::{Shared, Slot, work_one};
+use search_core::{Observer, Strategy};
 use std::alloc::Global;
 use std::sync::Wait;
 use std::thread;
@@ -50,15 +50,16 @@ pub(crate) fn run_from<
     's,
     'e,
     B: Naming + Send + Sync + 'e,
+    S: Strategy + Send + Sync + 'e,
     R: Threads + Wait + Sync + 'e,
-    G: Gate + 'e,
+    O: Observer + 'e,
 >(
     scope: &'s Scope<'s, &'e ()>,
     rt: &'e R,
     alloc: Global,
     shared: Shared<'e>,
     slots: &'e [Slot<B>],
-    gate: &'e G,
+    observer: &'e O,
     worker: u32,
     workers: u32,
     turns: Option<u64>,
@@ -76,16 +77,16 @@ pub(crate) fn run_from<
         requires { (shared.beacon.now ≡ B.beacon) × (arc_value shared.region.now ≡ B.region)
             × AreThieves B.deque 0 shared.thieves.now }
         ensures { IfSome result (λ ended. ended.share.worker ≡ worker) }
-    { work_one(rt, alloc, shared, slot, gate, worker, own_turns) };
+    { work_one::<B, S, R, O>(rt, alloc, shared, slot, observer, worker, own_turns) };
     match scope.spawn_with(IsOf(worker), work) {
         Ok(child) => {
-            let others = run_from(
+            let others = run_from::<B, S, R, O>(
                 scope,
                 rt,
                 alloc,
                 shared,
                 rest,
-                gate,
+                observer,
                 worker + 1,
                 workers,
                 turns,
@@ -102,13 +103,13 @@ pub(crate) fn run_from<
             if berth.worker() != worker {
                 return Err(Unrun::NoThread);
             }
-            let others = run_from(
+            let others = run_from::<B, S, R, O>(
                 scope,
                 rt,
                 alloc,
                 shared,
                 rest,
-                gate,
+                observer,
                 worker + 1,
                 workers,
                 turns,
@@ -119,12 +120,17 @@ pub(crate) fn run_from<
 }
 
 /// Starts a worker for each slot, and joins them.
-pub(crate) fn run_scope<B: Naming + Send + Sync, R: Threads + Wait + Sync, G: Gate>(
+pub(crate) fn run_scope<
+    B: Naming + Send + Sync,
+    S: Strategy + Send + Sync,
+    R: Threads + Wait + Sync,
+    O: Observer,
+>(
     rt: &R,
     alloc: Global,
     shared: Shared<'_>,
     slots: &[Slot<B>],
-    gate: &G,
+    observer: &O,
     turns: Option<u64>,
 ) -> Result<Vec<Ended<B>>, Unrun>
     requires ground { (shared.beacon.now ≡ B.beacon) × (arc_value shared.region.now ≡ B.region)
@@ -142,7 +148,7 @@ pub(crate) fn run_scope<B: Naming + Send + Sync, R: Threads + Wait + Sync, G: Ga
             requires few { length slots.now ≤ 64 }
             ensures row { IfOk result (λ all. AreFrom 0 all.items) }
             ensures len { IfOk result (λ all. length all.items ≡ length slots.entry.now) }
-        { run_from::<B, R, G>(scope, rt, alloc, shared, slots, gate, 0, workers, turns) },
+        { run_from::<B, S, R, O>(scope, rt, alloc, shared, slots, observer, 0, workers, turns) },
     )?;
     // What the closure ensures isn't known here, so it is tested.
     if results.len() != slots.len() || !are_from(results.as_slice(), 0) {

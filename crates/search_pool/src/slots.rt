@@ -12,7 +12,7 @@ use beacon::{Beacon, Seat};
 use piece_deque::Owner;
 use std::alloc::{AllocError, Global};
 use std::sync::Mutex;
-use worker_results::{Berth, Naming, Own, Reach, Reaches, Share};
+use worker_results::{Access, Accesses, Berth, Naming, Own, Share};
 
 /// The first seat, and those that were split off.
 #[derive(Drop)]
@@ -61,7 +61,7 @@ pub(crate) fn owned<B: Naming>(alloc: Global, owners: Vec<Owner>) -> Result<Vec<
 #[derive(Drop)]
 struct Row<B: Naming> {
     owned: Vec<Own<B>>,
-    passes: Vec<Reach<B>>,
+    passes: Vec<Access<B>>,
 }
 
 /// Hands out a pass at each deque.
@@ -85,7 +85,7 @@ fn hand_out_row<B: Naming>(alloc: Global, owned: Vec<Own<B>>) -> Result<Row<B>, 
 #[derive(Drop)]
 pub(crate) struct Passes<B: Naming> {
     pub(crate) owned: Vec<Own<B>>,
-    pub(crate) rows: Vec<Reaches<B>>,
+    pub(crate) rows: Vec<Accesses<B>>,
 }
 
 /// Hands out a pass at each deque to each of so many workers.
@@ -105,7 +105,7 @@ pub(crate) fn hand_out<B: Naming>(
     let mut rows = Vec::with_capacity(alloc, workers as usize)?;
     for number in 0..workers {
         let row = hand_out_row(alloc, owned)?;
-        rows.push(Reaches::new(row.passes))?;
+        rows.push(Accesses::new(row.passes))?;
         owned = row.owned;
     }
     Ok(Passes { owned, rows })

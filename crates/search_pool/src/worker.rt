@@ -5,11 +5,10 @@ ghost use Rattle.worker_results.specs.Naming.{AreThieves};
 ghost use Rattle.worker_results.specs.Steps.{KeepFloors};
 
 use crate::ended::Ended;
-use crate::gate::Gate;
 use beacon::Beacon;
 use cave_regions::Region;
 use piece_deque::Thief;
-use search_core::Desk;
+use search_core::{Desk, Observer, Strategy};
 use std::alloc::Global;
 use std::sync::{Arc, Mutex, Wait};
 use worker_results::{Berth, Done, Naming, PoolDesk, Share, Step, Tried};
@@ -66,7 +65,7 @@ fn steal_from<B: Naming>(share: &mut Share<B>, thieves: &[Thief], deque: usize) 
 }
 
 /// Opens the piece that was taken last, where its name is short and that is worth while, or closes it.
-fn work_on<B: Naming, D: Desk>(
+fn work_on<B: Naming, S: Strategy, D: Desk>(
     alloc: Global,
     shared: Shared<'_>,
     share: &mut Share<B>,
@@ -78,12 +77,12 @@ fn work_on<B: Naming, D: Desk>(
     ensures same { D.region desk.new ≡ D.region desk.old }
 {
     if has_short_name(share, shared.deepest) {
-        match share.open(alloc, shared.region, desk) {
+        match share.open::<S, D>(alloc, shared.region, desk) {
             Step::NotMade => (),
             _ => return,
         }
     }
-    share.close(alloc, shared.region, desk);
+    share.close::<S, D>(alloc, shared.region, desk);
 }
 
 /// Whether the name of the piece that was taken last is shorter than this.
@@ -96,12 +95,12 @@ fn has_short_name<B: Naming>(share: &Share<B>, length: usize) -> bool {
 
 /// Takes its seat and passes from the slot, and works until it finds no piece, or its share of turns is used up. None
 /// where the slot has nothing for it.
-pub(crate) fn work_one<B: Naming, R: Wait, G: Gate>(
+pub(crate) fn work_one<B: Naming, S: Strategy, R: Wait, O: Observer>(
     rt: &R,
     alloc: Global,
     shared: Shared<'_>,
     slot: &Slot<B>,
-    gate: &G,
+    observer: &O,
     worker: u32,
     turns: Option<u64>,
 ) -> Option<Ended<B>>
@@ -120,9 +119,9 @@ pub(crate) fn work_one<B: Naming, R: Wait, G: Gate>(
             break;
         }
         if let Some(name) = share.last_name() {
-            gate.enter(worker, name);
+            observer.enter(worker, name);
         }
-        work_on(alloc, shared, &mut share, &mut desk);
+        work_on::<B, S, PoolDesk<'_, B>>(alloc, shared, &mut share, &mut desk);
         if desk.is_spent() {
             break;
         }

@@ -1,3 +1,8 @@
+pub mod ListLemmas
+pub mod BitLemmas
+pub mod WordLemmas
+pub mod CountLemmas
+pub mod WalkLemmas
 pub mod OrderLemmas
 pub mod NumberLemmas
 pub mod LightLemmas

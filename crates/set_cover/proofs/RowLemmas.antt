@@ -4,8 +4,8 @@ use Rattle.std.proofs.Common.{◌∙◌, arith}
 use Rattle.std.specs.Prelude.{◌↔◌, slice_range}
 use Rattle.std.specs.Int.{bit_at}
 use Rattle.std.proofs.lemmas.List.{length-take, get_or-take, get_or-drop}
-use Rattle.bit_rows.specs.Bits.{Has}
-use Rattle.bit_rows.proofs.BitLemmas.{one_if, has_if, has_inside}
+use Rattle.set_cover.specs.Bits.{Has}
+use Rattle.set_cover.proofs.BitLemmas.{one_if, has_if, has_inside}
 
 -- a word of a row
 word_at : (words : List ℕ) (start width k : ℕ) → k < width

@@ -1,3 +1,5 @@
 -- public clauses cite
+pub mod Bits
+pub mod Counts
 pub mod Instance
 pub mod Numbering

@@ -1,9 +1,9 @@
 ghost use Rattle.std.specs.Prelude.{◌≡◌, ◌<◌, ◌↔◌, Contains, IsTrue, length};
 ghost use Rattle.set_cover.specs.Instance.{IsInstance, IsRowAt, LightsIn, row_of};
 
+use crate::look::has;
 use crate::search::find;
-use bit_rows::has;
-use scan_core::Cell;
+use cave_base::Cell;
 use std::marker::Model;
 
 /// Cells, places, and which place lights which cell. Cells and places stand ascending, and each cell has a place that

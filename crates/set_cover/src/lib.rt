@@ -1,11 +1,20 @@
 //! An instance of set cover as rows of bits: the cells are the elements, the places the candidates, and the row of a
 //! place has a bit for each cell that a torch there lights. The problem of a cave and each of its regions are such.
+//! A row is a set of small numbers, 64 in a word; no crate above speaks of shifts.
 #![tactic(auto)]
 
+mod change;
+mod counting;
 mod instance;
+mod look;
 mod numbering;
 mod search;
+mod walk;
 
+pub use change::{add, clear, empty};
+pub use counting::{count, count_common};
 pub use instance::Instance;
+pub use look::{first, has, is_within, meet, share_at_most_one};
 pub use numbering::number;
 pub use search::find;
+pub use walk::next;

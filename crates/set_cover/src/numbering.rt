@@ -2,7 +2,7 @@ ghost use Rattle.std.specs.Prelude.{◌<◌, ◌≤◌, ◌^◌, length, All};
 ghost use Rattle.std.specs.List.Sorted.{IsStrictlyIncreasing};
 ghost use Rattle.set_cover.specs.Numbering.{Numbers};
 
-use scan_core::Cell;
+use cave_base::Cell;
 
 /// Writes down, at each of the ascending cells, its index.
 pub fn number(indices: &mut [u32], cells: &[Cell])

@@ -2,7 +2,7 @@ ghost use Rattle.std.specs.Prelude.{MatchOption, Contains};
 ghost use Rattle.std.specs.List.Sorted.{IsStrictlyIncreasing};
 ghost use Rattle.set_cover.specs.Instance.{StandsAt};
 
-use scan_core::Cell;
+use cave_base::Cell;
 
 /// Where the cell stands among ascending cells.
 pub fn find(cells: &[Cell], cell: Cell) -> Option<usize>

@@ -5,11 +5,12 @@ ghost use Rattle.cave_runs.specs.declared.fault.RunFault.{RunFault};
 ghost use Rattle.torch_plan.specs.Status.{IsRefused, end_status, judged, status};
 
 use crate::command::{Request, request_of};
+use crate::planner::run_plan;
 use crate::status::status_of;
 use crate::system::System;
 use cave_model::Rule;
 use cave_runs::{
-    Gate, Outcome, PlanOpts, RunFault, Unkept, Verdict, read_table, run_check, run_dark, run_plan,
+    Observer, Outcome, PlanOpts, RunFault, Unkept, Verdict, read_table, run_check, run_dark,
 };
 use clap::Error;
 use clap::error::ErrorKind;
@@ -36,7 +37,7 @@ fn table_of<S: System>(
 }
 
 /// The dark cells of a structure.
-fn dark<S: System, W: Write>(
+fn answer_dark<S: System, W: Write>(
     alloc: Global,
     system: &S,
     file: &str,
@@ -59,14 +60,14 @@ fn dark<S: System, W: Write>(
 }
 
 /// Plans what the reader has. The file for the proof is made, or emptied, before it is read.
-fn plan_from<X: Threads + Wait + Sync, S: System, G: Gate, R: Read, W: Write>(
+fn plan_from<X: Threads + Wait + Sync, S: System, O: Observer, R: Read, W: Write>(
     threads: &X,
     alloc: Global,
     system: &S,
     reader: &mut R,
     table: Option<&[u8]>,
     opts: &PlanOpts,
-    gate: &G,
+    observer: &O,
     proof: Option<&str>,
     output: &mut W,
 ) -> Result<Outcome, RunFault>
@@ -80,26 +81,28 @@ fn plan_from<X: Threads + Wait + Sync, S: System, G: Gate, R: Read, W: Write>(
             reader,
             table,
             opts,
-            gate,
+            observer,
             output,
             &mut Unkept,
         );
     };
     match system.create(path) {
-        Some(mut kept) => run_plan(threads, alloc, reader, table, opts, gate, output, &mut kept),
+        Some(mut kept) => run_plan(
+            threads, alloc, reader, table, opts, observer, output, &mut kept,
+        ),
         None => Err(RunFault::WriteFailed),
     }
 }
 
 /// The plan of a structure.
-fn plan<X: Threads + Wait + Sync, S: System, G: Gate, W: Write>(
+fn answer_plan<X: Threads + Wait + Sync, S: System, O: Observer, W: Write>(
     threads: &X,
     alloc: Global,
     system: &S,
     file: &str,
     table: Option<&str>,
     opts: &PlanOpts,
-    gate: &G,
+    observer: &O,
     proof: Option<&str>,
     output: &mut W,
 ) -> Result<Outcome, RunFault>
@@ -111,19 +114,19 @@ fn plan<X: Threads + Wait + Sync, S: System, G: Gate, W: Write>(
     if file == "-" {
         let mut input = system.standard();
         return plan_from(
-            threads, alloc, system, &mut input, table, opts, gate, proof, output,
+            threads, alloc, system, &mut input, table, opts, observer, proof, output,
         );
     }
     match system.open(file) {
         Some(mut input) => plan_from(
-            threads, alloc, system, &mut input, table, opts, gate, proof, output,
+            threads, alloc, system, &mut input, table, opts, observer, proof, output,
         ),
         None => Err(RunFault::ReadFailed),
     }
 }
 
 /// The verdict on a certificate. Both files are opened before either is read.
-fn check<S: System, W: Write>(
+fn answer_check<S: System, W: Write>(
     alloc: Global,
     system: &S,
     file: &str,
@@ -199,11 +202,11 @@ fn is_input<S: System>(system: &S, proof: &str, file: &str, table: Option<&str>)
 }
 
 /// Does what was asked for.
-fn answered<X: Threads + Wait + Sync, S: System, G: Gate, W: Write>(
+fn answered<X: Threads + Wait + Sync, S: System, O: Observer, W: Write>(
     threads: &X,
     alloc: Global,
     system: &S,
-    gate: &G,
+    observer: &O,
     request: &Request<'_>,
     output: &mut W,
 ) -> u8
@@ -211,7 +214,7 @@ fn answered<X: Threads + Wait + Sync, S: System, G: Gate, W: Write>(
 {
     match *request {
         Request::Dark { file, table, rule } => {
-            match dark(alloc, system, file, table, rule, output) {
+            match answer_dark(alloc, system, file, table, rule, output) {
                 Ok(()) => 0,
                 Err(fault) => refused(system, &fault),
             }
@@ -228,8 +231,8 @@ fn answered<X: Threads + Wait + Sync, S: System, G: Gate, W: Write>(
                 return 2;
             }
             system.watch(progress);
-            match plan(
-                threads, alloc, system, file, table, &opts, gate, proof, output,
+            match answer_plan(
+                threads, alloc, system, file, table, &opts, observer, proof, output,
             ) {
                 Ok(outcome) => status_of_plan(outcome),
                 Err(fault) => refused(system, &fault),
@@ -240,7 +243,7 @@ fn answered<X: Threads + Wait + Sync, S: System, G: Gate, W: Write>(
             proof,
             table,
             rule,
-        } => match check(alloc, system, file, proof, table, rule, output) {
+        } => match answer_check(alloc, system, file, proof, table, rule, output) {
             Ok(verdict) => status_of_check(verdict),
             Err(fault) => refused(system, &fault),
         },
@@ -250,13 +253,13 @@ fn answered<X: Threads + Wait + Sync, S: System, G: Gate, W: Write>(
 /// Does what the words of a command line ask for, of which the first is the program's name, and answers the exit
 /// status: 0 done, or help that was asked for; 1 refused input; 2 a mistake in usage; 3 a cell that no torch lights;
 /// 4 a certificate that is rejected; 5 a plan whose turns were spent; 6 reading or writing failed; 7 memory or threads
-/// refused (this project's own). What is asked for is written to the output, help by the system. The gate is told of
-/// a plan while it goes on.
-pub fn answer<X: Threads + Wait + Sync, S: System, G: Gate, W: Write>(
+/// refused (this project's own). What is asked for is written to the output, help by the system. The observer is told
+/// of a plan while it goes on.
+pub fn answer<X: Threads + Wait + Sync, S: System, O: Observer, W: Write>(
     threads: &X,
     alloc: Global,
     system: &S,
-    gate: &G,
+    observer: &O,
     words: &[String],
     output: &mut W,
 ) -> u8
@@ -264,7 +267,7 @@ pub fn answer<X: Threads + Wait + Sync, S: System, G: Gate, W: Write>(
     ensures silent { IsRefused result → Keeps (W.contents output.old) (W.contents output.new) }
 {
     match request_of(alloc, words) {
-        Ok(request) => answered(threads, alloc, system, gate, &request, output),
+        Ok(request) => answered(threads, alloc, system, observer, &request, output),
         Err(error) => explained(system, &error),
     }
 }

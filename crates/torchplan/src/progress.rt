@@ -2,7 +2,7 @@
 
 use std::sync::atomic::{AtomicBool, AtomicU64, Ordering};
 use std::time::Clock;
-use torch_plan::{Gate, Name, Standing, Watch};
+use torch_plan::{Advance, Name, Observer};
 
 /// How many milliseconds lie between two lines at least.
 const BETWEEN: u64 = 1000;
@@ -51,8 +51,8 @@ impl<'r> Progress<'r> {
         }
     }
 
-    fn tell(&self, standing: &Standing) {
-        let _ = eprintln!(self.rt; "torchplan: {standing}");
+    fn tell(&self, advance: &Advance) {
+        let _ = eprintln!(self.rt; "torchplan: {advance}");
     }
 
     /// Whether a line is due. The caller prints it: another thread finds none due then.
@@ -70,7 +70,7 @@ impl<'r> Progress<'r> {
     }
 }
 
-impl Watch for Progress<'_> {
+impl Observer for Progress<'_> {
     fn region(&self, number: usize, count: usize) {
         self.region.store(number as u64, Ordering::SeqCst);
         self.regions.store(count as u64, Ordering::SeqCst);
@@ -81,7 +81,7 @@ impl Watch for Progress<'_> {
     fn turn(&self, size: u64, aim: u64) {
         let before = self.turns.fetch_add(1, Ordering::SeqCst);
         if self.is_due() {
-            self.tell(&Standing::Turns {
+            self.tell(&Advance::Turns {
                 region: self.region.load(Ordering::SeqCst),
                 regions: self.regions.load(Ordering::SeqCst),
                 floor: aim.saturating_sub(1),
@@ -90,13 +90,11 @@ impl Watch for Progress<'_> {
             });
         }
     }
-}
 
-impl Gate for Progress<'_> {
     fn enter(&self, _worker: u32, _name: &Name) {
         let before = self.pieces.fetch_add(1, Ordering::SeqCst);
         if self.is_due() {
-            self.tell(&Standing::Pieces {
+            self.tell(&Advance::Pieces {
                 region: self.region.load(Ordering::SeqCst),
                 regions: self.regions.load(Ordering::SeqCst),
                 pieces: before.saturating_add(1),

@@ -5,5 +5,8 @@ pub mod Shares
 pub mod Results
 pub mod Steps
 pub mod Tries
+pub mod Joining
 -- private
 pub mod Nothing
+pub mod Apart
+pub mod Taking

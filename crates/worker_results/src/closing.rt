@@ -8,12 +8,17 @@ use crate::share::Share;
 use crate::step::Step;
 use cave_regions::Region;
 use proof_tree::floor_of;
-use search_core::{CloseFault, Desk, close_piece};
+use search_core::{CloseFault, Desk, Strategy, close_piece};
 use std::alloc::Global;
 
 impl<B: Naming> Share<B> {
     /// Closes the piece that it took last, if it is of the region, or goes on holding it.
-    pub fn close<D: Desk>(&mut self, alloc: Global, region: &Region, desk: &mut D) -> Step
+    pub fn close<S: Strategy, D: Desk>(
+        &mut self,
+        alloc: Global,
+        region: &Region,
+        desk: &mut D,
+    ) -> Step
         requires { (region.now ≡ B.region) × (D.region desk.old ≡ B.region) }
         ensures worker { self.new.worker ≡ self.old.worker }
         ensures made { result ≡ Made → ClosedLast self.old self.new }
@@ -33,7 +38,7 @@ impl<B: Naming> Share<B> {
             self.held.push_reserved(piece);
             return Step::NotMade;
         }
-        match close_piece(alloc, piece, desk) {
+        match close_piece::<S, D>(alloc, piece, desk) {
             Ok(closed) => {
                 // What is read shows that the tree closes the piece.
                 let _ = floor_of(&closed);

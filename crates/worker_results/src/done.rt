@@ -6,9 +6,9 @@ ghost use Rattle.worker_results.specs.Passes.{deques};
 ghost use Rattle.worker_results.specs.Results.{IsHandedIn, IsSeatAt, KeepsTold};
 ghost use Rattle.worker_results.specs.Shares.{AreClosedFrom, work_of};
 
+use crate::accesses::Accesses;
 use crate::naming::Naming;
 use crate::own::Own;
-use crate::reaches::Reaches;
 use crate::share::Share;
 use beacon::Seat;
 use cave_regions::Cover;
@@ -44,7 +44,7 @@ impl<B: Naming> Model for Done<B> {
 pub struct Parts<B: Naming> {
     pub seat: Seat,
     pub own: Own<B>,
-    pub reaches: Reaches<B>,
+    pub reaches: Accesses<B>,
     pub work: Work,
 }
 

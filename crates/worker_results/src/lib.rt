@@ -1,28 +1,34 @@
-//! What a worker of a parallel search has, does with pieces, and hands over.
+//! What a worker of a parallel search has, does with pieces, and hands over; and what follows from the results of all
+//! workers once they are joined: each piece that came to be was opened, closed, handed back or left in a deque, and
+//! just once.
 #![tactic(auto)]
 
+mod access;
+mod accesses;
 mod berth;
 mod closing;
+mod deques;
 mod done;
 mod draining;
+mod joined;
 mod naming;
 mod opening;
 mod own;
+mod parting;
 mod pool_desk;
 mod pushing;
-mod reach;
-mod reaches;
 mod share;
 mod splitting;
 mod step;
 mod taking;
 
+pub use access::Access;
+pub use accesses::Accesses;
 pub use berth::Berth;
 pub use done::{Done, Parts};
+pub use joined::{Joined, close_up};
 pub use naming::Naming;
 pub use own::Own;
 pub use pool_desk::PoolDesk;
-pub use reach::Reach;
-pub use reaches::Reaches;
 pub use share::Share;
 pub use step::{Step, Tried};

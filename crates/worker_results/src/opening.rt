@@ -10,13 +10,18 @@ use crate::splitting::split;
 use crate::step::Step;
 use cave_regions::Region;
 use proof_tree::{Opened, Piece};
-use search_core::Desk;
+use search_core::{Desk, Strategy};
 use std::alloc::Global;
 
 impl<B: Naming> Share<B> {
     /// Opens the piece that it took last, where that is worth while, or goes on holding it. It takes one turn. The kids
     /// go on its own deque, or are kept back where that has no room.
-    pub fn open<D: Desk>(&mut self, alloc: Global, region: &Region, desk: &mut D) -> Step
+    pub fn open<S: Strategy, D: Desk>(
+        &mut self,
+        alloc: Global,
+        region: &Region,
+        desk: &mut D,
+    ) -> Step
         requires { (region.now ≡ B.region) × (D.region desk.old ≡ B.region) }
         ensures worker { self.new.worker ≡ self.old.worker }
         ensures made { result ≡ Made → OpenedLast self.old self.new }
@@ -32,7 +37,7 @@ impl<B: Naming> Share<B> {
         let Some(piece) = self.held.pop() else {
             return Step::NotMade;
         };
-        match ready(alloc, region, piece, &mut self.refused, desk) {
+        match ready::<S, D>(alloc, region, piece, &mut self.refused, desk) {
             Ok((opened, kids)) => {
                 push_all(&mut self.own, kids, &mut self.refused);
                 self.opened.push_reserved(opened);
@@ -47,7 +52,7 @@ impl<B: Naming> Share<B> {
 }
 
 /// The piece opened, with its kids, once there is room for keeping them back and a turn was granted.
-fn ready<D: Desk>(
+fn ready<S: Strategy, D: Desk>(
     alloc: Global,
     region: &Region,
     piece: Piece,
@@ -63,7 +68,7 @@ fn ready<D: Desk>(
     ensures same { (D.region desk.new ≡ D.region desk.old) × (D.limited desk.new ≡ D.limited desk.old) }
 {
     let size = desk.look();
-    let (opened, kids) = match split(alloc, region, piece, size) {
+    let (opened, kids) = match split::<S>(alloc, region, piece, size) {
         Ok(made) => made,
         Err((piece, step)) => return Err((piece, step)),
     };

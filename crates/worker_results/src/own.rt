@@ -5,8 +5,8 @@ ghost use Rattle.piece_deque.specs.declared.answer.Take.TheVariants.{Again};
 ghost use Rattle.piece_deque.specs.Rule.{Answers, WasEmpty};
 ghost use Rattle.worker_results.specs.Passes.{IsOwners, took_in};
 
+use crate::access::Access;
 use crate::naming::Naming;
-use crate::reach::Reach;
 use piece_deque::{Owner, Take};
 use proof_tree::Piece;
 use std::marker::{Model, PhantomData};
@@ -74,16 +74,16 @@ impl<B: Naming> Own<B> {
     }
 
     /// A pass at this deque for another worker.
-    pub fn hand_out(&mut self) -> Reach<B>
+    pub fn hand_out(&mut self) -> Access<B>
         ensures same { self.new.worker ≡ self.old.worker }
         ensures own { self.new.knows ≡ one_more_out self.old.knows }
         ensures pass { result ≡ record { deque = self.old.worker; knows = thief_pass } }
     {
-        Reach::new(self.worker, piece_deque::hand_out(&mut self.owner))
+        Access::new(self.worker, piece_deque::hand_out(&mut self.owner))
     }
 
     /// Takes in another worker's pass at this deque.
-    pub fn absorb(&mut self, reach: Reach<B>)
+    pub fn absorb(&mut self, reach: Access<B>)
         requires { reach.deque ≡ self.old.worker }
         ensures same { self.new.worker ≡ self.old.worker }
         ensures done { self.new.knows ≡ took_in self.old.knows reach.knows.taken }

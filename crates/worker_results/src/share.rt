@@ -3,9 +3,9 @@ ghost use Rattle.worker_results.specs.Naming.{numbers_from};
 ghost use Rattle.worker_results.specs.Passes.{all_taken, deques};
 ghost use Rattle.worker_results.specs.Shares.{IsFresh, IsShare, work_of};
 
+use crate::accesses::Accesses;
 use crate::naming::Naming;
 use crate::own::Own;
-use crate::reaches::Reaches;
 use cave_regions::Cover;
 use proof_tree::{Closed, Name, Opened, Piece};
 use schedule_law::Work;
@@ -16,7 +16,7 @@ use std::marker::Model;
 #[derive(Drop)]
 pub struct Share<B: Naming> {
     pub(crate) own: Own<B>,
-    pub(crate) reaches: Reaches<B>,
+    pub(crate) reaches: Accesses<B>,
     pub(crate) closed: Vec<Closed>,
     pub(crate) opened: Vec<Opened>,
     pub(crate) held: Vec<Piece>,
@@ -39,7 +39,7 @@ impl<B: Naming> Model for Share<B> {
 
 impl<B: Naming> Share<B> {
     /// Nothing was taken yet, and nothing pushed but what is there at the start.
-    pub fn new(alloc: Global, own: Own<B>, reaches: Reaches<B>) -> Share<B>
+    pub fn new(alloc: Global, own: Own<B>, reaches: Accesses<B>) -> Share<B>
         requires own { (own.knows.out ≡ B.workers) × (own.knows.pushed ≡ B.start own.worker) × (own.knows.taken ≡ []) }
         requires others { all_taken reaches ≡ [] }
         ensures passes { (result.worker ≡ own.worker) × (result.own ≡ own.knows) × (result.reaches ≡ reaches) }
@@ -68,7 +68,7 @@ impl<B: Naming> Share<B> {
     }
 
     /// Its passes, and what it hands over with this cover.
-    pub fn into_parts(self, cover: Option<Cover>) -> (Own<B>, Reaches<B>, Work)
+    pub fn into_parts(self, cover: Option<Cover>) -> (Own<B>, Accesses<B>, Work)
         ensures own { (result.0.worker ≡ self.worker) × (result.0.knows ≡ self.own)
             × (result.0.knows.out ≡ B.workers) }
         ensures reaches { (result.1 ≡ self.reaches) × (deques result.1 ≡ numbers_from 0 B.workers) }

@@ -4,18 +4,18 @@ ghost use Rattle.worker_results.specs.Steps.{IsOpening};
 ghost use Rattle.worker_results.specs.declared.step.Step.TheVariants.{Made, TurnsSpent};
 
 use crate::step::Step;
+use cave_base::Cell;
 use cave_model::OutOfMemory;
 use cave_regions::Region;
 use proof_tree::{Opened, Piece};
-use scan_core::Cell;
-use search_core::cell_to_open;
+use search_core::{Strategy, cell_to_open};
 use std::alloc::Global;
 
 /// Pieces whose names are as long as this, or longer, are closed and not opened.
 const LONGEST: usize = 3;
 
 /// The piece opened on a cell, with its kids. It comes back where it isn't to be opened, or memory was refused.
-pub(crate) fn split(
+pub(crate) fn split<S: Strategy>(
     alloc: Global,
     region: &Region,
     piece: Piece,
@@ -24,7 +24,7 @@ pub(crate) fn split(
     ensures opened { IfOk result (λ made. IsOpening region.now piece made.0 made.1.items) }
     ensures back { IfErr result (λ back. (back.0 ≡ piece) × (back.1 ≢ Made) × (back.1 ≢ TurnsSpent)) }
 {
-    let Ok(found) = cell_for(alloc, region, &piece, size) else {
+    let Ok(found) = cell_for::<S>(alloc, region, &piece, size) else {
         return Err((piece, Step::OutOfMemory));
     };
     let Some(cell) = found else {
@@ -45,7 +45,7 @@ pub(crate) fn split(
 
 /// The cell to open the piece on, where it is of the region, its name is short, and the largest packing found is too
 /// small for a leaf that closes it at this size (this project's own).
-fn cell_for(
+fn cell_for<S: Strategy>(
     alloc: Global,
     region: &Region,
     piece: &Piece,
@@ -57,5 +57,5 @@ fn cell_for(
     if piece.name().as_slice().len() >= LONGEST || !region.is_same(piece.region()) {
         return Ok(None);
     }
-    cell_to_open(alloc, piece, size)
+    cell_to_open::<S>(alloc, piece, size)
 }

@@ -1,5 +1,5 @@
 use Rattle.std.proofs.Common.{[], sym, ap, ◌∙◌, string_bytes}
-use Rattle.scan_core.specs.Box.{Point, number}
+use Rattle.cave_base.specs.Box.{Point, number}
 use Rattle.cave_plan.specs.PlanText.{mark_at}
 use Rattle.cave_plan.proofs.UpToLemmas.{up_to_none, put_next}
 use Rattle.cave_plan.proofs.drawing.row_text.Goals as goal

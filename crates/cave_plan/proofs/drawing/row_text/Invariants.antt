@@ -1,5 +1,5 @@
 use Rattle.std.proofs.Common.{◌≡◌, string_bytes}
-use Rattle.scan_core.specs.Box.{number}
+use Rattle.cave_base.specs.Box.{number}
 use Rattle.cave_plan.specs.PlanText.{up_to, mark_at}
 use Rattle.cave_plan.proofs.drawing.row_text.Given as goal
 

@@ -6,8 +6,8 @@ use Rattle.cave_regions.proofs.CaveLemmas.{regions_are, regions_agree}
 use Rattle.cave_plan.proofs.FaultLemmas.{cover_names, none_named}
 use Rattle.cave_plan.proofs.outline.plan_cave.Goals as goal
 
-pub outline_of-requires-clause-regions : goal.outline_of-requires-clause-regions
-outline_of-requires-clause-regions g c κs within =
+pub outline_regions-requires-clause-regions : goal.outline_regions-requires-clause-regions
+outline_regions-requires-clause-regions g c κs within =
     let cave = c.args.world.now in let problem = c.in_ok-problem.problem in let regions =
     c.in_ok-regions.regions.items in
     let is = c.in_ok-problem.ensures.found in let are = c.in_ok-regions.ensures in

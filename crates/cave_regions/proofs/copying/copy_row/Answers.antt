@@ -1,5 +1,5 @@
 use Rattle.std.proofs.Common.{arith}
-use Rattle.bit_rows.proofs.BitLemmas.{has_inside}
+use Rattle.set_cover.proofs.BitLemmas.{has_inside}
 use Rattle.cave_regions.proofs.CopyLemmas.{copied_none, copied_next, copied_all}
 use Rattle.cave_regions.proofs.copying.copy_row.Goals as goal
 

@@ -1,5 +1,5 @@
 use Rattle.std.proofs.Common.{ℕ, length, ap, sym, subst, ◌∙◌, arith}
-use Rattle.cave_model.specs.Listing.{Lists}
+use Rattle.cave_model.specs.Listing.{ListsAll}
 use Rattle.cave_regions.specs.Joining.{AreAlone}
 use Rattle.cave_regions.specs.Restricting.{IsSelfContained, IsLighting}
 use Rattle.cave_regions.proofs.WholeLemmas.{closed_whole, chosen_all}
@@ -19,7 +19,7 @@ alone c = subst (λ (n : ℕ). AreAlone n c.deref.result.now)
 closed : (c : After-deref-2) → IsSelfContained c.args.instance.now c.deref.result.now c.deref-2.result.now
 closed c = closed_whole c.args.instance.now c.deref.result.now c.deref-2.result.now c.requires.kept
     c.requires.filled (alone c)
-    (subst (Lists (IsLighting c.args.instance.now)) (sym c.deref-2.ensures.value) c.in_ok-placed.ensures)
+    (subst (ListsAll (IsLighting c.args.instance.now)) (sym c.deref-2.ensures.value) c.in_ok-placed.ensures)
 
 pub restrict-requires-clause-closed : goal.restrict-requires-clause-closed
 restrict-requires-clause-closed c = closed (goal.at.restrict-requires-clause-closed c).After-deref-2

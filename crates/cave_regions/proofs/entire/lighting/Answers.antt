@@ -1,5 +1,5 @@
 use Rattle.std.proofs.Common.{ℕ, List, length, ap, sym, subst, arith}
-use Rattle.bit_rows.specs.Bits.{Has}
+use Rattle.set_cover.specs.Bits.{Has}
 use Rattle.cave_model.proofs.ListingLemmas.{lists_skip, lists_push, lists_all}
 use Rattle.cave_regions.specs.Restricting.{IsLighting}
 use Rattle.cave_regions.proofs.entire.lighting.Goals.{in-Some+in_ok-push, in_default}

@@ -1,5 +1,5 @@
 use Rattle.std.proofs.Common.{ℕ, List, ◌<◌, refl, sym, ◌∙◌, ap, subst, length, arith}
-use Rattle.bit_rows.specs.Bits.{Has}
+use Rattle.set_cover.specs.Bits.{Has}
 use Rattle.cave_regions.specs.Grouping.{IsPlaceOfLabel}
 use Rattle.cave_regions.proofs.BucketLemmas.{grouping_push, grouping_skip, grouping_all}
 use Rattle.cave_regions.proofs.grouping.places_by.Goals.{in-Some+in_ok-push, in_default}

@@ -1,6 +1,6 @@
 use Rattle.std.proofs.Common.{ℕ, List, ◌<◌, ◌^◌, length, arith, subst}
-use Rattle.bit_rows.specs.Bits.{IsNext, HasNoneFrom}
-use Rattle.bit_rows.proofs.BitLemmas.{has_inside}
+use Rattle.set_cover.specs.Bits.{IsNext, HasNoneFrom}
+use Rattle.set_cover.proofs.BitLemmas.{has_inside}
 use Rattle.cave_regions.proofs.TreeLemmas.{row_start, row_next, row_all}
 use Rattle.cave_regions.proofs.joining.join_row.Goals.{After-row_at-row}
 use Rattle.cave_regions.proofs.joining.join_row.Goals as goal

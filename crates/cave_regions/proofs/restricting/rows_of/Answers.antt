@@ -1,5 +1,5 @@
 use Rattle.std.proofs.Common.{◌≡◌, ◌*◌, ◌≤◌, ◌^◌, ℕ, [], length, ap, sym, subst, ◌∙◌, arith, take_at}
-use Rattle.bit_rows.specs.Bits.{IsRowOf}
+use Rattle.set_cover.specs.Bits.{IsRowOf}
 use Rattle.set_cover.specs.Instance.{words_for}
 use Rattle.cave_regions.specs.Restricting.{AreCopied}
 use Rattle.cave_regions.proofs.RestrictLemmas.{few_fit, few_words}

@@ -1,6 +1,6 @@
 use Rattle.std.proofs.Common.{◌<◌, ◌≤◌, ◌≡◌, ℕ, List, length, slice_index, refl, ap, sym, subst, arith}
 use Rattle.std.proofs.lemmas.Bool.Decides.{nat_tests}
-use Rattle.cave_model.specs.Listing.{Lists}
+use Rattle.cave_model.specs.Listing.{ListsAll}
 use Rattle.set_cover.proofs.OrderLemmas.{element_of}
 use Rattle.cave_regions.specs.Grouping.{IsCellOf, IsPlaceOfLabel, AreGroups, bucket}
 use Rattle.cave_regions.specs.Restricting.{IsSelfContained}
@@ -12,12 +12,13 @@ use Rattle.cave_regions.proofs.splitting.parts_of.Goals.{else-not-is_empty}
 use Rattle.cave_regions.proofs.splitting.parts_of.Goals as goal
 
 cells : (c : After-as_mut_slice-ranks) (label : ℕ)
-    → Lists (IsCellOf c.in_ok-labels.labels.items label) (bucket c.in_ok-cells.cells label)
+    → ListsAll (IsCellOf c.in_ok-labels.labels.items label) (bucket c.in_ok-cells.cells label)
 cells c label = (subst (λ (labels : List ℕ). AreGroups (IsCellOf labels) (length labels) c.in_ok-cells.cells)
     c.deref.ensures.value c.in_ok-cells.ensures).each label
 
 places : (c : After-as_mut_slice-ranks) (label : ℕ)
-    → Lists (IsPlaceOfLabel c.args.instance.now c.in_ok-labels.labels.items label) (bucket c.in_ok-places.places label)
+    → ListsAll (IsPlaceOfLabel c.args.instance.now c.in_ok-labels.labels.items label)
+    (bucket c.in_ok-places.places label)
 places c label = (subst (λ (labels : List ℕ). AreGroups (IsPlaceOfLabel c.args.instance.now labels)
     (length labels) c.in_ok-places.places) c.deref-2.ensures.value c.in_ok-places.ensures).each label
 
@@ -25,8 +26,8 @@ closed : (c : After-as_mut_slice-ranks) (label : ℕ) (own placed : List ℕ) �
     → placed ≡ bucket c.in_ok-places.places label → 0 < length own → IsSelfContained c.args.instance.now own placed
 closed c label own placed e f filled = closed_label c.args.instance.now c.in_ok-labels.labels.items own placed label
     c.requires.kept c.in_ok-labels.ensures.labels
-    (subst (Lists (IsCellOf c.in_ok-labels.labels.items label)) (sym e) (cells c label))
-    (subst (Lists (IsPlaceOfLabel c.args.instance.now c.in_ok-labels.labels.items label)) (sym f) (places c label))
+    (subst (ListsAll (IsCellOf c.in_ok-labels.labels.items label)) (sym e) (cells c label))
+    (subst (ListsAll (IsPlaceOfLabel c.args.instance.now c.in_ok-labels.labels.items label)) (sym f) (places c label))
     filled
 
 pub restrict-requires-clause-closed : goal.restrict-requires-clause-closed
@@ -40,15 +41,15 @@ pub loop-label-preserved : goal.loop-label-preserved
 loop-label-preserved c =
     let before = (goal.at.loop-label-preserved c).After-as_mut_slice-ranks in
     let label = c.loop-label.label in
-    let own : Lists (IsCellOf c.in_ok-labels.labels.items label) c.at-own.result.now =
-    subst (Lists (IsCellOf c.in_ok-labels.labels.items label)) (sym c.at-own.ensures) (cells before label) in
+    let own : ListsAll (IsCellOf c.in_ok-labels.labels.items label) c.at-own.result.now =
+    subst (ListsAll (IsCellOf c.in_ok-labels.labels.items label)) (sym c.at-own.ensures) (cells before label) in
     elim c.if-not-is_empty.branch [
       | then-not-is_empty+in_ok-restrict+in_ok-push w ↦
           (let filled : 0 < length c.at-own.result.now =
           grind (arith, nat_tests, c.is_empty.ensures, w.if-not-is_empty.true) in
           let shut = closed before label c.at-own.result.now w.at.result.now c.at-own.ensures w.at.ensures filled in
-          let placed : Lists (IsPlaceOfLabel c.args.instance.now c.in_ok-labels.labels.items label) w.at.result.now
-          = subst (Lists (IsPlaceOfLabel c.args.instance.now c.in_ok-labels.labels.items label)) (sym w.at.ensures)
+          let placed : ListsAll (IsPlaceOfLabel c.args.instance.now c.in_ok-labels.labels.items label) w.at.result.now
+          = subst (ListsAll (IsPlaceOfLabel c.args.instance.now c.in_ok-labels.labels.items label)) (sym w.at.ensures)
           (places before label) in
           let first = (own.exact _).0 (element_of c.at-own.result.now (slice_index c.at-own.result.now 0) 0 filled refl)
           in

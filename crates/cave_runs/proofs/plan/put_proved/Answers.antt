@@ -1,6 +1,6 @@
 use Rattle.std.proofs.Common.{string_bytes}
 use Rattle.std.proofs.lemmas.Result.{err_from_is_err_and}
-use Rattle.proof_tree.specs.PlanOf.{plans_of}
+use Rattle.certificate_text.specs.PlanOf.{plans_of}
 use Rattle.cave_runs.proofs.PlanRunLemmas.{certificate_failed, text_failed_in, written_in}
 use Rattle.cave_runs.proofs.plan.put_proved.Goals as goal
 

@@ -1,6 +1,6 @@
 use Rattle.std.proofs.Common.{◌≡◌, ◌++◌, string_bytes, drop}
 use Rattle.std.specs.List.{flat_map}
-use Rattle.scan_core.specs.Box.{point}
+use Rattle.cave_base.specs.Box.{point}
 use Rattle.cave_runs.specs.DarkText.{cell_line}
 use Rattle.cave_runs.specs.DarkText as texts
 use Rattle.cave_runs.proofs.text.dark_text.Given as goal

@@ -1,5 +1,5 @@
 use Rattle.std.proofs.Common.{◌*◌, ℕ, List, length, get_or, subst, ◌∙◌, arith}
-use Rattle.scan_core.specs.Box.{cell_count}
+use Rattle.cave_base.specs.Box.{cell_count}
 use Rattle.light_flood.specs.Levels.{ListsLit}
 use Rattle.cover_rows.specs.Filling.{AreIndices, Marks}
 use Rattle.cover_rows.proofs.FillLemmas.{lit_inside, filled_next, covered_next}

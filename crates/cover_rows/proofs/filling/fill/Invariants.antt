@@ -1,5 +1,5 @@
 use Rattle.std.proofs.Common.{◌≡◌, length}
-use Rattle.scan_core.specs.Box.{cell_count}
+use Rattle.cave_base.specs.Box.{cell_count}
 use Rattle.cover_rows.specs.Filling.{AreFilled, AreCovered}
 use Rattle.cover_rows.proofs.filling.fill.Given as goal
 

@@ -1,6 +1,6 @@
 use Rattle.std.proofs.Common.{◌≡◌, ◌*◌, ◌^◌, ◌<◌, ◌≤◌, ℕ, [], length, subst, sym, ap, ◌∙◌, arith}
-use Rattle.scan_core.specs.Box.{cell_count}
-use Rattle.bit_rows.specs.Bits.{IsRowOf}
+use Rattle.cave_base.specs.Box.{cell_count}
+use Rattle.set_cover.specs.Bits.{IsRowOf}
 use Rattle.set_cover.proofs.OrderLemmas.{few_below}
 use Rattle.cover_rows.proofs.FillLemmas.{few_words, empty_rows}
 use Rattle.cover_rows.proofs.filling.rows_of.Goals.{After-div_ceil-width}

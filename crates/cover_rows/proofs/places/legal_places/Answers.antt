@@ -1,6 +1,6 @@
 use Rattle.std.proofs.Common.{◌≡◌, ◌≤◌, sym, ◌∙◌, arith}
 use Rattle.std.proofs.lemmas.Bool.{true≢false}
-use Rattle.scan_core.specs.Box as grid
+use Rattle.cave_base.specs.Box as grid
 use Rattle.cave_model.specs.Torches.{IsPlace}
 use Rattle.cave_model.proofs.ListingLemmas.{lists_none, lists_skip, lists_push, lists_all, lists_inside}
 use Rattle.cave_model.proofs.PlaceLemmas.{place_inside}

@@ -1,5 +1,5 @@
 use Rattle.std.proofs.Common.{ℕ, ◌<◌}
-use Rattle.bit_rows.specs.Bits.{Has}
+use Rattle.set_cover.specs.Bits.{Has}
 use Rattle.cover_rows.proofs.search.first_unlit.Given as goal
 
 abbrev pub invariant-loop-index : goal.invariant-loop-index

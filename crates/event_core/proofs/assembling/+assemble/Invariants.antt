@@ -2,7 +2,7 @@ use Rattle.std.proofs.Common.{◌≡◌, ◌≤◌, ◌+◌, ◌++◌, true, tak
 use Rattle.proof_tree.specs.Shape.{tree_of}
 use Rattle.event_core.specs.Shape.{shape_size, shapes_size}
 use Rattle.event_core.specs.Finished.{are_done, AreWhole}
-use Rattle.event_core.specs.Nodes.{shape_of, shapes_of}
+use Rattle.event_core.specs.NodeShape.{shape_of, shapes_of}
 use Rattle.event_core.proofs.AssembleLemmas.{trees_of}
 use Rattle.event_core.proofs.assembling.+assemble.Given as goal
 

@@ -1,7 +1,7 @@
 use Rattle.std.proofs.Common.{ap, arith}
 use Rattle.event_core.specs.declared.node.Node.{Node}
 use Rattle.event_core.specs.Shape.{shape_size}
-use Rattle.event_core.specs.Nodes.{shape_of}
+use Rattle.event_core.specs.NodeShape.{shape_of}
 use Rattle.event_core.proofs.NodeLemmas.{kid_smaller}
 use Rattle.event_core.proofs.assembling.+done.Goals as goal
 

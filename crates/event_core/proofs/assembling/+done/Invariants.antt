@@ -1,7 +1,7 @@
 use Rattle.std.proofs.Common.{◌≡◌, drop}
 use Rattle.event_core.specs.Shape.{shape_size, shapes_size}
 use Rattle.event_core.specs.Finished.{are_done}
-use Rattle.event_core.specs.Nodes.{shape_of, shapes_of}
+use Rattle.event_core.specs.NodeShape.{shape_of, shapes_of}
 use Rattle.event_core.proofs.assembling.+done.Given as goal
 
 abbrev pub decreases-is_done : goal.decreases-is_done

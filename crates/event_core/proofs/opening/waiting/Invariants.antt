@@ -1,6 +1,6 @@
 use Rattle.std.specs.Prelude.{◌≡◌, take}
 use Rattle.event_core.specs.Finished.{all_at_rest}
-use Rattle.event_core.specs.Nodes.{shapes_of}
+use Rattle.event_core.specs.NodeShape.{shapes_of}
 use Rattle.event_core.proofs.opening.waiting.Given as goal
 
 abbrev pub invariant-loop-index : goal.invariant-loop-index

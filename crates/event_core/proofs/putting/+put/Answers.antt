@@ -1,5 +1,5 @@
 use Rattle.std.proofs.Common.{refl, ap, ◌∙◌, arith}
-use Rattle.event_core.specs.Nodes.{shape_of}
+use Rattle.event_core.specs.NodeShape.{shape_of}
 use Rattle.event_core.specs.Shape.{put_in}
 use Rattle.event_core.specs.declared.node.Node.{Node}
 use Rattle.event_core.proofs.TraceLemmas.{put_at_kid, put_at_none}

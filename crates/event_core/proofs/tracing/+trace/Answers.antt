@@ -1,6 +1,6 @@
 use Rattle.std.proofs.Common.{inl, inr, [], ◌∷◌, ◌++◌, take, length, ap, ◌∙◌, arith, List, ℕ}
 use Rattle.std.specs.Prelude.{slice_index}
-use Rattle.event_core.specs.Nodes.{shape_of}
+use Rattle.event_core.specs.NodeShape.{shape_of}
 use Rattle.event_core.proofs.TraceLemmas.{traced_same, at_no_kid, at_kid}
 use Rattle.event_core.proofs.tracing.+trace.Goals as goal
 

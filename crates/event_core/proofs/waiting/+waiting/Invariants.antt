@@ -1,6 +1,6 @@
 use Rattle.std.proofs.Common.{◌≡◌, ◌++◌, drop}
 use Rattle.event_core.specs.Shape.{shape_size, shapes_size}
-use Rattle.event_core.specs.Nodes.{shape_of, shapes_of}
+use Rattle.event_core.specs.NodeShape.{shape_of, shapes_of}
 use Rattle.event_core.specs.WaitingNames.{waiting_below}
 use Rattle.event_core.proofs.waiting.+waiting.Given as goal
 

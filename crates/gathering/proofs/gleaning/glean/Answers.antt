@@ -7,7 +7,7 @@ use Rattle.gathering.proofs.LikeLemmas.{like_one}
 use Rattle.gathering.proofs.gleaning.glean.Goals as goal
 
 pub loop-name-init : goal.loop-name-init
-loop-name-init c = (
+loop-name-init g c = (
   glean_start (state_of c.args.core.now) c.args.caller c.new-gleaned.result.items
       c.into_iter-name-iterator.result.rest.items c.in_ok-name-items.name-items.items
       c.new-gleaned.ensures.items c.into_iter-name-iterator.ensures.into_iter_gives.0 c.requires.none_held
@@ -18,13 +18,13 @@ loop-name-init c = (
 )
 
 pub glean_one-requires : goal.glean_one-requires
-glean_one-requires c = record {
+glean_one-requires g c = record {
   known = omega (arith, c.requires.known, c.loop-name.invariant.0.like.workers);
   of_it = c.loop-name.invariant.1;
 }
 
 pub loop-name-preserved : goal.loop-name-preserved
-loop-name-preserved c =
+loop-name-preserved g c =
     let now = state_of c.loop-name.core in let next = state_of c.glean_one.new.core in let name = c.in-Some.name in
     let w = c.args.caller in
     let inv = c.loop-name.invariant in let same = c.in_ok-glean_one.ensures.same in
@@ -39,7 +39,7 @@ loop-name-preserved c =
     )
 
 pub loop-name-preserved-in-Continue-branch-3 : goal.loop-name-preserved-in-Continue-branch-3
-loop-name-preserved-in-Continue-branch-3 c =
+loop-name-preserved-in-Continue-branch-3 g c =
     let now = state_of c.loop-name.core in let next = state_of c.glean_one.new.core in let name = c.in-Some.name in
     let w = c.args.caller in
     let inv = c.loop-name.invariant in let same = c.in_ok-glean_one.ensures.same in

@@ -11,7 +11,7 @@ use Rattle.gathering.proofs.LikeLemmas.{like_step}
 use Rattle.gathering.proofs.gleaning.glean_one.Goals as goal
 
 pub finish-requires : goal.finish-requires
-finish-requires c =
+finish-requires g c =
     let w = c.args.caller in let name = c.args.name.now in let piece = c.in-Some.piece in
     let k0 = c.args.core.now in let k1 = c.step.new.self in let s0 = state_of k0 in let s1 = state_of k1 in
     let done = c.in_ok-step.field-0 in
@@ -38,7 +38,7 @@ finish-requires c =
     }
 
 pub returns-in-Ok-clause-gleans : goal.returns-in-Ok-clause-gleans
-returns-in-Ok-clause-gleans c =
+returns-in-Ok-clause-gleans g c =
     let w = c.args.caller in let name = c.args.name.now in let piece = c.in-Some.piece in
     let k0 = c.args.core.now in let k1 = c.step.new.self in let s0 = state_of k0 in let s1 = state_of k1 in
     let done = c.in_ok-step.field-0 in

@@ -9,7 +9,7 @@ use Rattle.gathering.proofs.GatherLemmas.{gathered_best}
 use Rattle.gathering.proofs.merge.gather.Goals as goal
 
 pub glean-requires : goal.glean-requires
-glean-requires c =
+glean-requires g c =
     let region = arc_value c.args.region.now in let first = c.args.first.places in let root = c.args.root in
     let works = c.args.works.items in
     let counts = c.in_ok-closed_by.closed_by.items in let closed = state_of c.close_all.new.core in
@@ -28,7 +28,7 @@ glean-requires c =
     }
 
 pub returns-in-Ok-assemble-clause-gathered : goal.returns-in-Ok-assemble-clause-gathered
-returns-in-Ok-assemble-clause-gathered c =
+returns-in-Ok-assemble-clause-gathered g c =
     let region = arc_value c.args.region.now in let first = c.args.first.places in let root = c.args.root in
     let works = c.args.works.items in
     let counts = c.in_ok-closed_by.closed_by.items in let closed = state_of c.close_all.new.core in
@@ -45,7 +45,7 @@ returns-in-Ok-assemble-clause-gathered c =
     c.in-Ok-assemble.ensures.done
 
 pub returns-in-Ok-assemble-clause-best : goal.returns-in-Ok-assemble-clause-best
-returns-in-Ok-assemble-clause-best c =
+returns-in-Ok-assemble-clause-best g c =
     let region = arc_value c.args.region.now in let first = c.args.first.places in let root = c.args.root in
     let works = c.args.works.items in
     let counts = c.in_ok-closed_by.closed_by.items in let closed = state_of c.close_all.new.core in
@@ -62,7 +62,7 @@ returns-in-Ok-assemble-clause-best c =
     c.in-Ok-assemble.ensures.done
 
 pub stopped-requires-clause-of_it : goal.stopped-requires-clause-of_it
-stopped-requires-clause-of_it c =
+stopped-requires-clause-of_it g c =
     let region = arc_value c.args.region.now in let first = c.args.first.places in let root = c.args.root in
     let works = c.args.works.items in
     let counts = c.in_ok-closed_by.closed_by.items in let closed = state_of c.close_all.new.core in

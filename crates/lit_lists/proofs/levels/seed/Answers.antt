@@ -1,6 +1,6 @@
 use Rattle.std.proofs.Common.{◌≡◌, refl, arith}
 use Rattle.cave_model.specs.Cave.{class_at}
-use Rattle.scan_core.specs.Box as grid
+use Rattle.cave_base.specs.Box as grid
 use Rattle.lit_lists.proofs.SeedLemmas.{seeding_lit, seeding_unlit, seeding_all}
 use Rattle.lit_lists.proofs.levels.seed.Goals.{then-emission-gt0+in_ok-push, else-emission-gt0}
 use Rattle.lit_lists.proofs.levels.seed.Goals as goal

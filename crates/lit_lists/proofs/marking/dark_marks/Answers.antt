@@ -1,5 +1,5 @@
 use Rattle.std.proofs.Common.{◌≡◌, arith}
-use Rattle.scan_core.specs.Box as grid
+use Rattle.cave_base.specs.Box as grid
 use Rattle.cave_model.specs.Spawn.{IsDark}
 use Rattle.cave_model.proofs.TorchLemmas.{spawnable_inside}
 use Rattle.lit_lists.proofs.MarkLemmas.{marking_push, marking_all}

@@ -1,5 +1,5 @@
 use Rattle.std.proofs.Common.{◌≡◌, length}
-use Rattle.scan_core.specs.Box.{cell_count}
+use Rattle.cave_base.specs.Box.{cell_count}
 use Rattle.lit_lists.specs.Seeded.{AreUnlit}
 use Rattle.lit_lists.specs.Lists.{ArePairsBelow}
 use Rattle.lit_lists.proofs.pairs.add_all.Given as goal

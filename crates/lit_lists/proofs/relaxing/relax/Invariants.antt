@@ -1,5 +1,5 @@
 use Rattle.std.proofs.Common.{◌≡◌, ◌-◌, length, slice_index}
-use Rattle.scan_core.specs.Box.{cell_count}
+use Rattle.cave_base.specs.Box.{cell_count}
 use Rattle.lit_lists.proofs.RelaxLemmas.{Rounds}
 use Rattle.lit_lists.proofs.relaxing.relax.Given as goal
 

@@ -1,5 +1,5 @@
 use Rattle.std.proofs.Common.{ℕ, ◌<◌}
-use Rattle.bit_rows.specs.Bits.{Has, ShareAtMostOne}
+use Rattle.set_cover.specs.Bits.{Has, ShareAtMostOne}
 use Rattle.set_cover.specs.Instance.{row_of}
 use Rattle.pack_bound.proofs.judge.are_apart.Given as goal
 

@@ -1,6 +1,6 @@
 use Rattle.std.proofs.Common.{List, ℕ, ◌<◌, ap, length, take, slice_index, subst, sym, arith}
 use Rattle.std.proofs.lemmas.List.{take_more}
-use Rattle.bit_rows.specs.Bits.{IsWithout}
+use Rattle.set_cover.specs.Bits.{IsWithout}
 use Rattle.pack_bound.specs.Judged.{AreLighting}
 use Rattle.pack_bound.proofs.JudgeLemmas.{not_has, lighting_more}
 use Rattle.std.proofs.Common.{refl}

@@ -1,5 +1,5 @@
 use Rattle.std.proofs.Common.{◌≡◌}
-use Rattle.scan_core.specs.Box.{cell_count}
+use Rattle.cave_base.specs.Box.{cell_count}
 use Rattle.probes.proofs.parts.lit_from.Given as goal
 
 abbrev pub invariant-loop-cell : goal.invariant-loop-cell

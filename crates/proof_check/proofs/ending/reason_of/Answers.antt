@@ -1,6 +1,6 @@
 use Rattle.std.proofs.Common.{ℕ, subst}
 use Rattle.std.specs.Prelude.{Option}
-use Rattle.scan_core.specs.Box.{cell_count}
+use Rattle.cave_base.specs.Box.{cell_count}
 use Rattle.proof_check.specs.Ends.{DecidesBad}
 use Rattle.proof_check.proofs.ReachLemmas.{ends_illegal, ends_left, ends_regions, ends_nodes}
 use Rattle.proof_check.proofs.ending.reason_of.Goals as goal

@@ -1,5 +1,5 @@
 use Rattle.std.proofs.Common.{◌≡◌, ◌<◌, sym, ◌∙◌, arith, refl}
-use Rattle.scan_core.specs.Box as grid
+use Rattle.cave_base.specs.Box as grid
 use Rattle.lit_lists.specs.Lists.{is_marked}
 use Rattle.proof_check.specs.Ends.{is_unparted, home_of}
 use Rattle.proof_check.proofs.PartLemmas.{first_own, none_more}

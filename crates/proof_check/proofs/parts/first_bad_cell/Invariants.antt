@@ -1,5 +1,5 @@
 use Rattle.std.proofs.Common.{◌≡◌, length}
-use Rattle.scan_core.specs.Box.{cell_count}
+use Rattle.cave_base.specs.Box.{cell_count}
 use Rattle.lit_lists.specs.Seeded.{AreUnlit}
 use Rattle.proof_check.specs.Ends.{NoneBad}
 use Rattle.proof_check.proofs.parts.first_bad_cell.Given as goal

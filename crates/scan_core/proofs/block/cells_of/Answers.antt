@@ -2,7 +2,7 @@ use Rattle.std.proofs.Common.{ℕ, List, length, drop, Option, Some, codes, inl,
 use Rattle.std.proofs.lemmas.List.{take_at}
 use Rattle.std.proofs.lemmas.Result.{err_from_is_err_and}
 use Rattle.nbt_core.specs.Value.{Nbt, field}
-use Rattle.scan_core.specs.Box as grid
+use Rattle.cave_base.specs.Box as grid
 use Rattle.scan_core.specs.Cells.{ShowEntries}
 use Rattle.scan_core.specs.Faults.{entry_faults}
 use Rattle.scan_core.specs.declared.fault.Field.TheVariants as fields

@@ -1,5 +1,5 @@
 use Rattle.std.proofs.lemmas.Result.{err_from_is_err_and}
-use Rattle.scan_core.specs.Box as grid
+use Rattle.cave_base.specs.Box as grid
 use Rattle.scan_core.specs.Faults.{entry_faults}
 use Rattle.scan_core.specs.Scan.{IsEntryOf}
 use Rattle.scan_core.proofs.EachLemmas.{told_fault}

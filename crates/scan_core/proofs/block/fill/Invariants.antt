@@ -1,4 +1,4 @@
-use Rattle.scan_core.specs.Box as grid
+use Rattle.cave_base.specs.Box as grid
 use Rattle.scan_core.proofs.FillLemmas.{AreFilled}
 use Rattle.scan_core.proofs.block.fill.Given as goal
 

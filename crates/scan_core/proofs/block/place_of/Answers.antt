@@ -1,6 +1,6 @@
 use Rattle.std.proofs.Common.{sym, ◌∙◌, codes}
 use Rattle.nbt_core.specs.Value.{field}
-use Rattle.scan_core.specs.Box as grid
+use Rattle.cave_base.specs.Box as grid
 use Rattle.scan_core.specs.Faults.{place_fault}
 use Rattle.scan_core.proofs.ScanLemmas.{on_is}
 use Rattle.scan_core.proofs.ValueLemmas.{on_triple-wrong}

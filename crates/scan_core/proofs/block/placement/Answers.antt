@@ -1,5 +1,5 @@
 use Rattle.std.proofs.Common.{refl}
-use Rattle.scan_core.specs.Box as grid
+use Rattle.cave_base.specs.Box as grid
 use Rattle.scan_core.proofs.ScanLemmas.{first_two}
 use Rattle.scan_core.proofs.block.placement.Goals as goal
 

@@ -1,6 +1,6 @@
 use Rattle.std.proofs.Common.{inl, inr, ⊎_elim, ◌∙◌}
 use Rattle.std.proofs.lemmas.Result.{err_from_is_err_and}
-use Rattle.scan_core.specs.Box.{point}
+use Rattle.cave_base.specs.Box.{point}
 use Rattle.scan_core.specs.Scan.{structure}
 use Rattle.scan_core.proofs.ReadLemmas.{told_scan, fault_of-blocks}
 use Rattle.scan_core.proofs.ScanLemmas.{structure_clean}

@@ -10,7 +10,7 @@ use Rattle.search_pool.proofs.ReportLemmas.{all_by_workers, all_came, all_gleane
 use Rattle.search_pool.proofs.merging.merged.Goals as goal
 
 pub report-requires-clause-gleaned : goal.report-requires-clause-gleaned
-report-requires-clause-gleaned c =
+report-requires-clause-gleaned g c =
     let works = c.args.ran.joined.works.items in
     let left = c.args.ran.joined.left.items in
     let all = counted_at (arc_value c.args.region.now) c.args.first.places c.args.root.now works left
@@ -22,7 +22,7 @@ report-requires-clause-gleaned c =
     omega (arith, gleaned, long)
 
 pub returns-in-Ok-clause-counts : goal.returns-in-Ok-clause-counts
-returns-in-Ok-clause-counts c =
+returns-in-Ok-clause-counts g c =
     let works = c.args.ran.joined.works.items in
     let left = c.args.ran.joined.left.items in
     let tally = c.counted-counts.result in
@@ -40,7 +40,7 @@ returns-in-Ok-clause-counts c =
     }
 
 pub returns-in-Ok-clause-report : goal.returns-in-Ok-clause-report
-returns-in-Ok-clause-report c =
+returns-in-Ok-clause-report g c =
     let region = arc_value c.args.region.now in
     let works = c.args.ran.joined.works.items in
     let left = c.args.ran.joined.left.items in

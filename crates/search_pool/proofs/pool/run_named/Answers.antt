@@ -4,14 +4,14 @@ use Rattle.search_pool.proofs.CrewLemmas.{few_workers}
 use Rattle.worker_results.specs.Naming.{numbers_from}
 use Rattle.worker_results.specs.Results.{Handed}
 use Rattle.worker_results.specs.Shares.{work_of}
-use Rattle.joined_results.specs.Joining.{workers_of}
+use Rattle.worker_results.specs.Joining.{workers_of}
 use Rattle.search_pool.proofs.pool.run_named.Goals as goal
 
 pub run_scope-requires-clause-few : goal.run_scope-requires-clause-few
 run_scope-requires-clause-few g c =
     let owned = c.in_ok-passes.passes.owned.items in
     let long = owned_long owned g.B.Naming.workers c.in_ok-passes.ensures.numbers in
-    let few = few_workers c.args.workers.number c.args.workers.some in
+    let few = few_workers c.args.run.workers.number c.args.run.workers.some in
     let each = c.in_ok-slots.ensures.each in
     let same = c.requires.few.0 in
     let slice = c.as_slice.ensures.len in
@@ -34,7 +34,7 @@ returns g c =
     let ended = c.in_ok-ended.ended.items in
     let long = owned_long c.in_ok-passes.passes.owned.items g.B.Naming.workers c.in_ok-passes.ensures.numbers in
     record {
-      joined = joined.joined c.args.root.now c.requires.root c.requires.start;
+      joined = joined.joined c.args.run.root.now c.requires.root c.requires.start;
       each = (let w = ap length joined.works in
           let m = length-map (λ (done : Handed). work_of done.share done.cover)
           c.in_ok-separated.separated.results.items in

@@ -1,6 +1,6 @@
 use Rattle.std.proofs.Common.{List, subst}
 use Rattle.proof_tree.specs.Piece.{Subproblem}
-use Rattle.joined_results.specs.Joining.{StartWith}
+use Rattle.worker_results.specs.Joining.{StartWith}
 use Rattle.search_pool.specs.Deques.{AreThievesOf, pushed_at}
 use Rattle.search_pool.specs.Slots.{Owner}
 use Rattle.search_pool.proofs.StartLemmas.{owners_named, start_with, thieves_named}

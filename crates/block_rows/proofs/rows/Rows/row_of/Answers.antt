@@ -1,6 +1,6 @@
 use Rattle.std.proofs.Common.{option_copied, refl, sym, ap, ◌∙◌}
 use Rattle.block_rows.specs.declared.row.Row.{Row}
-use Rattle.block_rows.specs.Class.{IsSoundClass}
+use Rattle.cave_base.specs.Class.{IsSoundClass}
 use Rattle.block_rows.specs.Rows.{Table, fits, fits_as_wildcard}
 use Rattle.block_rows.proofs.LookUpLemmas.{row_for-user, row_for-shipped, row_for-wildcard, found_in, found_all}
 use Rattle.block_rows.proofs.LookUpLemmas.{copied_none, copied_some}

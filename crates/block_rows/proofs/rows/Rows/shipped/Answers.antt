@@ -1,5 +1,5 @@
 use Rattle.std.proofs.lemmas.List.Elements.{All-nil, All-same}
-use Rattle.block_rows.specs.Class.{IsSoundClass}
+use Rattle.cave_base.specs.Class.{IsSoundClass}
 use Rattle.block_rows.specs.Shipped.{shipped_rows}
 use Rattle.block_rows.proofs.ShippedLemmas.{shipped_sound}
 use Rattle.block_rows.proofs.rows.Rows.shipped.Goals as goal

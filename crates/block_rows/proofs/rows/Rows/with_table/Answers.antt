@@ -1,6 +1,6 @@
 use Rattle.std.proofs.lemmas.List.Elements.{All-same}
 use Rattle.toml.specs.View.{table_view}
-use Rattle.block_rows.specs.Class.{IsSoundClass}
+use Rattle.cave_base.specs.Class.{IsSoundClass}
 use Rattle.block_rows.specs.Shipped.{shipped_rows}
 use Rattle.block_rows.specs.UserTable.{elements_of, rows_of}
 use Rattle.block_rows.proofs.ShippedLemmas.{shipped_sound}

@@ -1,7 +1,7 @@
 use Rattle.std.proofs.Common.{◌<◌, ℕ, sym, subst, ◌∙◌}
 use Rattle.std.proofs.lemmas.List.{get_or_default}
-use Rattle.block_rows.specs.Class.{IsSoundClass, void}
-use Rattle.scan_core.specs.Box.{cell_count}
+use Rattle.cave_base.specs.Class.{IsSoundClass, void}
+use Rattle.cave_base.specs.Box.{cell_count}
 use Rattle.cave_model.specs.Cave.{Cave}
 use Rattle.cave_model.proofs.world.World.class_of.Goals as goal
 

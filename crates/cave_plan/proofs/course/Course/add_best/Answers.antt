@@ -1,7 +1,7 @@
 use Rattle.std.proofs.Common.{ap, ◌∙◌, ◌++◌, ◌∷◌, [], arith}
 use Rattle.std.specs.Arc.{arc_value}
 use Rattle.std.proofs.lemmas.List.{map-append}
-use Rattle.proof_tree.specs.PlanOf.{plan_of, plans_of}
+use Rattle.certificate_text.specs.PlanOf.{plan_of, plans_of}
 use Rattle.proof_tree.specs.Shape.{tree_of}
 use Rattle.cave_plan.specs.Course.{course}
 use Rattle.cave_plan.proofs.CourseLemmas.{best_added}

@@ -1,5 +1,5 @@
 use Rattle.std.proofs.Common.{ap, ◌∙◌, ◌++◌, arith}
-use Rattle.proof_tree.specs.PlanOf.{plans_of}
+use Rattle.certificate_text.specs.PlanOf.{plans_of}
 use Rattle.cave_plan.specs.Course.{course}
 use Rattle.cave_plan.proofs.CourseLemmas.{stopped_added}
 use Rattle.cave_plan.proofs.course.Course.add_stopped.Goals as goal

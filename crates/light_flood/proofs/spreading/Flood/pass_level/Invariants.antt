@@ -1,5 +1,5 @@
 use Rattle.std.proofs.Common.{◌≡◌}
-use Rattle.scan_core.specs.Box.{cell_count}
+use Rattle.cave_base.specs.Box.{cell_count}
 use Rattle.light_flood.proofs.LevelLemmas.{PassingLevel}
 use Rattle.light_flood.proofs.spreading.Flood.pass_level.Given as goal
 

@@ -1,5 +1,5 @@
 use Rattle.std.proofs.Common.{◌≡◌}
-use Rattle.scan_core.specs.Box.{cell_count}
+use Rattle.cave_base.specs.Box.{cell_count}
 use Rattle.light_flood.proofs.LevelLemmas.{Passing}
 use Rattle.light_flood.proofs.spreading.Flood.spread.Given as goal
 

@@ -6,8 +6,8 @@ use Rattle.nbt_core.specs.TreeReading.{value_at}
 use Rattle.nbt_core.proofs.ItemsLoop.{items-push, items_go_on, items_end, items_done}
 use Rattle.nbt_core.proofs.MembersLoop.{members-push, members_go_on, members_done, members_no_kind, members_no_name}
 use Rattle.nbt_core.proofs.MembersLoop.{members_no_payload}
-use Rattle.nbt_core.proofs.Lists.{list_no_kind, list_no_count, list_no_items, list_full, list_empty, list_bad}
-use Rattle.nbt_core.proofs.Lists.{compound_full, compound_fails}
+use Rattle.nbt_core.proofs.ListLemmas.{list_no_kind, list_no_count, list_no_items, list_full, list_empty, list_bad}
+use Rattle.nbt_core.proofs.ListLemmas.{compound_full, compound_fails}
 use Rattle.nbt_core.proofs.Steps.{value_leaf, value_list, value_compound, value_too_deep_list, value_too_deep_compound}
 use Rattle.nbt_core.proofs.reader.Reader.+payload.Goals as goal
 

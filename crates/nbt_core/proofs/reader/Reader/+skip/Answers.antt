@@ -5,7 +5,7 @@ use Rattle.nbt_core.specs.LeafReading.{leaf_at}
 use Rattle.nbt_core.specs.TreeReading.{value_at}
 use Rattle.nbt_core.proofs.ItemsLoop.{items_end}
 use Rattle.nbt_core.proofs.MembersLoop.{members_no_kind, members_no_name, members_no_payload}
-use Rattle.nbt_core.proofs.Lists.{list_no_kind, list_no_count, list_bad}
+use Rattle.nbt_core.proofs.ListLemmas.{list_no_kind, list_no_count, list_bad}
 use Rattle.nbt_core.proofs.SkipLemmas.{skips_mapped, none_passed, item_passed, items_passed, no_member_passed}
 use Rattle.nbt_core.proofs.SkipLemmas.{member_passed, members_passed, list_passed, list_none, compound_passed}
 use Rattle.nbt_core.proofs.Steps.{value_leaf, value_list, value_compound, value_too_deep_list, value_too_deep_compound}

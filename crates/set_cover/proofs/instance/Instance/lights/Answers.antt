@@ -1,5 +1,5 @@
 use Rattle.std.proofs.Common.{ℕ, List, subst, sym}
-use Rattle.bit_rows.specs.Bits.{Has}
+use Rattle.set_cover.specs.Bits.{Has}
 use Rattle.set_cover.specs.Instance.{StandsAt}
 use Rattle.set_cover.proofs.LightLemmas.{by_bit}
 use Rattle.set_cover.proofs.instance.Instance.lights.Goals as goal

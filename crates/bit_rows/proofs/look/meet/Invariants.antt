@@ -1,5 +1,0 @@
-use Rattle.bit_rows.proofs.WordLemmas.{ApartSoFar}
-use Rattle.bit_rows.proofs.look.meet.Given as goal
-
-abbrev pub invariant-loop-index : goal.invariant-loop-index
-invariant-loop-index l = ApartSoFar l.one l.two l.index

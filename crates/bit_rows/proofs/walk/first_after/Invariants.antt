@@ -1,5 +1,0 @@
-use Rattle.bit_rows.proofs.WalkLemmas.{AreZero}
-use Rattle.bit_rows.proofs.walk.first_after.Given as goal
-
-abbrev pub invariant-loop-index : goal.invariant-loop-index
-invariant-loop-index l = AreZero l.words l.word l.index

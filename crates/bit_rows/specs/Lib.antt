@@ -1,3 +1,0 @@
--- public clauses cite
-pub mod Bits
-pub mod Counts

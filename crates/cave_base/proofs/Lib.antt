@@ -1,0 +1,2 @@
+pub mod CellLemmas
+pub mod ClassLemmas

@@ -1,0 +1,4 @@
+-- public clauses cite
+pub mod Box
+pub mod Class
+pub mod Answer

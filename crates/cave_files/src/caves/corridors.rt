@@ -1,0 +1,168 @@
+//! Corridors, two high but for one, and the parts of a corridor of 27 cells.
+
+use super::blocks::{AIR, FELT, STAIRS, STONE, TORCH};
+use crate::structure::{Fill, Structure};
+
+/// All of the box of a corridor of 27 cells.
+pub const ROCK: Fill = Fill {
+    from: [0, 0, 0],
+    to: [28, 3, 2],
+    state: Some(0),
+};
+
+/// The corridor itself: 27 cells long, two high.
+pub const DUG: Fill = Fill {
+    from: [1, 1, 1],
+    to: [27, 2, 1],
+    state: Some(1),
+};
+
+/// The palette's third state in a corner of the box.
+pub const IN_A_CORNER: Fill = Fill {
+    from: [0, 0, 0],
+    to: [0, 0, 0],
+    state: Some(2),
+};
+
+/// The same in the ground of the corridor's middle.
+pub const BELOW_THE_MIDDLE: Fill = Fill {
+    from: [14, 0, 1],
+    to: [14, 0, 1],
+    state: Some(2),
+};
+
+/// No entry in the lower cell of the corridor's middle.
+pub const VOID_OF_ONE: Fill = Fill {
+    from: [14, 1, 1],
+    to: [14, 1, 1],
+    state: None,
+};
+
+/// No entry in both cells of the corridor's middle.
+pub const VOID_OF_TWO: Fill = Fill {
+    from: [14, 1, 1],
+    to: [14, 2, 1],
+    state: None,
+};
+
+/// A corridor of 27 cells, two high, which one torch lights.
+pub const CORRIDOR_27: Structure<'static> = Structure {
+    size: [29, 4, 3],
+    palette: &[STONE, AIR],
+    fills: &[ROCK, DUG],
+    more: &[],
+};
+
+/// A corridor of 27 cells with a torch in its middle.
+pub const LIT_27: Structure<'static> = Structure {
+    size: [29, 4, 3],
+    palette: &[STONE, AIR, TORCH],
+    fills: &[
+        ROCK,
+        DUG,
+        Fill {
+            from: [14, 1, 1],
+            to: [14, 1, 1],
+            state: Some(2),
+        },
+    ],
+    more: &[],
+};
+
+/// A corridor of 27 cells in felt, where nothing holds a torch.
+pub const FELT_27: Structure<'static> = Structure {
+    size: [29, 4, 3],
+    palette: &[FELT, AIR],
+    fills: &[ROCK, DUG],
+    more: &[],
+};
+
+/// A corridor of 27 cells, one high.
+pub const LOW_27: Structure<'static> = Structure {
+    size: [29, 4, 3],
+    palette: &[STONE, AIR],
+    fills: &[
+        ROCK,
+        Fill {
+            from: [1, 1, 1],
+            to: [27, 1, 1],
+            state: Some(1),
+        },
+    ],
+    more: &[],
+};
+
+/// A corridor of 27 cells with a block in a corner of its box that no shipped row names.
+pub const STAIRS_27: Structure<'static> = Structure {
+    size: [29, 4, 3],
+    palette: &[STONE, AIR, STAIRS],
+    fills: &[ROCK, DUG, IN_A_CORNER],
+    more: &[],
+};
+
+/// A corridor of 28 cells, two high, which needs two torches.
+pub const CORRIDOR_28: Structure<'static> = Structure {
+    size: [30, 4, 3],
+    palette: &[STONE, AIR],
+    fills: &[
+        Fill {
+            from: [0, 0, 0],
+            to: [29, 3, 2],
+            state: Some(0),
+        },
+        Fill {
+            from: [1, 1, 1],
+            to: [28, 2, 1],
+            state: Some(1),
+        },
+    ],
+    more: &[],
+};
+
+/// Two corridors of 27 cells side by side, with a wall between.
+pub const TWO_CORRIDORS: Structure<'static> = Structure {
+    size: [29, 4, 5],
+    palette: &[STONE, AIR],
+    fills: &[
+        Fill {
+            from: [0, 0, 0],
+            to: [28, 3, 4],
+            state: Some(0),
+        },
+        Fill {
+            from: [1, 1, 1],
+            to: [27, 2, 1],
+            state: Some(1),
+        },
+        Fill {
+            from: [1, 1, 3],
+            to: [27, 2, 3],
+            state: Some(1),
+        },
+    ],
+    more: &[],
+};
+
+/// Four arms of 14 cells round a centre, two high: largest first takes five torches, and four do.
+pub const PLUS: Structure<'static> = Structure {
+    size: [31, 4, 31],
+    palette: &[STONE, AIR],
+    fills: &[
+        Fill {
+            from: [0, 0, 0],
+            to: [30, 3, 30],
+            state: Some(0),
+        },
+        Fill {
+            from: [1, 1, 15],
+            to: [29, 2, 15],
+            state: Some(1),
+        },
+        Fill {
+            from: [15, 1, 1],
+            to: [15, 2, 29],
+            state: Some(1),
+        },
+    ],
+    more: &[],
+};

@@ -1,6 +1,0 @@
-use Rattle.std.proofs.Common.{◌≡◌, map, take}
-use Rattle.cave_model.specs.Building.{class_by}
-use Rattle.cave_model.proofs.building.cell_classes.Given as goal
-
-abbrev pub invariant-loop-cell : goal.invariant-loop-cell
-invariant-loop-cell l = l.all.items ≡ map (class_by l.classes) (take l.cell-index l.cells)

@@ -1,5 +1,0 @@
-use Rattle.cave_model.specs.Building.{AreClassesOf}
-use Rattle.cave_model.proofs.building.state_classes.Given as goal
-
-abbrev pub invariant-loop-index : goal.invariant-loop-index
-invariant-loop-index l = AreClassesOf l.scan.cells l.palette l.rows l.index l.classes.items

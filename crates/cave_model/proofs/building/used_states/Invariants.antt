@@ -1,6 +1,0 @@
-use Rattle.std.proofs.Common.{length, take}
-use Rattle.cave_model.specs.Building.{AreUsed}
-use Rattle.cave_model.proofs.building.used_states.Given as goal
-
-abbrev pub invariant-loop-cell : goal.invariant-loop-cell
-invariant-loop-cell l = AreUsed (take l.cell-index l.cell-items) (length l.scan.palette) l.used.items

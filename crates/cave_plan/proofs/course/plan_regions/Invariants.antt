@@ -1,0 +1,7 @@
+use Rattle.certificate_text.specs.PlanOf.{plans_of}
+use Rattle.cave_plan.specs.Course.{IsCourse, course}
+use Rattle.cave_plan.proofs.course.plan_regions.Given as goal
+
+abbrev pub invariant-loop-region : goal.invariant-loop-region
+invariant-loop-region g l = IsCourse l.yielded l.fn.turns
+    (course l.course.torches.items l.course.floor l.course.stopped (plans_of l.course.parts.items))

@@ -1,0 +1,3 @@
+pub mod StateLemmas
+pub mod CaveLemmas
+pub mod ReadLemmas

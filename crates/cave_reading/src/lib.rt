@@ -1,0 +1,12 @@
+//! The cave that bytes tell: a structure and a table of rows make the class of each cell.
+#![tactic(auto)]
+
+mod building;
+mod cave_fault;
+mod fault;
+mod reading;
+
+pub use building::build;
+pub use cave_fault::CaveFault;
+pub use fault::BuildFault;
+pub use reading::read_cave;

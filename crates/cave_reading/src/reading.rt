@@ -1,0 +1,57 @@
+ghost use Rattle.std.specs.Prelude.{◌≡◌, ◌≢◌, IfOk, IfErr, option_copied};
+ghost use Rattle.block_rows.specs.Rows.{Table};
+ghost use Rattle.block_rows.specs.declared.fault.RowsFault.{RowsFault};
+ghost use Rattle.cave_base.specs.Answer.{IsAnswer, IsRefusal};
+ghost use Rattle.cave_reading.specs.Bytes.{IsCaveOfBytes, IsFaultOfBytes};
+ghost use Rattle.cave_reading.specs.Bytes.{IsTableFault, IsTableFor};
+ghost use Rattle.cave_model.specs.Cave.{Cave};
+ghost use Rattle.cave_model.specs.RuleOf.{rule_of};
+ghost use Rattle.cave_reading.specs.declared.cave_fault.CaveFault.{CaveFault};
+
+use crate::building::build;
+use crate::cave_fault::CaveFault;
+use block_rows::{Rows, RowsFault};
+use cave_model::{Rule, World};
+use scan_core::read_scan;
+use std::alloc::Global;
+
+/// The rows of the user's table, where there is one, before the shipped ones.
+fn rows_for(alloc: Global, table: Option<&[u8]>) -> Result<Rows, RowsFault>
+    ensures found { IfOk result (IsTableFor (option_copied table.entry)) }
+    ensures only { (rows : Table) → IsTableFor (option_copied table.entry) rows
+        → IsAnswer RowsFault.OutOfMemory result (λ x. x ≡ rows) }
+    ensures fault { IfErr result (λ e. e ≢ RowsFault.OutOfMemory → IsTableFault (option_copied table.entry) e) }
+    ensures refused { (e : RowsFault) → IsTableFault (option_copied table.entry) e
+        → IsRefusal RowsFault.OutOfMemory result e }
+{
+    match table {
+        Some(text) => Rows::with_table(alloc, text),
+        None => Rows::shipped(alloc),
+    }
+}
+
+/// The cave that the bytes of a structure tell by the rows of the user's table, where there is one, before the shipped
+/// ones. A fault of the structure goes before one of the table, and that before an unknown block.
+pub fn read_cave(
+    alloc: Global,
+    structure: &[u8],
+    table: Option<&[u8]>,
+    rule: Rule,
+) -> Result<World, CaveFault>
+    // What is answered is that cave.
+    ensures found { IfOk result (IsCaveOfBytes structure.now (option_copied table.entry) (rule_of rule)) }
+    // Such a cave is answered.
+    ensures only { (cave : Cave) → IsCaveOfBytes structure.now (option_copied table.entry) (rule_of rule) cave
+        → IsAnswer CaveFault.OutOfMemory result (λ x. x ≡ cave) }
+    // A fault is the first of the bytes.
+    ensures fault { IfErr result (λ e. e ≢ CaveFault.OutOfMemory
+        → IsFaultOfBytes structure.now (option_copied table.entry) e) }
+    // Such a fault is answered.
+    ensures refused { (e : CaveFault) → IsFaultOfBytes structure.now (option_copied table.entry) e
+        → IsRefusal CaveFault.OutOfMemory result e }
+{
+    let scan = read_scan(alloc, structure)?;
+    let rows = rows_for(alloc, table)?;
+    let world = build(alloc, &scan, &rows, rule)?;
+    Ok(world)
+}

@@ -1,0 +1,6 @@
+pub mod WritingLemmas
+pub mod SentLemmas
+pub mod NodeLemmas
+pub mod SectionLemmas
+pub mod PlanLemmas
+pub mod WholeLemmas

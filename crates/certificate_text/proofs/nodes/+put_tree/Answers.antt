@@ -1,0 +1,115 @@
+use Rattle.std.proofs.Common.{◌∙◌, ◌∷◌, [], ◌++◌, List, ℕ, length, codes, string_bytes, subst, sym, ap, arith, rules}
+use Rattle.std.proofs.lemmas.Result.{err_from_is_err_and}
+use Rattle.proof_rules.specs.Tree.{Tree, Forest, leaf, branch, bar}
+use Rattle.proof_rules.specs.Text.{line}
+use Rattle.certificate_text.specs.Lines.{tree_text, forest_text, HasDistinctCells}
+use Rattle.proof_tree.specs.Shape.{tree_of, forest_of, tree_size}
+use Rattle.certificate_text.specs.Writing.{IsSent, AppendsPart, Passes}
+use Rattle.proof_tree.specs.declared.proof.Proof.{Proof}
+use Rattle.certificate_text.proofs.NodeLemmas.{leaf_text, branch_text, count_trees, err_sent, then_sent, none_sent}
+use Rattle.certificate_text.proofs.NodeLemmas.{next_distinct, one_sent, failed_sent, tree_below}
+use Rattle.certificate_text.proofs.nodes.+put_tree.Goals as goal
+
+pub put_tree-returns-in_ok-numbers-in-Leaf : goal.put_tree-returns-in_ok-numbers-in-Leaf
+put_tree-returns-in_ok-numbers-in-Leaf g t c =
+    let cells = c.as_slice.result.now in
+    let numbers = c.deref.ensures.value ∙ c.in_ok-numbers-in-Leaf.ensures in
+    let text = ap (λ (l : List ℕ). line (codes "L") l ++ 10 ∷ []) numbers ∙ leaf_text cells
+    ∙ ap (λ (l : List ℕ). tree_text (leaf l)) c.as_slice.ensures
+    ∙ ap (λ (p : Proof). tree_text (tree_of p)) (sym c.in-Leaf.is) in
+    subst (IsSent c.put_line.result (g.W.Write.contents c.args.writer.now) (string_bytes c.args.buffer.now)
+    (g.W.Write.contents c.put_line.new.writer) (string_bytes c.put_line.new.buffer)) text c.put_line.ensures
+
+pub put_tree-returns-in_err-put_line-in-Branch : goal.put_tree-returns-in_err-put_line-in-Branch
+put_tree-returns-in_err-put_line-in-Branch g t c =
+    let p = err_from_is_err_and c.from_residual-in_err-put_line-in-Branch.result
+    c.from_residual-in_err-put_line-in-Branch.ensures.1 in
+    let kids = forest_of c.trees-trees.result.now in
+    let whole = branch_text c.in-Branch.cell (length c.trees-trees.result.now) kids
+    (sym (count_trees c.trees-trees.result.now))
+    ∙ ap (λ (f : Forest). tree_text (branch c.in-Branch.cell f)) (sym c.trees-trees.ensures)
+    ∙ ap (λ (q : Proof). tree_text (tree_of q)) (sym c.in-Branch.is) in
+    err_sent c.from_residual-in_err-put_line-in-Branch.result p.0 (g.W.Write.contents c.args.writer.now)
+    (g.W.Write.contents c.put_line-in-Branch.new.writer) (string_bytes c.args.buffer.now)
+    (string_bytes c.put_line-in-Branch.new.buffer)
+    (line (codes "B") (c.in-Branch.cell ∷ length c.trees-trees.result.now ∷ []) ++ 10 ∷ [])
+    (forest_text kids) _ p.1 whole c.in_err-put_line-in-Branch.ensures
+
+pub put_tree-returns-in_ok-put_line-in-Branch : goal.put_tree-returns-in_ok-put_line-in-Branch
+put_tree-returns-in_ok-put_line-in-Branch g t c =
+    let kids = forest_of c.trees-trees.result.now in
+    let whole = branch_text c.in-Branch.cell (length c.trees-trees.result.now) kids
+    (sym (count_trees c.trees-trees.result.now))
+    ∙ ap (λ (f : Forest). tree_text (branch c.in-Branch.cell f)) (sym c.trees-trees.ensures)
+    ∙ ap (λ (q : Proof). tree_text (tree_of q)) (sym c.in-Branch.is) in
+    then_sent c.put_trees.result (g.W.Write.contents c.args.writer.now)
+    (g.W.Write.contents c.put_line-in-Branch.new.writer) (g.W.Write.contents c.put_trees.new.writer)
+    (string_bytes c.args.buffer.now) (string_bytes c.put_line-in-Branch.new.buffer)
+    (string_bytes c.put_trees.new.buffer)
+    (line (codes "B") (c.in-Branch.cell ∷ length c.trees-trees.result.now ∷ []) ++ 10 ∷ [])
+    (forest_text kids) _ whole c.in_ok-put_line-in-Branch.ensures c.put_trees.ensures
+
+pub put_tree-returns-in_err-put_line-in-Bar : goal.put_tree-returns-in_err-put_line-in-Bar
+put_tree-returns-in_err-put_line-in-Bar g t c =
+    let p = err_from_is_err_and c.from_residual-in_err-put_line-in-Bar.result
+    c.from_residual-in_err-put_line-in-Bar.ensures.1 in
+    let whole = ap (λ (q : Proof). tree_text (tree_of q)) (sym c.in-Bar.is) in
+    err_sent c.from_residual-in_err-put_line-in-Bar.result p.0 (g.W.Write.contents c.args.writer.now)
+    (g.W.Write.contents c.put_line-in-Bar.new.writer) (string_bytes c.args.buffer.now)
+    (string_bytes c.put_line-in-Bar.new.buffer)
+    (line (codes "E") (c.in-Bar.place ∷ c.in-Bar.by ∷ []) ++ 10 ∷ [])
+    (tree_text c.in-Bar.kid) _ p.1 whole c.in_err-put_line-in-Bar.ensures
+
+pub put_tree-returns-in_ok-put_line-in-Bar : goal.put_tree-returns-in_ok-put_line-in-Bar
+put_tree-returns-in_ok-put_line-in-Bar g t c =
+    let below = tree_of c.tree.result.now in
+    let whole = ap (λ (k : Tree). tree_text (bar c.in-Bar.place c.in-Bar.by k)) c.tree.ensures
+    ∙ ap (λ (q : Proof). tree_text (tree_of q)) (sym c.in-Bar.is) in
+    then_sent c.put_tree.result (g.W.Write.contents c.args.writer.now)
+    (g.W.Write.contents c.put_line-in-Bar.new.writer) (g.W.Write.contents c.put_tree.new.writer)
+    (string_bytes c.args.buffer.now) (string_bytes c.put_line-in-Bar.new.buffer) (string_bytes c.put_tree.new.buffer)
+    (line (codes "E") (c.in-Bar.place ∷ c.in-Bar.by ∷ []) ++ 10 ∷ [])
+    (tree_text below) _ whole c.in_ok-put_line-in-Bar.ensures c.put_tree.ensures
+
+pub put_trees-loop-tree-init : goal.put_trees-loop-tree-init
+put_trees-loop-tree-init g t c = none_sent (g.W.Write.contents c.args.writer.now)
+    (string_bytes c.args.buffer.now) c.args.trees.now c.requires
+
+pub put_trees-put_tree-requires : goal.put_trees-put_tree-requires
+put_trees-put_tree-requires g t c κs within =
+    let i = c.loop-tree.tree-index in
+    let same = ap (λ (p : Proof). tree_size (tree_of p)) c.tree-item.is in
+    let below = tree_below c.args.trees.now i c.tree-item.result c.loop-tree-test.true in
+    let distinct = next_distinct (g.W.Write.contents c.args.writer.now) (string_bytes c.args.buffer.now)
+    (g.W.Write.contents c.loop-tree.writer) (string_bytes c.loop-tree.buffer) c.args.trees.now i c.tree-item.result
+    c.loop-tree-test.true c.loop-tree.invariant in (
+      omega (arith, below, same, c.decreases),
+      (
+        search rules,
+        subst (λ (p : Proof). HasDistinctCells (tree_of p))
+            (sym c.tree-item.is) distinct.0,
+      ),
+    )
+
+pub put_trees-returns-in_err-put_tree : goal.put_trees-returns-in_err-put_tree
+put_trees-returns-in_err-put_tree g t c =
+    let p = err_from_is_err_and c.from_residual.result c.from_residual.ensures.1 in
+    let part = subst (λ (q : Proof). AppendsPart (g.W.Write.contents c.loop-tree.writer)
+    (g.W.Write.contents c.put_tree.new.writer) (string_bytes c.loop-tree.buffer ++ tree_text (tree_of q)))
+    c.tree-item.is c.in_err-put_tree.ensures in
+    failed_sent c.from_residual.result p.0 (g.W.Write.contents c.args.writer.now) (string_bytes c.args.buffer.now)
+    (g.W.Write.contents c.loop-tree.writer) (string_bytes c.loop-tree.buffer) c.args.trees.now c.loop-tree.tree-index
+    c.tree-item.result
+    (g.W.Write.contents c.put_tree.new.writer)
+    (string_bytes c.put_tree.new.buffer) p.1 c.loop-tree-test.true c.loop-tree.invariant part
+
+pub put_trees-loop-tree-preserved : goal.put_trees-loop-tree-preserved
+put_trees-loop-tree-preserved g t c =
+    let passed = subst (λ (q : Proof). Passes (g.W.Write.contents c.loop-tree.writer) (string_bytes c.loop-tree.buffer)
+    (g.W.Write.contents c.put_tree.new.writer) (string_bytes c.put_tree.new.buffer) (tree_text (tree_of q)))
+    c.tree-item.is c.in_ok-put_tree.ensures in
+    one_sent (g.W.Write.contents c.args.writer.now) (string_bytes c.args.buffer.now)
+    (g.W.Write.contents c.loop-tree.writer) (string_bytes c.loop-tree.buffer) c.args.trees.now c.loop-tree.tree-index
+    c.tree-item.result
+    (g.W.Write.contents c.put_tree.new.writer)
+    (string_bytes c.put_tree.new.buffer) c.loop-tree-test.true c.loop-tree.invariant passed

@@ -1,0 +1,16 @@
+//! The text of a certificate, written line by line from plans of regions.
+#![tactic(auto)]
+
+mod buffer;
+mod certificate;
+mod fault;
+mod heading;
+mod line;
+mod nodes;
+mod omission;
+mod sections;
+mod writing;
+
+pub use certificate::{Planned, write_certificate};
+pub use fault::WriteFault;
+pub use writing::put_all;

@@ -1,0 +1,100 @@
+//! The lines of a tree: one a node, a node before its kids, and the kids in order.
+ghost use Rattle.std.specs.Prelude.{◌≡◌, ◌∷◌, IfOk, length, string_bytes};
+ghost use Rattle.cave_model.specs.Plan.{AreDistinct};
+ghost use Rattle.certificate_text.specs.Lines.{HasDistinctCells, HaveDistinctCells, forest_text, tree_text};
+ghost use Rattle.proof_tree.specs.Order.{in_order};
+ghost use Rattle.proof_tree.specs.Shape.{forest_of, tree_of};
+ghost use Rattle.certificate_text.specs.Writing.{IsSent};
+
+use crate::fault::WriteFault;
+use crate::line::put_line;
+use cave_base::Cell;
+use proof_tree::Proof;
+use std::alloc::{AllocError, Global};
+use std::io::Write;
+
+/// The cells in order.
+pub fn ordered(alloc: Global, cells: &[Cell]) -> Result<Vec<Cell>, AllocError>
+    requires { AreDistinct cells.now }
+    ensures { IfOk result (λ v. v.items ≡ in_order cells.now) }
+{
+    let mut ordered = Vec::from_slice(alloc, cells)?;
+    ordered.sort_unstable();
+    Ok(ordered)
+}
+
+/// The same numbers in more room.
+pub fn widened(alloc: Global, cells: &[Cell]) -> Result<Vec<u64>, AllocError>
+    ensures { IfOk result (λ v. v.items ≡ cells.now) }
+{
+    let mut numbers = Vec::with_capacity(alloc, cells.len())?;
+    for cell in cells {
+        numbers.push(*cell as u64)?;
+    }
+    Ok(numbers)
+}
+
+/// The number of the cells, and the cells in order.
+fn counted(alloc: Global, cells: &[Cell]) -> Result<Vec<u64>, AllocError>
+    requires { AreDistinct cells.now }
+    ensures { IfOk result (λ v. v.items ≡ length cells.now ∷ in_order cells.now) }
+{
+    let ordered = ordered(alloc, cells)?;
+    let mut numbers = vec![in alloc; cells.len() as u64]?;
+    let wide = widened(alloc, &ordered)?;
+    numbers.extend_from_slice(&wide)?;
+    Ok(numbers)
+}
+
+/// Puts the lines of a tree behind what is on its way.
+#[cycle(put_tree)]
+pub fn put_tree<W: Write>(
+    alloc: Global,
+    writer: &mut W,
+    buffer: &mut String,
+    proof: &Proof,
+) -> Result<(), WriteFault>
+    requires { HasDistinctCells (tree_of proof.now) }
+    ensures { IsSent result (W.contents writer.old) (string_bytes buffer.old) (W.contents writer.new)
+        (string_bytes buffer.new) (tree_text (tree_of proof.now)) }
+{
+    match proof {
+        Proof::Leaf(cells) => {
+            let numbers = counted(alloc, cells.as_slice())?;
+            put_line(alloc, writer, buffer, "L", &numbers)
+        }
+        Proof::Branch { cell, kids } => {
+            let trees = kids.trees();
+            put_line(
+                alloc,
+                writer,
+                buffer,
+                "B",
+                &[*cell as u64, trees.len() as u64],
+            )?;
+            put_trees(alloc, writer, buffer, trees)
+        }
+        Proof::Bar { place, by, kid } => {
+            put_line(alloc, writer, buffer, "E", &[*place as u64, *by as u64])?;
+            put_tree(alloc, writer, buffer, kid.tree())
+        }
+    }
+}
+
+/// Puts the lines of trees behind what is on its way, one tree after another.
+#[cycle(put_tree)]
+fn put_trees<W: Write>(
+    alloc: Global,
+    writer: &mut W,
+    buffer: &mut String,
+    trees: &[Proof],
+) -> Result<(), WriteFault>
+    requires { HaveDistinctCells (forest_of trees.now) }
+    ensures { IsSent result (W.contents writer.old) (string_bytes buffer.old) (W.contents writer.new)
+        (string_bytes buffer.new) (forest_text (forest_of trees.now)) }
+{
+    for tree in trees {
+        put_tree(alloc, writer, buffer, tree)?;
+    }
+    Ok(())
+}

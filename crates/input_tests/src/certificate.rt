@@ -1,0 +1,7 @@
+//! The worked certificates and changes of them, judged against caves built byte by byte.
+mod faults;
+mod forged;
+mod judging;
+mod proofs;
+mod streams;
+mod worked;

@@ -1,0 +1,21 @@
+//! Set cover instances made smaller: places that another outdoes and cells that another makes needless are dropped, by
+//! column and row dominance. All of it proposes, and nothing is promised of it but that it ends and stays in bounds:
+//! judges accept or refuse.
+#![tactic(auto)]
+
+mod bits;
+mod cyclic_core;
+mod dominance;
+mod lists;
+mod reduced_instance;
+mod reduced_zone;
+
+pub use bits::{
+    Bits, bit_count, bits_of, clear_all, clear_bit, common_count, drop_all, has_each, is_part,
+    is_set, join_into, keep_all, row_below, row_in, set_bit,
+};
+pub use cyclic_core::CyclicCore;
+pub use dominance::{Dominance, first_dominating, is_dominated, undominated};
+pub use lists::{NumberLists, small};
+pub use reduced_instance::{InRegion, ReducedInstance, undominated_places};
+pub use reduced_zone::ReducedZone;

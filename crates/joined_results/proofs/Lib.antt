@@ -1,3 +1,0 @@
-pub mod PartLemmas
-pub mod TakeLemmas
-pub mod JoinLemmas

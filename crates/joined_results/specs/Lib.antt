@@ -1,5 +1,0 @@
--- public clauses cite
-pub mod Joining
--- private
-pub mod Apart
-pub mod Taking

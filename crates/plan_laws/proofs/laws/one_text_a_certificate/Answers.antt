@@ -1,5 +1,0 @@
-use Rattle.std.proofs.Common.{sym, ◌∙◌}
-use Rattle.plan_laws.proofs.laws.one_text_a_certificate.Goals as goal
-
-pub returns : goal.returns
-returns c = λ certificate one other is_one is_other. is_one.text ∙ sym is_other.text

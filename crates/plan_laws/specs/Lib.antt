@@ -1,3 +1,0 @@
--- public clauses cite
-pub mod Bounded
-pub mod Best

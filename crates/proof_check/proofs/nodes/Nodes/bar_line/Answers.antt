@@ -1,6 +1,0 @@
-use Rattle.proof_check.proofs.StepLemmas.{bar_nothing}
-use Rattle.proof_check.proofs.nodes.Nodes.bar_line.Goals as goal
-
-pub returns-else-numbers-eq2-clause-steps : goal.returns-else-numbers-eq2-clause-steps
-returns-else-numbers-eq2-clause-steps c =
-    bar_nothing c.args.lists.now c.args.numbers.now c.args.line c.args.self.now c.if-numbers-eq2.false

@@ -1,8 +1,0 @@
-use Rattle.std.proofs.Common.{string_bytes}
-use Rattle.proof_tree.specs.PlanOf.{plans_of}
-use Rattle.proof_tree.proofs.PlanLemmas.{SectionsUpTo}
-use Rattle.proof_tree.proofs.certificate.put_sections.Given as goal
-
-abbrev pub invariant-loop-part : goal.invariant-loop-part
-invariant-loop-part g l = SectionsUpTo (g.W.Write.contents l.initial.writer) (string_bytes l.initial.buffer)
-    (g.W.Write.contents l.writer) (string_bytes l.buffer) (plans_of l.parts) l.part-index

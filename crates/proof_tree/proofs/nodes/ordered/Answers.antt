@@ -1,6 +1,0 @@
-use Rattle.proof_tree.proofs.NodeLemmas.{sorted_cells}
-use Rattle.proof_tree.proofs.nodes.ordered.Goals as goal
-
-pub returns : goal.returns
-returns c = sorted_cells c.args.cells.now c.in_ok-ordered.ordered.items c.sort_unstable.new.self.items c.requires
-    c.in_ok-ordered.ensures.items c.sort_unstable.ensures.permutation c.sort_unstable.ensures.sorted

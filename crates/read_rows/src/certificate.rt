@@ -1,8 +1,0 @@
-//! The worked certificates and changes of them, judged against caves built byte by byte.
-mod caves;
-mod faults;
-mod forged;
-mod judging;
-mod proofs;
-mod streams;
-mod worked;

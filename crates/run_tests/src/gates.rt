@@ -1,0 +1,81 @@
+//! A gate that holds workers back.
+use std::sync::atomic::{AtomicBool, AtomicU32, Ordering};
+use torch_plan::{Name, Observer};
+
+/// How often a worker that is held back looks whether the other one has entered.
+const LOOKS: u32 = 1_000_000_000;
+
+/// Each of two workers waits at its first entry until the other has entered, where it is held at all.
+#[derive(Drop)]
+pub(crate) struct Meeting {
+    held: [bool; 2],
+    entered: [AtomicU32; 2],
+    reopened: AtomicBool,
+    gave_up: AtomicBool,
+}
+
+impl Meeting {
+    /// These workers are held back.
+    pub(crate) fn of(held: [bool; 2]) -> Meeting {
+        Meeting {
+            held,
+            entered: [AtomicU32::new(0), AtomicU32::new(0)],
+            reopened: AtomicBool::new(false),
+            gave_up: AtomicBool::new(false),
+        }
+    }
+
+    /// Whether a worker that was held back stopped looking.
+    pub(crate) fn gave_up(&self) -> bool {
+        self.gave_up.load(Ordering::SeqCst)
+    }
+
+    /// Whether both workers entered.
+    pub(crate) fn has_both(&self) -> bool {
+        self.entered[0].load(Ordering::SeqCst) > 0 && self.entered[1].load(Ordering::SeqCst) > 0
+    }
+
+    /// Whether a kid of one of the root's kids entered.
+    pub(crate) fn has_reopened(&self) -> bool {
+        self.reopened.load(Ordering::SeqCst)
+    }
+
+    fn entries(&self, worker: u32) -> &AtomicU32 {
+        if worker == 0 {
+            return &self.entered[0];
+        }
+        &self.entered[1]
+    }
+
+    fn wait_for(&self, other: u32) {
+        let entries = self.entries(other);
+        for _ in 0..LOOKS {
+            if entries.load(Ordering::SeqCst) > 0 {
+                return;
+            }
+        }
+        self.gave_up.store(true, Ordering::SeqCst);
+    }
+
+    fn is_held(&self, worker: u32) -> bool {
+        if worker == 0 {
+            return self.held[0];
+        }
+        self.held[1]
+    }
+}
+
+impl Observer for Meeting {
+    fn enter(&self, worker: u32, name: &Name) {
+        if name.as_slice().len() == 2 {
+            self.reopened.store(true, Ordering::SeqCst);
+        }
+        if worker > 1 {
+            return;
+        }
+        let before = self.entries(worker).fetch_add(1, Ordering::SeqCst);
+        if before == 0 && self.is_held(worker) {
+            self.wait_for(1 - worker);
+        }
+    }
+}

@@ -1,0 +1,49 @@
+//! A proposer whose nodes are told to an observer.
+ghost use Rattle.pack_bound.specs.Nodes.{IsStateOf};
+
+use crate::observer::Observer;
+use crate::proposer::{Proposal, Proposer};
+use cave_regions::Region;
+use pack_bound::Node;
+use std::alloc::{AllocError, Global};
+
+/// It proposes what the inner one does, and tells of each node.
+#[derive(Drop)]
+pub(crate) struct Observed<'o, P, O> {
+    inner: P,
+    observer: &'o O,
+    /// The size of the smallest cover as the round began.
+    size: u64,
+}
+
+impl<'o, P: Proposer, O: Observer> Observed<'o, P, O> {
+    pub(crate) fn new(inner: P, observer: &'o O) -> Observed<'o, P, O> {
+        Observed {
+            inner,
+            observer,
+            size: 0,
+        }
+    }
+
+    /// A round begins with a cover of this size.
+    pub(crate) fn begin(&mut self, size: u64) {
+        self.size = size;
+    }
+
+    pub(crate) fn inner(&self) -> &P {
+        &self.inner
+    }
+}
+
+impl<P: Proposer, O: Observer> Proposer for Observed<'_, P, O> {
+    fn propose(
+        &mut self,
+        alloc: Global,
+        region: &Region,
+        node: &Node,
+        floor: Option<u64>,
+    ) -> Result<Proposal, AllocError> {
+        self.observer.turn(self.size, floor.unwrap_or(0));
+        self.inner.propose(alloc, region, node, floor)
+    }
+}

@@ -1,0 +1,23 @@
+//! Who is told how a search gets on.
+
+use proof_tree::Name;
+use std::marker::{Send, Sync};
+
+/// Told of a search while it goes on. Nothing is promised of it, and nothing comes back from it; tests hold workers
+/// back in it.
+pub trait Observer: Sync {
+    /// The region with this number, from 1, of so many is planned next.
+    fn region(&self, _number: usize, _count: usize) {}
+
+    /// A node is worked on. The smallest cover had so many places as the round began, and it is proved, if the round
+    /// comes to its end, that no cover has fewer than these.
+    fn turn(&self, _size: u64, _aim: u64) {}
+
+    /// The worker with this number took the piece of this name, and works on it next.
+    fn enter(&self, _worker: u32, _name: &Name) {}
+}
+
+/// Nobody.
+pub struct Unobserved;
+
+impl Observer for Unobserved {}

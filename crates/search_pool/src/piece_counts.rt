@@ -1,0 +1,39 @@
+//! How many pieces workers handed over, by what became of them.
+ghost use Rattle.std.specs.Prelude.{◌≡◌, ◌≤◌, ◌*◌, ◌^◌, length};
+ghost use Rattle.schedule_law.specs.Joined.{all_back, all_closed, all_opened};
+ghost use Rattle.search_pool.specs.Tallies.{AreTallied, all_refused};
+
+use schedule_law::Work;
+
+/// The pieces of all works, counted.
+#[derive(Clone, Copy, Debug)]
+pub(crate) struct PieceCounts {
+    pub(crate) closed: u128,
+    pub(crate) opened: u128,
+    pub(crate) held: u128,
+    pub(crate) refused: u128,
+}
+
+/// Counts the pieces of the works.
+pub(crate) fn counted(works: &[Work]) -> PieceCounts
+    requires few { length works.now ≤ 64 }
+    ensures counted { AreTallied works.now result }
+    ensures most { (result.closed ≤ length works.now * 2 ^ 64) × (result.opened ≤ length works.now * 2 ^ 64)
+        × (result.held ≤ length works.now * 2 ^ 64) × (result.refused ≤ length works.now * 2 ^ 64) }
+{
+    let Some((work, rest)) = works.split_first() else {
+        return PieceCounts {
+            closed: 0,
+            opened: 0,
+            held: 0,
+            refused: 0,
+        };
+    };
+    let others = counted(rest);
+    PieceCounts {
+        closed: others.closed + work.closed.len() as u128,
+        opened: others.opened + work.opened.len() as u128,
+        held: others.held + work.held.len() as u128,
+        refused: others.refused + work.refused.len() as u128,
+    }
+}

@@ -1,6 +1,0 @@
-use Rattle.std.proofs.Common.{ℕ, ◌<◌}
-use Rattle.searched_rows.specs.Made.{IsLitIn}
-use Rattle.searched_rows.proofs.making.each_is_lit.Given as goal
-
-abbrev pub invariant-loop-bit : goal.invariant-loop-bit
-invariant-loop-bit l = (bit : ℕ) → bit < l.bit → IsLitIn l.places l.width l.words bit

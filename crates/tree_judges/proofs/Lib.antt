@@ -1,0 +1,4 @@
+pub mod NumberingLemmas
+pub mod BarLemmas
+pub mod KidLemmas
+pub mod ThinLemmas

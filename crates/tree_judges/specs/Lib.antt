@@ -1,0 +1,4 @@
+-- public clauses cite
+pub mod Bars
+pub mod Kids
+pub mod Thinning

@@ -1,0 +1,83 @@
+//! Judging a whole tree, as a copied or a pruned one.
+ghost use Rattle.std.specs.Prelude.{◌≡◌, IsTrue, IfOk, length};
+ghost use Rattle.set_cover.specs.Bits.{Has};
+ghost use Rattle.proof_tree.specs.Shape.{tree_of, forest_of};
+ghost use Rattle.pack_bound.specs.Nodes.{IsStateOf, Closes};
+ghost use Rattle.pack_bound.specs.Judged.{AreKidPlaces};
+ghost use Rattle.tree_judges.specs.Kids.{ClosesKids};
+
+use cave_regions::Region;
+use pack_bound::{Node, is_bar, is_leaf, open_places};
+use proof_tree::Proof;
+use set_cover::{add, has};
+use std::alloc::{AllocError, Global};
+
+/// Whether the tree closes what is left, at the floor. The node is used up.
+#[cycle(judging)]
+pub fn is_good(
+    alloc: Global,
+    region: &Region,
+    node: &mut Node,
+    tree: &Proof,
+    floor: u64,
+) -> Result<bool, AllocError>
+    requires { IsStateOf region.now node.old }
+    ensures { IfOk result (λ yes. IsTrue yes → Closes region.now node.old floor (tree_of tree.now)) }
+{
+    match tree {
+        Proof::Leaf(cells) => {
+            let size = (node.chosen().len() as u64).saturating_add(cells.as_slice().len() as u64);
+            if size < floor {
+                return Ok(false);
+            }
+            is_leaf(alloc, region, node, cells.as_slice())
+        }
+        Proof::Branch { cell, kids } => {
+            if *cell as usize >= region.cells().len() || !has(node.unlit(), *cell as usize) {
+                return Ok(false);
+            }
+            let places = open_places(alloc, region, node, *cell)?;
+            are_good(alloc, region, node, *cell, &places, kids.trees(), floor)
+        }
+        Proof::Bar { place, by, kid } => {
+            if !is_bar(region, node, *place, *by) {
+                return Ok(false);
+            }
+            node.bar(*place);
+            let good = is_good(alloc, region, node, kid.tree(), floor)?;
+            Ok(good)
+        }
+    }
+}
+
+/// Whether the trees close the kids of a branch.
+#[cycle(judging)]
+fn are_good(
+    alloc: Global,
+    region: &Region,
+    node: &Node,
+    cell: u32,
+    places: &[u32],
+    trees: &[Proof],
+    floor: u64,
+) -> Result<bool, AllocError>
+    requires state { IsStateOf region.now node.now }
+    requires cell { Has node.now.unlit cell }
+    requires places { AreKidPlaces region.now node.now cell places.now }
+    ensures { IfOk result (λ yes. IsTrue yes → ClosesKids region.now node.now floor places.now (forest_of trees.now)) }
+{
+    if places.len() != trees.len() {
+        return Ok(false);
+    }
+    let mut below = node.try_clone()?;
+    let mut barred = Vec::from_slice(alloc, node.barred())?;
+    let barred = barred.as_mut_slice();
+    for index in 0..places.len() {
+        below.become_kid(region, node, barred, places[index])?;
+        if !is_good(alloc, region, &mut below, &trees[index], floor)? {
+            return Ok(false);
+        }
+        add(barred, places[index] as usize);
+    }
+    Ok(true)
+}

@@ -1,0 +1,56 @@
+//! Passes are taken in, and what is left in the deques is taken.
+ghost use Rattle.std.specs.Prelude.{◌≡◌, length, All, IfOk};
+ghost use Rattle.worker_results.specs.Naming.{numbers_from};
+ghost use Rattle.worker_results.specs.Joining.{numbers_of};
+ghost use Rattle.worker_results.specs.Apart.{AreOut, IsRow};
+ghost use Rattle.worker_results.specs.Taking.{AreDrained, TakeRows, take_in};
+
+use crate::accesses::Accesses;
+use crate::naming::Naming;
+use crate::own::Own;
+use cave_model::OutOfMemory;
+use proof_tree::Piece;
+use std::alloc::Global;
+
+/// Each owner takes in all passes at its deque.
+pub(crate) fn take_rows<B: Naming>(owners: &mut Vec<Own<B>>, rows: Vec<Accesses<B>>)
+    requires numbers { numbers_of owners.old.items ≡ numbers_from 0 B.workers }
+    requires out { AreOut (length rows.items) owners.old.items }
+    requires rows { All (IsRow B.workers) rows.items }
+    ensures out { AreOut 0 owners.new.items }
+    ensures sums { TakeRows owners.old.items rows.items owners.new.items }
+{
+    for row in rows {
+        take_row(owners, row);
+    }
+}
+
+/// Each owner takes in one pass at its deque.
+fn take_row<B: Naming>(owners: &mut Vec<Own<B>>, row: Accesses<B>)
+    requires { numbers_of owners.old.items ≡ numbers_from 0 B.workers }
+    ensures numbers { numbers_of owners.new.items ≡ numbers_of owners.old.items }
+    ensures done { owners.new.items ≡ take_in owners.old.items row }
+{
+    let mut next = 0;
+    for reach in row.into_items() {
+        owners[next].absorb(reach);
+        next += 1;
+    }
+}
+
+/// The pieces that are left in the deques.
+pub(crate) fn drain_all<B: Naming>(
+    alloc: Global,
+    owners: Vec<Own<B>>,
+) -> Result<Vec<Piece>, OutOfMemory>
+    requires { AreOut 0 owners.items }
+    ensures { IfOk result (λ left. AreDrained owners.items left.items) }
+{
+    let mut left = Vec::new(alloc);
+    for own in owners {
+        if !own.drain(&mut left) {
+            return Err(OutOfMemory);
+        }
+    }
+    Ok(left)
+}

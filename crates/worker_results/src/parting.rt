@@ -1,0 +1,97 @@
+//! Results are taken apart, and their seats joined.
+ghost use Rattle.std.specs.Prelude.{◌≡◌, ◌++◌, length, true, IfOk};
+ghost use Rattle.beacon.specs.Marks.{together};
+ghost use Rattle.worker_results.specs.Joining.{numbers_of, workers_of, works_of};
+ghost use Rattle.worker_results.specs.Apart.{AreApart, AreResultParts, IsOneMore};
+
+use crate::accesses::Accesses;
+use crate::done::{Done, Parts};
+use crate::naming::Naming;
+use crate::own::Own;
+use beacon::{Beacon, Seat};
+use cave_model::OutOfMemory;
+use schedule_law::Work;
+use std::alloc::Global;
+
+/// The first seat, which took in the others, and the parts of the results in their order.
+#[derive(Drop)]
+pub(crate) struct AllParts<B: Naming> {
+    pub(crate) first: Seat,
+    pub(crate) owners: Vec<Own<B>>,
+    pub(crate) rows: Vec<Accesses<B>>,
+    pub(crate) works: Vec<Work>,
+}
+
+/// Takes all results apart, and joins their seats to the first one.
+pub(crate) fn part_all<B: Naming>(
+    alloc: Global,
+    beacon: &Beacon,
+    first: Seat,
+    results: Vec<Done<B>>,
+) -> Result<AllParts<B>, OutOfMemory>
+    requires beacon { (beacon.now ≡ B.beacon) × (first.beacon ≡ B.beacon) }
+    requires first { first.knows.first ≡ true }
+    ensures seat { IfOk result (λ parts. parts.first.beacon ≡ B.beacon) }
+    ensures apart { IfOk result (λ parts. AreApart B.region B.start B.workers first.knows parts.first.knows
+        parts.owners.items parts.rows.items parts.works.items) }
+    ensures numbers { IfOk result (λ parts. numbers_of parts.owners.items ≡ workers_of results.items) }
+    ensures rows { IfOk result (λ parts. length parts.rows.items ≡ length results.items) }
+    ensures works { IfOk result (λ parts. parts.works.items ≡ works_of results.items) }
+{
+    let mut parts = AllParts {
+        first,
+        owners: Vec::new(alloc),
+        rows: Vec::new(alloc),
+        works: Vec::new(alloc),
+    };
+    for done in results {
+        parts = part_one(beacon, parts, done)?;
+    }
+    Ok(parts)
+}
+
+/// Takes one result more apart, and joins its seat.
+fn part_one<B: Naming>(
+    beacon: &Beacon,
+    parts: AllParts<B>,
+    done: Done<B>,
+) -> Result<AllParts<B>, OutOfMemory>
+    requires beacon { (beacon.now ≡ B.beacon) × (parts.first.beacon ≡ B.beacon) }
+    requires first { parts.first.knows.first ≡ true }
+    ensures seat { IfOk result (λ more. (more.first.beacon ≡ B.beacon)
+        × (more.first.knows ≡ together parts.first.knows done.knows)) }
+    ensures more { IfOk result (λ more. IsOneMore B.region B.start B.workers done
+        parts.owners.items parts.rows.items parts.works.items
+        more.owners.items more.rows.items more.works.items) }
+{
+    let AllParts {
+        mut first,
+        mut owners,
+        mut rows,
+        mut works,
+    } = parts;
+    let Parts {
+        seat,
+        own,
+        reaches,
+        work,
+    } = apart(done);
+    beacon.join(&mut first, seat);
+    owners.push(own)?;
+    rows.push(reaches)?;
+    works.push(work)?;
+    Ok(AllParts {
+        first,
+        owners,
+        rows,
+        works,
+    })
+}
+
+/// The parts of a result.
+fn apart<B: Naming>(done: Done<B>) -> Parts<B>
+    ensures seat { (result.seat.beacon ≡ B.beacon) × (result.seat.knows ≡ done.knows) }
+    ensures parts { AreResultParts B.region B.start B.workers done result.own result.reaches result.work }
+{
+    done.into_parts()
+}
