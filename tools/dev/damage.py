@@ -115,7 +115,7 @@ def line_changed(rng, line):
         i, j = rng.randrange(1, len(words)), rng.randrange(1, len(words))
         words[i], words[j] = words[j], words[i]
     elif way == 9:
-        words[0] = rng.choice([b"L", b"B", b"E", b"D", b"T", b"end", b"region", b""])
+        words[0] = rng.choice([b"L", b"B", b"E", b"W", b"G", b"D", b"T", b"end", b"region", b""])
     return b" ".join(words)
 
 
@@ -148,29 +148,45 @@ def cells_forged(rng, cells, known):
     return sorted(cells)
 
 
+def group_forged(rng, numbers, known):
+    """A group whose capacity, weights or cells differ a little."""
+    capacity, weights, way = numbers[0], dict(zip(numbers[2::2], numbers[3::2])), rng.randrange(3)
+    if way == 0:
+        capacity = max(capacity + rng.choice([1, -1]), 0)
+    elif way == 1:
+        cell = rng.choice(sorted(weights))
+        weights[cell] = max(weights[cell] + rng.choice([1, -1]), 0)
+    else:
+        weights = {cell: weights.get(cell, 1) for cell in cells_forged(rng, weights, known)}
+    return [capacity, len(weights), *(number for cell in sorted(weights) for number in (cell, weights[cell]))]
+
+
 def certificate_forged(rng, data):
-    """A text of the same form that says something else: other cells, torches, branches, bars or heads, with the counts
-    that belong to them."""
+    """A text of the same form that says something else: other cells, torches, branches, bars, groups or heads, with the
+    counts that belong to them."""
     lines = [line.split(" ") for line in data.decode().split("\n")[:-1]]
     known = [int(word) for line in lines if line[0] in "DTL" for word in line[1:]] or [0]
-    head = [at for at, line in enumerate(lines) if line[0] not in ("D", "T", "L", "B", "E")]
+    head = [at for at, line in enumerate(lines) if line[0] not in ("D", "T", "L", "B", "E", "W", "G")]
     body = [at for at in range(len(lines)) if at not in head]
     at = rng.choice(body if body and rng.random() < 0.9 else head)
     word, numbers = lines[at][0], [int(one) for one in lines[at][1:] if one.isdigit()]
-    if word in "DT":
+    # a region's cells stand below its head, those that a tree leaves out further down
+    if word == "T" or word == "D" and lines[at - 1][0] == "region":
         cells = cells_forged(rng, numbers, known)
         head = next(i for i in range(at, -1, -1) if lines[i][0] == "region")
         lines[head][1 if word == "D" else 2] = str(len(cells))
         lines[at] = [word, *map(str, cells)]
-    elif word == "L":
+    elif word in "LD":
         cells = cells_forged(rng, numbers[1:], known)
-        lines[at] = ["L", str(len(cells)), *map(str, cells)]
+        lines[at] = [word, str(len(cells)), *map(str, cells)]
         if rng.random() < 0.2:
             lines.insert(at, ["E", str(rng.choice(known)), str(rng.choice(known))])
     elif word == "B":
         kids = max(numbers[1] + rng.choice([0, 0, 1]), 0)
         lines[at] = ["B", str(rng.choice([numbers[0], rng.choice(known)])), str(kids)]
         lines[at + 1 : at + 1] = [["L", "0"]] * (kids - numbers[1])
+    elif word == "G":
+        lines[at] = ["G", *map(str, group_forged(rng, numbers, known))]
     elif word == "E":
         other = rng.choice(known)
         lines[at] = ["E", *map(str, rng.choice([numbers[::-1], [other, numbers[1]], [numbers[0], other]]))]

@@ -57,27 +57,52 @@ def is_list(cells, below):
     return all(a < b for a, b in zip(cells, cells[1:])) and (not cells or cells[-1] < below)
 
 
+def is_weight(number):
+    return 1 <= number < 2**32
+
+
+def groups_of(lines, many, count):
+    """The groups of a weighted leaf: of each its capacity, and each of its cells with a weight."""
+    groups, least = [], 0
+    for left in range(many, 0, -1):
+        _, numbers = lines.words("G")
+        lines.fits(len(numbers) >= 4 and len(numbers) == 2 + 2 * numbers[1])
+        capacity, cells, weights = numbers[0], numbers[2::2], numbers[3::2]
+        lines.fits(is_weight(capacity) and all(map(is_weight, weights)) and is_list(cells, count))
+        # each group after this one has a greater first cell
+        lines.fits(least <= cells[0] and cells[0] + left <= count)
+        groups.append((capacity, dict(zip(cells, weights))))
+        least = cells[0] + 1
+    return groups
+
+
 def tree_of(lines, version, count):
     nodes, owed = [], 1
     while owed > 0:
-        kind, numbers = lines.words("L B" if version == 1 else "L B E")
+        kind, numbers = lines.words({1: "L B", 2: "L B E", 3: "L B E W D"}[version])
         lines.fits(len(numbers) >= 1)
-        if kind == "L":
+        at = lines.at
+        if kind in "LD":
             lines.fits(numbers[0] <= count and len(numbers) == numbers[0] + 1 and is_list(numbers[1:], count))
-            owed -= 1
+            lines.fits(kind == "L" or numbers[0] >= 1)
+            owed -= kind == "L"
         elif kind == "B":
             lines.fits(len(numbers) == 2 and numbers[0] < count and numbers[1] <= count)
             owed += numbers[1] - 1
+        elif kind == "W":
+            lines.fits(len(numbers) == 1 and 1 <= numbers[0] <= count)
+            numbers = groups_of(lines, numbers[0], count)
+            owed -= 1
         else:
             lines.fits(len(numbers) == 2 and max(numbers) < count)
-        nodes.append(Node(lines.at, kind, numbers))
+        nodes.append(Node(at, kind, numbers))
     return nodes
 
 
 def read(data):
     """What a certificate says: box, headroom, need and regions."""
     lines = Lines(data)
-    version = {b"torchproof 1": 1, b"torchproof 2": 2}.get(lines.next())
+    version = {b"torchproof 1": 1, b"torchproof 2": 2, b"torchproof 3": 3}.get(lines.next())
     lines.fits(version is not None)
     _, box = lines.words("box", 3)
     count = box[0] * box[1] * box[2]
@@ -85,7 +110,7 @@ def read(data):
     _, [headroom] = lines.words("headroom", 1)
     lines.fits(headroom in (1, 2))
     need = 1
-    if version == 2:
+    if version > 1:
         _, [need] = lines.words("need", 1)
         lines.fits(need in (1, 8))
     _, [many] = lines.words("regions", 1)
@@ -115,47 +140,65 @@ class Coverage:
                 self.by.setdefault(cell, []).append(place)
 
 
+def weighs_too_much(coverage, groups, barred):
+    """Whether a place that isn't barred lights more of a group than its capacity, or cells of two groups."""
+    loads = {}
+    for index, (capacity, weights) in enumerate(groups):
+        for cell, weight in weights.items():
+            for place in coverage.by.get(cell, []):
+                group, load = loads.get(place, (index, 0))
+                loads[place] = index, load + weight
+                if place not in barred and (group != index or load + weight > capacity):
+                    return True
+    return False
+
+
 def bad_node(coverage, cells, node, chosen, barred):
-    """Whether the rules of trees refuse this node, and what stands chosen and barred below it."""
-    is_lit = lambda cell: any(cell in coverage.lit[place] for place in chosen)
+    """Whether the rules of trees refuse this node, and what stands chosen and barred below it, of which cells."""
+    is_unlit = lambda cell: cell in cells and not any(cell in coverage.lit[place] for place in chosen)
     if node.kind == "E":
         place, by = node.numbers
         legal = place != by and place in coverage.lit and by in coverage.lit
         if not legal or place in barred or by in barred or place in chosen:
             return True, []
-        left = [cell for cell in coverage.lit[place] & cells if not is_lit(cell)]
-        return not all(cell in coverage.lit[by] for cell in left), [(chosen, barred | {place})]
+        left = filter(is_unlit, coverage.lit[place] & cells)
+        return not all(cell in coverage.lit[by] for cell in left), [(chosen, barred | {place}, cells)]
+    if node.kind == "D":
+        return not cells.issuperset(node.numbers[1:]), [(chosen, barred, cells.difference(node.numbers[1:]))]
+    if node.kind == "W":
+        weighed = [cell for _, weights in node.numbers for cell in weights]
+        is_bad = len(set(weighed)) < len(weighed) or not all(map(is_unlit, weighed))
+        return is_bad or weighs_too_much(coverage, node.numbers, barred), []
     if node.kind == "L":
-        leaf = node.numbers[1:]
-        if not all(cell in cells and not is_lit(cell) for cell in leaf):
-            return True, []
-        seen = set()
-        for cell in leaf:
-            for place in coverage.by.get(cell, []):
-                if place not in barred:
-                    if place in seen:
-                        return True, []
-                    seen.add(place)
-        return False, []
+        # a packing: of each cell's group no place lights another cell
+        groups = [(1, {cell: 1}) for cell in node.numbers[1:]]
+        return not all(map(is_unlit, node.numbers[1:])) or weighs_too_much(coverage, groups, barred), []
     cell, kids = node.numbers
-    if cell not in cells or is_lit(cell):
+    if not is_unlit(cell):
         return True, []
     places = [place for place in coverage.by.get(cell, []) if place not in barred]
     if len(places) != kids:
         return True, []
-    return False, [(chosen | {place}, barred | set(places[:i])) for i, place in enumerate(places)]
+    return False, [(chosen | {place}, barred | set(places[:i]), cells) for i, place in enumerate(places)]
+
+
+def proved_by(node):
+    """How many places a leaf shows to be needed beside the chosen ones."""
+    if node.kind == "L":
+        return node.numbers[0]
+    return sum(-(-sum(weights.values()) // capacity) for capacity, weights in node.numbers)
 
 
 def check_trees(coverage, regions):
     weak = None
     for region in regions:
-        cells, owed = set(region.cells), [(frozenset(), frozenset())]
+        owed = [(frozenset(), frozenset(), frozenset(region.cells))]
         for node in region.nodes:
-            chosen, barred = owed.pop()
+            chosen, barred, cells = owed.pop()
             is_bad, below = bad_node(coverage, cells, node, chosen, barred)
             if is_bad:
                 raise Misfit(f"bad node line {node.line}")
-            if node.kind == "L" and weak is None and len(chosen) + node.numbers[0] < region.torches:
+            if node.kind in "LW" and weak is None and len(chosen) + proved_by(node) < region.torches:
                 weak = node.line
             owed += reversed(below)
     if weak is not None:

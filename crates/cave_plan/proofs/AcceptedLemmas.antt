@@ -1,5 +1,5 @@
 -- The certificate of best plans of all regions is accepted.
-use Rattle.std.proofs.Common.{◌≡◌, ℕ, zero, suc, ◌<◌, ◌≤◌, Bool, true, false, ◌||◌, ◌&&◌, not, nat_eq, IsTrue, List}
+use Rattle.std.proofs.Common.{◌≡◌, ℕ, zero, suc, ◌<◌, ◌≤◌, Bool, true, false, ◌||◌, ◌&&◌, nat_eq, nat_le, IsTrue, List}
 use Rattle.std.proofs.Common.{[], ◌∷◌, ◌++◌, length, get_or, All, Contains, map, refl, sym, ap, subst, ◌∙◌, arith}
 use Rattle.std.proofs.Common.{◌⊎◌, inl, inr, length-append}
 use Rattle.std.specs.Prelude.{if◌then◌else◌}
@@ -22,15 +22,18 @@ use Rattle.cave_model.specs.Regions.{all_cells, AreRegions}
 use Rattle.proof_check.proofs.FewestLemmas.{length-cells}
 use Rattle.cave_model.proofs.TorchLemmas.{spawnable_inside}
 use Rattle.set_cover.specs.Instance.{of_instance}
-use Rattle.proof_rules.specs.Tree.{Tree, Forest, leaf, branch, bar, none, more}
+use Rattle.proof_rules.specs.Tree.{Tree, Forest, leaf, weighted, branch, bar, omit, none, more}
 use Rattle.proof_rules.specs.Good.{Good}
-use Rattle.proof_rules.specs.Certificate.{Section, first, second, need_of, HasNoBar, HaveNoBar, IsVersionOf}
+use Rattle.proof_rules.specs.Certificate.{Section, Version, first, second, third, need_of, IsKnownTo, AreKnownTo}
+use Rattle.proof_rules.specs.Certificate.{IsVersionOf}
 use Rattle.proof_rules.specs.Certificate.{IsSectionIn, IsInRange, torches_of}
 use Rattle.proof_rules.proofs.ListLemmas.{no_member, all_members, at_member, distinct_nil}
+use Rattle.proof_rules.proofs.OmitLemmas.{bool_cases}
 use Rattle.proof_rules.proofs.CarryLemmas.{carries}
 use Rattle.proof_rules.proofs.BoundLemmas.{bounds, piece_serves}
 use Rattle.proof_tree.specs.Order.{in_order, ordered_tree, ordered_trees}
-use Rattle.certificate_text.specs.Planned.{Plan, has_bar, have_bar, any_bar, is_second, section_of, certificate_of}
+use Rattle.certificate_text.specs.Planned.{Plan, rank_for, ranks_for, plans_rank, need_rank, rank_needed}
+use Rattle.certificate_text.specs.Planned.{version_of, section_of, certificate_of}
 use Rattle.certificate_text.specs.Planned.{certificate_text, IsBestOf, AreBestOf}
 use Rattle.proof_tree.proofs.OrderLemmas.{has_ordered, ordered_has, length_ordered}
 use Rattle.proof_check.specs.Accepted.{AreProved, Proves, Accepts, IsBestPlan}
@@ -88,37 +91,44 @@ best_are_bounded cave plans best = record {
 
 -- ---- the version
 
--- where neither flag is set, the first isn't
-or_left : (a b : Bool) → (a || b) ≡ false → a ≡ false
-or_left true b e = e
-or_left false b e = refl
+mutual
+  -- no version has a greater number than 3
+  rank_most : (tree : Tree) → rank_for tree ≤ 3
+  rank_most (leaf cells) = omega arith
+  rank_most (weighted groups) = omega arith
+  rank_most (branch cell kids) = ranks_most kids
+  rank_most (bar place by kid) = (let below = rank_most kid in omega (arith, below))
+  rank_most (omit cells kid) = omega arith
 
--- nor is the second
-or_right : (a b : Bool) → (a || b) ≡ false → b ≡ false
-or_right true b e = absurd (true≢false e)
-or_right false b e = e
+  ranks_most : (trees : Forest) → ranks_for trees ≤ 3
+  ranks_most none = omega arith
+  ranks_most (more t ts) = (let first = rank_most t in let rest = ranks_most ts in omega (arith, first, rest))
+
+-- nor has one that plans ask for
+plans_most : (plans : List Plan) → plans_rank plans ≤ 3
+plans_most [] = omega arith
+plans_most (p ∷ ps) = (let first = rank_most p.tree in let rest = plans_most ps in omega (arith, first, rest))
 
 mutual
-  no_bar_tree : (tree : Tree) → has_bar tree ≡ false → HasNoBar (ordered_tree tree)
-  no_bar_tree (leaf cells) e = tt
-  no_bar_tree (branch cell kids) e = no_bar_trees kids e
-  no_bar_tree (bar place by kid) e = absurd (true≢false e)
+  -- a version with the number of a tree or a greater one knows the tree
+  known_tree : (rank : ℕ) (tree : Tree) → rank_for tree ≤ rank → IsKnownTo rank (ordered_tree tree)
+  known_tree rank (leaf cells) le = tt
+  known_tree rank (weighted groups) le = le
+  known_tree rank (branch cell kids) le = known_trees rank kids le
+  known_tree rank (bar place by kid) le = (omega (arith, le), known_tree rank kid (omega (arith, le)))
+  known_tree rank (omit cells kid) le =
+      (le, known_tree rank kid (let most = rank_most kid in omega (arith, le, most)))
 
-  no_bar_trees : (trees : Forest) → have_bar trees ≡ false → HaveNoBar (ordered_trees trees)
-  no_bar_trees none e = tt
-  no_bar_trees (more t ts) e = (
-    no_bar_tree t (or_left (has_bar t) (have_bar ts) e),
-    no_bar_trees ts
-        (or_right (has_bar t) (have_bar ts) e),
-  )
+  known_trees : (rank : ℕ) (trees : Forest) → ranks_for trees ≤ rank → AreKnownTo rank (ordered_trees trees)
+  known_trees rank none le = tt
+  known_trees rank (more t ts) le = (known_tree rank t (omega (arith, le)), known_trees rank ts (omega (arith, le)))
 
--- plans of which none has a bar give sections without one
-no_bars : (plans : List Plan) → any_bar plans ≡ false
-    → All (λ (section : Section). HasNoBar section.tree) (map section_of plans)
-no_bars [] e = All-nil (λ (section : Section). HasNoBar section.tree)
-no_bars (p ∷ ps) e = All-cons (λ (section : Section). HasNoBar section.tree) (section_of p) (map section_of ps)
-    (no_bar_tree p.tree (or_left (has_bar p.tree) (any_bar ps) e))
-    (no_bars ps (or_right (has_bar p.tree) (any_bar ps) e))
+-- and those of plans where it has theirs
+known_sections : (rank : ℕ) (plans : List Plan) → plans_rank plans ≤ rank
+    → All (λ (section : Section). IsKnownTo rank section.tree) (map section_of plans)
+known_sections rank [] le = All-nil (λ (section : Section). IsKnownTo rank section.tree)
+known_sections rank (p ∷ ps) le = All-cons (λ (section : Section). IsKnownTo rank section.tree) (section_of p)
+    (map section_of ps) (known_tree rank p.tree (omega (arith, le))) (known_sections rank ps (omega (arith, le)))
 
 -- a number that is one of two is the first or the second
 eq_cases : (a b c : ℕ) → IsTrue (nat_eq a b || nat_eq a c) → (a ≡ b) ⊎ (a ≡ c)
@@ -127,26 +137,37 @@ eq_cases a b c is = elim (bool_cases (nat_eq a b)) [
   | inr f ↦ inr (let same : nat_eq a c ≡ true = subst (λ (x : Bool). (x || nat_eq a c) ≡ true) f is in
       grind (arith, nat_tests, same))
 ]
-  where
-    bool_cases : (b : Bool) → (b ≡ true) ⊎ (b ≡ false)
-    bool_cases true = inl refl
-    bool_cases false = inr refl
 
--- a need that isn't other than one is one
-one_if_not : (need : ℕ) → not (nat_eq need 1) ≡ false → need ≡ 1
-one_if_not need e = grind (arith, nat_tests, e)
+-- a need for which the first version would do is one
+need_is_one : (need : ℕ) → need_rank need < 2 → need ≡ 1
+need_is_one need lt = elim (bool_cases (nat_eq need 1)) [
+  | inl t ↦ grind (arith, nat_tests, t)
+  | inr f ↦ absurd (let two : need_rank need ≡ 2 = ap (λ (b : Bool). if b then 1 else 2) f in omega (arith, lt, two))
+]
 
--- the version that is written fits the sections and the need
-version_fits : (need : ℕ) (plans : List Plan) (b : Bool) → is_second need plans ≡ b → IsTrue (is_need need)
-    → IsVersionOf (map section_of plans) (if b then second need else first)
-version_fits need plans true e is = eq_cases need 1 8 is
-version_fits need plans false e is = no_bars plans (or_right (not (nat_eq need 1)) (any_bar plans) e)
+-- a version that fits sections and a need, and says the need
+pub record Fits (sections : List Section) (need : ℕ) (version : Version) : Type 0 where
+  pub fits : IsVersionOf sections version
+  pub says : need_of version ≡ need
 
--- and says the need
-need_fits : (need : ℕ) (plans : List Plan) (b : Bool) → is_second need plans ≡ b
-    → need_of (if b then second need else first) ≡ need
-need_fits need plans true e = refl
-need_fits need plans false e = sym (one_if_not need (or_left (not (nat_eq need 1)) (any_bar plans) e))
+-- the version of a number fits what has that number
+version_fits : (need : ℕ) (plans : List Plan) (t u : Bool) → nat_le 3 (rank_needed need plans) ≡ t
+    → nat_le 2 (rank_needed need plans) ≡ u → IsTrue (is_need need)
+    → Fits (map section_of plans) need (if t then third need else (if u then second need else first))
+version_fits need plans true u e f is = record {
+  fits = record { known = known_sections 3 plans (plans_most plans); needed = eq_cases need 1 8 is };
+  says = refl;
+}
+version_fits need plans false true e f is =
+    let below : rank_needed need plans < 3 = grind (arith, nat_tests, e) in record {
+      fits = record { known = known_sections 2 plans (omega (arith, below)); needed = eq_cases need 1 8 is };
+      says = refl;
+    }
+version_fits need plans false false e f is =
+    let below : rank_needed need plans < 2 = grind (arith, nat_tests, f) in record {
+      fits = record { known = known_sections 1 plans (omega (arith, below)); needed = inl refl };
+      says = sym (need_is_one need (omega (arith, below)));
+    }
 
 -- ---- in range
 
@@ -201,8 +222,8 @@ module _ (cave : Cave) (plans : List Plan) (world : IsWorld cave) (best : AreBes
       lit_by = listed_in_order (cell_count cave.size) plan.torches is.cover.distinct
           (λ p h. place_inside cave p world.sound (legal p h));
       some = some_torch;
-      proof = tree_in_range (of_cave cave) plan.region.cells (cell_count cave.size) (λ c h. dark_inside c (dark c h))
-          (λ p place. place_inside cave p world.sound place) [] [] (length plan.torches) plan.tree good_cave;
+      proof = tree_in_range (of_cave cave) (cell_count cave.size) (λ p place. place_inside cave p world.sound place)
+          plan.region.cells (λ c h. dark_inside c (dark c h)) [] [] (length plan.torches) plan.tree good_cave;
     }
 
   dark_of : (i : ℕ) (d : Plan) → i < length plans → (c : ℕ) → Contains (get_or plans i d).region.cells c → IsDark cave c
@@ -249,11 +270,15 @@ module _ (cave : Cave) (plans : List Plan) (world : IsWorld cave) (best : AreBes
           let one : 0 < length l = All-head (λ (cells : List ℕ). 0 < length cells) l ls all in
           omega (arith, rest, one, length-append l (all_cells ls))
 
+  version : Fits (map section_of plans) cave.rule.need (version_of cave.rule.need plans)
+  version = version_fits cave.rule.need plans (nat_le 3 (rank_needed cave.rule.need plans))
+      (nat_le 2 (rank_needed cave.rule.need plans)) refl refl world.ruled.needed
+
   in_range : IsInRange (certificate_of cave plans)
   in_range = record {
     small = world.small;
     ruled = eq_cases cave.rule.headroom 1 2 world.ruled.high;
-    versioned = version_fits cave.rule.need plans (is_second cave.rule.need plans) refl world.ruled.needed;
+    versioned = version.fits;
     few = few;
     each = sections_in;
   }
@@ -270,8 +295,7 @@ module _ (cave : Cave) (plans : List Plan) (world : IsWorld cave) (best : AreBes
     of_cave = record {
       box = refl;
       headroom = refl;
-      need = need_fits cave.rule.need plans
-          (is_second cave.rule.need plans) refl;
+      need = version.says;
     };
     places = record {
       legal = subst (All (IsPlace cave)) (section_torches plans)

@@ -2,6 +2,7 @@ pub mod PartLemmas
 pub mod OrderedLemmas
 pub mod AcceptedLemmas
 mod NumberLemmas
+mod GroupTextLemmas
 mod TreeLemmas
 mod TextLemmas
 pub mod UpToLemmas

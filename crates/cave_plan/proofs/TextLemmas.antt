@@ -5,7 +5,7 @@ use Rattle.std.specs.Prelude.{codes, flat_map, IsTrue}
 use Rattle.std.proofs.lemmas.List.Elements.{All-nil, All-cons, All-head, All-tail}
 use Rattle.cave_base.specs.Box.{Point, cell_count, is_small}
 use Rattle.proof_rules.specs.Tree.{Tree}
-use Rattle.proof_rules.specs.Certificate.{Section, Version, first, second, Certificate, IsInRange, IsSectionIn}
+use Rattle.proof_rules.specs.Certificate.{Section, Version, first, second, third, Certificate, IsInRange, IsSectionIn}
 use Rattle.proof_rules.specs.Certificate.{IsVersionOf}
 use Rattle.proof_rules.specs.Text.{line, tree_lines, section_lines, lines_of, ended, IsTextOf}
 use Rattle.certificate_lines.specs.Cuts.{AreClean}
@@ -16,7 +16,8 @@ use Rattle.certificate_lines.proofs.Walk.{count_small}
 use Rattle.certificate_lines.proofs.Whole.{leads_whole}
 use Rattle.certificate_lines.specs.declared.stage.Stage.TheVariants as stage
 use Rattle.cave_plan.proofs.NumberLemmas.{same_line, listed_small}
-use Rattle.cave_plan.proofs.TreeLemmas.{one_tree, split_lines, two_small}
+use Rattle.cave_plan.proofs.GroupTextLemmas.{split_lines}
+use Rattle.cave_plan.proofs.TreeLemmas.{one_tree, two_small}
 
 -- ---- lines
 
@@ -93,7 +94,7 @@ module _ (m n : ℕ) (few_m : m ≤ 262144) (few_n : n ≤ 262144) where
 
 -- one small number
 one_small : (a : ℕ) → a ≤ 262144 → All IsSmall (a ∷ [])
-one_small a small = All-cons IsSmall a [] small (All-nil IsSmall)
+one_small a small = All-cons IsSmall a [] (omega arith) (All-nil IsSmall)
 
 -- the sides of a box
 sides_small : (size : Point) → IsTrue (is_small size) → All IsSmall (size.x ∷ size.y ∷ size.z ∷ [])
@@ -172,8 +173,8 @@ same_head a b in_a in_b box headroom =
 abbrev behind_first : Certificate → List (List ℕ)
 behind_first c = box_line c ∷ headroom_line c ∷ regions_on c.sections
 
-abbrev behind_second : ℕ → Certificate → List (List ℕ)
-behind_second need c = box_line c ∷ headroom_line c ∷ line (codes "need") (need ∷ []) ∷ regions_on c.sections
+abbrev behind_later : ℕ → Certificate → List (List ℕ)
+behind_later need c = box_line c ∷ headroom_line c ∷ line (codes "need") (need ∷ []) ∷ regions_on c.sections
 
 -- a whole certificate
 abbrev certificate : Version → Point → ℕ → List Section → Certificate
@@ -195,11 +196,11 @@ same_first a b in_a in_b e =
     let head = same_head a b in_a in_b box.0 room.0 in
     (head.0, head.1, same_regions a b in_a in_b room.1)
 
--- the second versions
-same_second : (a b : Certificate) (h k : ℕ) → (h ≡ 1) ⊎ (h ≡ 8) → (k ≡ 1) ⊎ (k ≡ 8) → IsInRange a → IsInRange b
-    → behind_second h a ≡ behind_second k b
+-- the later versions, which have a line for the need
+same_later : (a b : Certificate) (h k : ℕ) → (h ≡ 1) ⊎ (h ≡ 8) → (k ≡ 1) ⊎ (k ≡ 8) → IsInRange a → IsInRange b
+    → behind_later h a ≡ behind_later k b
     → (h ≡ k) × (a.size ≡ b.size) × (a.headroom ≡ b.headroom) × (a.sections ≡ b.sections)
-same_second a b h k is_h is_k in_a in_b e =
+same_later a b h k is_h is_k in_a in_b e =
     let need_h = line (codes "need") (h ∷ []) in
     let need_k = line (codes "need") (k ∷ []) in
     let box = split_lines (box_line a) (box_line b) (headroom_line a ∷ need_h ∷ regions_on a.sections)
@@ -213,12 +214,11 @@ same_second a b h k is_h is_k in_a in_b e =
     let head = same_head a b in_a in_b box.0 room.0 in
     (same, head.0, head.1, same_regions a b in_a in_b need.1)
 
--- the two versions begin otherwise
-apart : (r s : List (List ℕ)) → codes "torchproof 1" ∷ r ≡ codes "torchproof 2" ∷ s → ⊥
-apart r s e =
-    let l = split_lines (codes "torchproof 1") (codes "torchproof 2") r s e in
-    let at = ap (λ (text : List ℕ). get_or text 11 0) l.0 in
-    omega (arith, at)
+-- two versions begin otherwise
+apart : (v w : List ℕ) (r s : List (List ℕ)) → (get_or v 11 0 ≡ get_or w 11 0 → ⊥) → v ∷ r ≡ w ∷ s → ⊥
+apart v w r s other e =
+    let l = split_lines v w r s e in
+    other (ap (λ (text : List ℕ). get_or text 11 0) l.0)
 
 -- one certificate has these lines
 same : (v w : Version) (a b : Certificate) → a.version ≡ v → b.version ≡ w → IsVersionOf a.sections v
@@ -230,13 +230,34 @@ same first first a b v w is_a is_b in_a in_b e =
     let s = same_first a b in_a in_b l.1 in
     same_certificate a.version b.version a.size b.size a.headroom b.headroom a.sections b.sections (v ∙ sym w)
     s.0 s.1 s.2
-same first (second k) a b v w is_a is_b in_a in_b e = absurd (apart (behind_first a) (behind_second k b) e)
-same (second h) first a b v w is_a is_b in_a in_b e = absurd (apart (behind_first b) (behind_second h a) (sym e))
+same first (second k) a b v w is_a is_b in_a in_b e =
+    absurd (apart (codes "torchproof 1") (codes "torchproof 2") (behind_first a) (behind_later k b) (λ f. omega arith)
+    e)
+same first (third k) a b v w is_a is_b in_a in_b e =
+    absurd (apart (codes "torchproof 1") (codes "torchproof 3") (behind_first a) (behind_later k b) (λ f. omega arith)
+    e)
+same (second h) first a b v w is_a is_b in_a in_b e =
+    absurd (apart (codes "torchproof 2") (codes "torchproof 1") (behind_later h a) (behind_first b) (λ f. omega arith)
+    e)
 same (second h) (second k) a b v w is_a is_b in_a in_b e =
-    let l = split_lines (codes "torchproof 2") (codes "torchproof 2") (behind_second h a) (behind_second k b) e in
-    let s = same_second a b h k is_a is_b in_a in_b l.1 in
+    let l = split_lines (codes "torchproof 2") (codes "torchproof 2") (behind_later h a) (behind_later k b) e in
+    let s = same_later a b h k is_a.needed is_b.needed in_a in_b l.1 in
     same_certificate a.version b.version a.size b.size a.headroom b.headroom a.sections b.sections
     (v ∙ ap second s.0 ∙ sym w) s.1 s.2 s.3
+same (second h) (third k) a b v w is_a is_b in_a in_b e =
+    absurd (apart (codes "torchproof 2") (codes "torchproof 3") (behind_later h a) (behind_later k b) (λ f. omega arith)
+    e)
+same (third h) first a b v w is_a is_b in_a in_b e =
+    absurd (apart (codes "torchproof 3") (codes "torchproof 1") (behind_later h a) (behind_first b) (λ f. omega arith)
+    e)
+same (third h) (second k) a b v w is_a is_b in_a in_b e =
+    absurd (apart (codes "torchproof 3") (codes "torchproof 2") (behind_later h a) (behind_later k b) (λ f. omega arith)
+    e)
+same (third h) (third k) a b v w is_a is_b in_a in_b e =
+    let l = split_lines (codes "torchproof 3") (codes "torchproof 3") (behind_later h a) (behind_later k b) e in
+    let s = same_later a b h k is_a.needed is_b.needed in_a in_b l.1 in
+    same_certificate a.version b.version a.size b.size a.headroom b.headroom a.sections b.sections
+    (v ∙ ap third s.0 ∙ sym w) s.1 s.2 s.3
 
 -- one certificate has this text
 pub one_certificate : (text : List ℕ) (a b : Certificate) → IsTextOf text a → IsTextOf text b → a ≡ b

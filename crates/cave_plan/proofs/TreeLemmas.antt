@@ -1,19 +1,21 @@
 -- Lines that begin with those of a tree begin with those of no other tree.
-use Rattle.std.proofs.Common.{◌≡◌, ℕ, ◌≤◌, List, [], ◌∷◌, ◌++◌, length, get_or, All, refl, sym, ap, ◌∙◌, arith}
-use Rattle.std.proofs.Common.{append_assoc}
+use Rattle.std.proofs.Common.{◌≡◌, ℕ, ◌≤◌, List, [], ◌∷◌, ◌++◌, length, map, get_or, All, refl, sym, ap, ◌∙◌}
+use Rattle.std.proofs.Common.{append_assoc, arith}
 use Rattle.std.specs.Prelude.{codes}
 use Rattle.std.proofs.lemmas.List.Elements.{All-nil, All-cons}
-use Rattle.proof_rules.specs.Tree.{Tree, Forest, leaf, branch, bar, none, more, tree_count}
-use Rattle.proof_rules.specs.Certificate.{AreListed, IsTreeIn, AreTreesIn}
-use Rattle.proof_rules.specs.Text.{line, tree_lines, forest_lines}
+use Rattle.proof_rules.specs.declared.groups.Group.{Group}
+use Rattle.proof_rules.specs.Tree.{Tree, Forest, leaf, weighted, branch, bar, omit, none, more, tree_count}
+use Rattle.proof_rules.specs.Certificate.{AreListed, AreGroupsIn, IsTreeIn, AreTreesIn}
+use Rattle.proof_rules.specs.Text.{line, group_line, tree_lines, forest_lines}
 use Rattle.certificate_lines.specs.Numbers.{IsSmall}
-use Rattle.certificate_lines.proofs.Complete.{listed_few}
+use Rattle.certificate_lines.proofs.Complete.{listed_few, groups_few}
 use Rattle.cave_plan.proofs.NumberLemmas.{same_line, listed_small}
+use Rattle.cave_plan.proofs.GroupTextLemmas.{split_lines, same_groups}
 
 -- two small numbers
 pub two_small : (a b : ℕ) → a ≤ 262144 → b ≤ 262144 → All IsSmall (a ∷ b ∷ [])
 two_small a b small_a small_b =
-    All-cons IsSmall a (b ∷ []) small_a (All-cons IsSmall b [] small_b (All-nil IsSmall))
+    All-cons IsSmall a (b ∷ []) (omega arith) (All-cons IsSmall b [] (omega arith) (All-nil IsSmall))
 
 -- a leaf's numbers
 leaf_small : (count : ℕ) (cells : List ℕ) → count ≤ 262144 → AreListed count cells
@@ -21,13 +23,32 @@ leaf_small : (count : ℕ) (cells : List ℕ) → count ≤ 262144 → AreListed
 leaf_small count cells few are = All-cons IsSmall (length cells) cells
     (let l = listed_few count cells are in omega arith) (listed_small count cells few are)
 
--- lines with other first bytes differ
-apart : (a b : List ℕ) (r s : List (List ℕ)) → (get_or a 0 0 ≡ get_or b 0 0 → ⊥) → a ∷ r ≡ b ∷ s → ⊥
-apart a b r s other e = let same : a ≡ b = cc in other (ap (λ (l : List ℕ). get_or l 0 0) same)
+-- the number of a weighted leaf's groups
+count_small : (count : ℕ) (groups : List Group) → count ≤ 262144 → AreGroupsIn count groups
+    → All IsSmall (length groups ∷ [])
+count_small count groups few are = All-cons IsSmall (length groups) []
+    (let l = groups_few count groups are in omega arith) (All-nil IsSmall)
 
--- the first of two lists of lines, and the others
-pub split_lines : (a b : List ℕ) (r s : List (List ℕ)) → a ∷ r ≡ b ∷ s → (a ≡ b) × (r ≡ s)
-split_lines a b r s e = (cc, cc)
+-- the byte that a tree's lines begin with
+abbrev first_byte : Tree → ℕ
+first_byte (leaf cells) = 76
+first_byte (weighted groups) = 87
+first_byte (branch cell kids) = 66
+first_byte (bar place by kid) = 69
+first_byte (omit cells kid) = 68
+
+-- they begin with it, whatever comes behind them
+begins : (tree : Tree) (r : List (List ℕ)) → get_or (get_or (tree_lines tree ++ r) 0 []) 0 0 ≡ first_byte tree
+begins (leaf cells) r = refl
+begins (weighted groups) r = refl
+begins (branch cell kids) r = refl
+begins (bar place by kid) r = refl
+begins (omit cells kid) r = refl
+
+-- trees with the same lines begin with the same byte
+same_byte : (a b : Tree) (r s : List (List ℕ)) → tree_lines a ++ r ≡ tree_lines b ++ s → first_byte a ≡ first_byte b
+same_byte a b r s e =
+    sym (begins a r) ∙ ap (λ (lines : List (List ℕ)). get_or (get_or lines 0 []) 0 0) e ∙ begins b s
 
 module _ (m n : ℕ) (few_m : m ≤ 262144) (few_n : n ≤ 262144) where
   mutual
@@ -66,18 +87,26 @@ module _ (m n : ℕ) (few_m : m ≤ 262144) (few_n : n ≤ 262144) where
         let second : by ≡ well = cc in
         let below = one_tree kid tree r s in_a.2 in_b.2 l.1 in
         let this = below.0 in (cc, below.1)
-    one_tree (leaf cells) (branch other trees) r s in_a in_b e =
-        absurd (apart _ _ r (forest_lines trees ++ s) (λ f. omega arith) e)
-    one_tree (leaf cells) (bar other well tree) r s in_a in_b e =
-        absurd (apart _ _ r (tree_lines tree ++ s) (λ f. omega arith) e)
-    one_tree (branch cell kids) (leaf others) r s in_a in_b e =
-        absurd (apart _ _ (forest_lines kids ++ r) s (λ f. omega arith) e)
-    one_tree (branch cell kids) (bar other well tree) r s in_a in_b e =
-        absurd (apart _ _ (forest_lines kids ++ r) (tree_lines tree ++ s) (λ f. omega arith) e)
-    one_tree (bar place by kid) (leaf others) r s in_a in_b e =
-        absurd (apart _ _ (tree_lines kid ++ r) s (λ f. omega arith) e)
-    one_tree (bar place by kid) (branch other trees) r s in_a in_b e =
-        absurd (apart _ _ (tree_lines kid ++ r) (forest_lines trees ++ s) (λ f. omega arith) e)
+    one_tree (weighted groups) (weighted others) r s in_a in_b e =
+        let l = split_lines (line (codes "W") (length groups ∷ [])) (line (codes "W") (length others ∷ []))
+        (map group_line groups ++ r) (map group_line others ++ s) e in
+        let numbers : length groups ∷ [] ≡ length others ∷ [] =
+        same_line (codes "W") (length groups ∷ []) (length others ∷ []) (count_small m groups few_m in_a)
+        (count_small n others few_n in_b) l.0 in
+        let many : length groups ≡ length others = cc in
+        let same = same_groups m n few_m few_n groups others r s many in_a.groups_are.each in_b.groups_are.each
+        in_a.below in_b.below l.1 in
+        (ap weighted same.0, same.1)
+    one_tree (omit cells kid) (omit others tree) r s in_a in_b e =
+        let l = split_lines (line (codes "D") (length cells ∷ cells)) (line (codes "D") (length others ∷ others))
+        (tree_lines kid ++ r) (tree_lines tree ++ s) e in
+        let numbers : length cells ∷ cells ≡ length others ∷ others =
+        same_line (codes "D") (length cells ∷ cells) (length others ∷ others) (leaf_small m cells few_m in_a.0)
+        (leaf_small n others few_n in_b.0) l.0 in
+        let same : cells ≡ others = cc in
+        let below = one_tree kid tree r s in_a.2 in_b.2 l.1 in
+        let this = below.0 in (cc, below.1)
+    one_tree a b r s in_a in_b e = absurd (let same = same_byte a b r s e in omega (arith, same))
 
     -- as many trees' lines, and what comes behind them
     pub one_forest : (a b : Forest) (r s : List (List ℕ)) → tree_count a ≡ tree_count b → AreTreesIn m a

@@ -13,7 +13,7 @@ use Rattle.certificate_lines.proofs.Digits.{AreDigits, digits_of}
 use Rattle.certificate_lines.proofs.Walk.{sound_after}
 use Rattle.certificate_lines.proofs.Lift.{AreSmall, and_both, start_small, box_small, headroom_small, need_small}
 use Rattle.certificate_lines.proofs.Lift.{regions_small, end_small, region_small, dark_small, torches_small}
-use Rattle.certificate_lines.proofs.Lift.{leaf_small, branch_small, bar_small}
+use Rattle.certificate_lines.proofs.Lift.{leaf_small, branch_small, bar_small, weighted_small, omit_small, group_small}
 use Rattle.certificate_lines.specs.declared.stage.Stage.{Stage}
 use Rattle.certificate_lines.specs.declared.stage.Stage.TheVariants as stage
 
@@ -88,26 +88,32 @@ clean_says word text Means next w small s = subst HasNoFeed (sym s.1)
 
 pub clean_takes : (s next : Stage) (text : List ℕ) → IsSoundStage s → Takes s text next → HasNoFeed text
 clean_takes stage.Start next text h t = clean_says (codes "torchproof") text _ next refl start_small t
-clean_takes (stage.Box second) next text h t = clean_says (codes "box") text _ next refl (box_small second) t
-clean_takes (stage.Headroom second count) next text h t = clean_says (codes "headroom") text _ next refl
-    (headroom_small second count) t
-clean_takes (stage.Need count) next text h t = clean_says (codes "need") text _ next refl (need_small count) t
-clean_takes (stage.Regions second count) next text h t = clean_says (codes "regions") text _ next refl
-    (regions_small second count h) t
-clean_takes (stage.Region second count to_come) next text h (inl t) = clean_says (codes "end") text _ next refl
+clean_takes (stage.Box rank) next text h t = clean_says (codes "box") text _ next refl (box_small rank) t
+clean_takes (stage.Headroom rank count) next text h t = clean_says (codes "headroom") text _ next refl
+    (headroom_small rank count) t
+clean_takes (stage.Need rank count) next text h t = clean_says (codes "need") text _ next refl (need_small rank count) t
+clean_takes (stage.Regions rank count) next text h t = clean_says (codes "regions") text _ next refl
+    (regions_small rank count h) t
+clean_takes (stage.Region rank count to_come) next text h (inl t) = clean_says (codes "end") text _ next refl
     (end_small to_come) t
-clean_takes (stage.Region second count to_come) next text h (inr t) = clean_says (codes "region") text _ next refl
-    (region_small second count to_come h.0) t
-clean_takes (stage.Dark second count to_come n m) next text h t = clean_says (codes "D") text _ next refl
-    (dark_small second count to_come n m h.0) t
-clean_takes (stage.Torches second count to_come m) next text h t = clean_says (codes "T") text _ next refl
-    (torches_small second count to_come m h.0) t
-clean_takes (stage.Node second count to_come pending) next text h (inl t) = clean_says (codes "L") text _ next refl
-    (leaf_small second count to_come pending h.0) t
-clean_takes (stage.Node second count to_come pending) next text h (inr (inl t)) =
-    clean_says (codes "B") text _ next refl (branch_small second count to_come pending h.0) t
-clean_takes (stage.Node second count to_come pending) next text h (inr (inr t)) =
-    clean_says (codes "E") text _ next refl (bar_small second count to_come pending h.0) t
+clean_takes (stage.Region rank count to_come) next text h (inr t) = clean_says (codes "region") text _ next refl
+    (region_small rank count to_come h.0) t
+clean_takes (stage.Dark rank count to_come n m) next text h t = clean_says (codes "D") text _ next refl
+    (dark_small rank count to_come n m h.0) t
+clean_takes (stage.Torches rank count to_come m) next text h t = clean_says (codes "T") text _ next refl
+    (torches_small rank count to_come m h.0) t
+clean_takes (stage.Node rank count to_come pending) next text h (inl t) = clean_says (codes "L") text _ next refl
+    (leaf_small rank count to_come pending h.0) t
+clean_takes (stage.Node rank count to_come pending) next text h (inr (inl t)) =
+    clean_says (codes "B") text _ next refl (branch_small rank count to_come pending h.0) t
+clean_takes (stage.Node rank count to_come pending) next text h (inr (inr (inl t))) =
+    clean_says (codes "E") text _ next refl (bar_small rank count to_come pending h.0) t
+clean_takes (stage.Node rank count to_come pending) next text h (inr (inr (inr (inl t)))) =
+    clean_says (codes "W") text _ next refl (weighted_small rank count to_come pending h.0) t
+clean_takes (stage.Node rank count to_come pending) next text h (inr (inr (inr (inr t)))) =
+    clean_says (codes "D") text _ next refl (omit_small rank count to_come pending h.0) t
+clean_takes (stage.Group rank count to_come pending left from) next text h t =
+    clean_says (codes "G") text _ next refl (group_small rank count to_come pending left from h.0) t
 clean_takes stage.Done next text h t = absurd t
 
 pub clean_leads : (lines : List (List ℕ)) (s u : Stage) → IsSoundStage s → Leads lines s u → AreClean lines

@@ -8,14 +8,14 @@ use Rattle.certificate_lines.specs.Sound.{IsSoundStage}
 use Rattle.certificate_lines.specs.Steps.{Takes, Says}
 use Rattle.certificate_lines.proofs.Lift.{AreSmall, start_small, box_small, headroom_small, need_small, regions_small}
 use Rattle.certificate_lines.proofs.Lift.{end_small, region_small, dark_small, torches_small, leaf_small}
-use Rattle.certificate_lines.proofs.Lift.{branch_small, bar_small}
+use Rattle.certificate_lines.proofs.Lift.{branch_small, bar_small, weighted_small, omit_small, group_small}
 use Rattle.certificate_lines.specs.declared.stage.Stage.{Stage}
 use Rattle.certificate_lines.specs.declared.stage.Stage.TheVariants as stage
 
-short_number : (n : ℕ) → IsSmall n → length (decimal n) ≤ 6
-short_number n h = length-decimal-le 6 n (omega arith) (omega arith) (omega arith)
+short_number : (n : ℕ) → IsSmall n → length (decimal n) ≤ 10
+short_number n h = length-decimal-le 10 n (omega arith) (omega arith) (omega arith)
 
-pub short_numbers : (numbers : List ℕ) → All IsSmall numbers → length (numbers_text numbers) ≤ 7 * length numbers
+pub short_numbers : (numbers : List ℕ) → All IsSmall numbers → length (numbers_text numbers) ≤ 11 * length numbers
 short_numbers [] a = omega arith
 short_numbers (n ∷ ns) a = omega (
   arith,
@@ -36,24 +36,31 @@ short_says word text Means next small w s = omega (
 
 pub short_line : (s next : Stage) (text : List ℕ) → IsSoundStage s → Takes s text next → length text ≤ longest_line
 short_line stage.Start next text h t = short_says (codes "torchproof") text _ next start_small (omega arith) t
-short_line (stage.Box second) next text h t = short_says (codes "box") text _ next (box_small second) (omega arith) t
-short_line (stage.Headroom second count) next text h t = short_says (codes "headroom") text _ next
-    (headroom_small second count) (omega arith) t
-short_line (stage.Need count) next text h t = short_says (codes "need") text _ next (need_small count) (omega arith) t
-short_line (stage.Regions second count) next text h t = short_says (codes "regions") text _ next
-    (regions_small second count h) (omega arith) t
-short_line (stage.Region second count to_come) next text h (inl t) = short_says (codes "end") text _ next
+short_line (stage.Box rank) next text h t = short_says (codes "box") text _ next (box_small rank) (omega arith) t
+short_line (stage.Headroom rank count) next text h t = short_says (codes "headroom") text _ next
+    (headroom_small rank count) (omega arith) t
+short_line (stage.Need rank count) next text h t = short_says (codes "need") text _ next
+    (need_small rank count) (omega arith) t
+short_line (stage.Regions rank count) next text h t = short_says (codes "regions") text _ next
+    (regions_small rank count h) (omega arith) t
+short_line (stage.Region rank count to_come) next text h (inl t) = short_says (codes "end") text _ next
     (end_small to_come) (omega arith) t
-short_line (stage.Region second count to_come) next text h (inr t) = short_says (codes "region") text _ next
-    (region_small second count to_come h.0) (omega arith) t
-short_line (stage.Dark second count to_come n m) next text h t = short_says (codes "D") text _ next
-    (dark_small second count to_come n m h.0) (omega arith) t
-short_line (stage.Torches second count to_come m) next text h t = short_says (codes "T") text _ next
-    (torches_small second count to_come m h.0) (omega arith) t
-short_line (stage.Node second count to_come pending) next text h (inl t) = short_says (codes "L") text _ next
-    (leaf_small second count to_come pending h.0) (omega arith) t
-short_line (stage.Node second count to_come pending) next text h (inr (inl t)) = short_says (codes "B") text _ next
-    (branch_small second count to_come pending h.0) (omega arith) t
-short_line (stage.Node second count to_come pending) next text h (inr (inr t)) = short_says (codes "E") text _ next
-    (bar_small second count to_come pending h.0) (omega arith) t
+short_line (stage.Region rank count to_come) next text h (inr t) = short_says (codes "region") text _ next
+    (region_small rank count to_come h.0) (omega arith) t
+short_line (stage.Dark rank count to_come n m) next text h t = short_says (codes "D") text _ next
+    (dark_small rank count to_come n m h.0) (omega arith) t
+short_line (stage.Torches rank count to_come m) next text h t = short_says (codes "T") text _ next
+    (torches_small rank count to_come m h.0) (omega arith) t
+short_line (stage.Node rank count to_come pending) next text h (inl t) = short_says (codes "L") text _ next
+    (leaf_small rank count to_come pending h.0) (omega arith) t
+short_line (stage.Node rank count to_come pending) next text h (inr (inl t)) = short_says (codes "B") text _ next
+    (branch_small rank count to_come pending h.0) (omega arith) t
+short_line (stage.Node rank count to_come pending) next text h (inr (inr (inl t))) = short_says (codes "E") text _ next
+    (bar_small rank count to_come pending h.0) (omega arith) t
+short_line (stage.Node rank count to_come pending) next text h (inr (inr (inr (inl t)))) =
+    short_says (codes "W") text _ next (weighted_small rank count to_come pending h.0) (omega arith) t
+short_line (stage.Node rank count to_come pending) next text h (inr (inr (inr (inr t)))) =
+    short_says (codes "D") text _ next (omit_small rank count to_come pending h.0) (omega arith) t
+short_line (stage.Group rank count to_come pending left from) next text h t = short_says (codes "G") text _ next
+    (group_small rank count to_come pending left from h.0) (omega arith) t
 short_line stage.Done next text h t = absurd t

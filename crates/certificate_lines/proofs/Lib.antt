@@ -1,3 +1,4 @@
+pub mod ShareLemmas
 pub mod Rest
 pub mod Sound
 pub mod Complete
@@ -13,4 +14,5 @@ pub mod Misfit
 pub mod Unique
 pub mod Pushing
 pub mod KindLemmas
+pub mod OrderLemmas
 pub mod SaidLemmas

@@ -1,20 +1,28 @@
 -- From the numbers of a line to the line.
-use Rattle.std.proofs.Common.{◌≡◌, ◌≢◌, ℕ, ◌≤◌, ◌⊎◌, inl, inr, List, [], ◌∷◌, length, get_or, All, refl, sym, subst}
-use Rattle.std.proofs.Common.{ap, arith}
+use Rattle.std.proofs.Common.{◌≡◌, ◌≢◌, ℕ, ◌<◌, ◌≤◌, ◌⊎◌, inl, inr, List, [], ◌∷◌, length, get_or, All, refl, sym}
+use Rattle.std.proofs.Common.{subst, ap, arith}
 use Rattle.std.specs.Prelude.{Bool, true, false, IsTrue, Option, Some, None, MatchBool}
 use Rattle.std.specs.Prelude.{MatchOption, is_some, codes, nat_le, ◌&&◌}
-use Rattle.std.proofs.lemmas.List.Elements.{All-nil, All-cons}
+use Rattle.std.proofs.lemmas.List.{length-map}
+use Rattle.std.proofs.lemmas.List.Elements.{All-nil, All-cons, All-head, All-tail}
 use Rattle.std.proofs.lemmas.Bool.{leb-true}
 use Rattle.cave_base.specs.Box.{cell_count}
+use Rattle.proof_rules.specs.declared.groups.Share.{Share}
+use Rattle.proof_rules.specs.declared.groups.Group.{Group}
+use Rattle.proof_rules.specs.Groups.{cells_of, IsGroup}
 use Rattle.proof_rules.specs.Text.{line}
+use Rattle.certificate_lines.specs.Nodes.{LeafMeans, BranchMeans, BarMeans, OmitMeans, WeightedMeans, GroupMeans}
+use Rattle.certificate_lines.specs.Nodes.{group_numbers}
+use Rattle.certificate_lines.specs.Said.{share_numbers}
 use Rattle.proof_rules.specs.Certificate.{AreListed}
 use Rattle.certificate_lines.specs.Numbers.{IsSmall, most_numbers}
 use Rattle.certificate_lines.specs.Decides.{IsLineOf, IsNoLineOf, IsNone, Decides}
-use Rattle.certificate_lines.specs.Steps.{Says, StartMeans, BoxMeans, HeadroomMeans, NeedMeans, RegionsMeans}
-use Rattle.certificate_lines.specs.Steps.{EndMeans, RegionMeans, DarkMeans, TorchesMeans, LeafMeans, BranchMeans}
-use Rattle.certificate_lines.specs.Steps.{BarMeans}
+use Rattle.certificate_lines.specs.Steps.{Takes, Says, StartMeans, BoxMeans, HeadroomMeans, NeedMeans, RegionsMeans}
+use Rattle.certificate_lines.specs.Steps.{EndMeans, RegionMeans, DarkMeans, TorchesMeans}
 use Rattle.certificate_lines.proofs.Complete.{listed_few}
+use Rattle.certificate_lines.proofs.ShareLemmas.{length-share_numbers}
 use Rattle.certificate_lines.specs.declared.stage.Stage.{Stage}
+use Rattle.certificate_lines.specs.declared.stage.Stage.TheVariants as stage
 
 pub record AreSmall (Means : List ℕ → Stage → Type 0) : Type 0 where
   pub each : (numbers : List ℕ) (next : Stage) → Means numbers next → All IsSmall numbers
@@ -73,29 +81,24 @@ pick_right P Q (Some next) no_other h = record {
 -- ---- numbers are small
 
 one_small : (a : ℕ) (numbers : List ℕ) → numbers ≡ a ∷ [] → a ≤ 262144 → All IsSmall numbers
-one_small a numbers e h = subst (All IsSmall) (sym e) (All-cons IsSmall a [] h (All-nil IsSmall))
+one_small a numbers e h = subst (All IsSmall) (sym e) (All-cons IsSmall a [] (omega arith) (All-nil IsSmall))
 
 two_small : (a b : ℕ) (numbers : List ℕ) → numbers ≡ a ∷ b ∷ [] → a ≤ 262144 → b ≤ 262144 → All IsSmall numbers
-two_small a b numbers e h i = subst (All IsSmall) (sym e) (All-cons IsSmall a (b ∷ []) h (one_small b (b ∷ []) refl i))
+two_small a b numbers e h i = subst (All IsSmall) (sym e)
+    (All-cons IsSmall a (b ∷ []) (omega arith) (one_small b (b ∷ []) refl i))
 
 three_small : (a b c : ℕ) (numbers : List ℕ) → numbers ≡ a ∷ b ∷ c ∷ [] → a ≤ 262144 → b ≤ 262144 → c ≤ 262144
     → All IsSmall numbers
 three_small a b c numbers e h i j = subst (All IsSmall) (sym e)
-    (All-cons IsSmall a (b ∷ c ∷ []) h (two_small b c (b ∷ c ∷ []) refl i j))
+    (All-cons IsSmall a (b ∷ c ∷ []) (omega arith) (two_small b c (b ∷ c ∷ []) refl i j))
 
 listed_small : (count : ℕ) (cells : List ℕ) → count ≤ 262144 → AreListed count cells → All IsSmall cells
 listed_small count cells few a = λ k d h. (let b = a.below k d h in omega arith)
 
 pub start_small : AreSmall StartMeans
 start_small = record {
-  each = λ ns s m. elim m [
-    | inl h ↦ one_small 1 ns h.0 (omega arith)
-    | inr h ↦ one_small 2 ns h.0 (omega arith)
-  ];
-  few = λ ns s m. elim m [
-    | inl h ↦ omega (arith, ap length h.0)
-    | inr h ↦ omega (arith, ap length h.0)
-  ];
+  each = λ ns s m. one_small m.0 ns m.1 (omega (arith, m.3));
+  few = λ ns s m. omega (arith, ap length m.1);
 }
 
 pub and_both : (b c : Bool) → IsTrue (b && c) → IsTrue b × IsTrue c
@@ -110,15 +113,15 @@ sides x y z n h =
     let c = and_both (nat_le x 128) (nat_le y 128) b.0 in
     (leb-true x 128 c.0, leb-true y 128 c.1, leb-true z 128 b.1)
 
-pub box_small : (second : Bool) → AreSmall (BoxMeans second)
-box_small second = record {
+pub box_small : (rank : ℕ) → AreSmall (BoxMeans rank)
+box_small rank = record {
   each = λ ns s m. let h = sides m.0.x m.0.y m.0.z (cell_count m.0) m.2 in
       three_small m.0.x m.0.y m.0.z ns m.1 (omega (arith, h.0)) (omega (arith, h.1)) (omega (arith, h.2));
   few = λ ns s m. omega (arith, ap length m.1);
 }
 
-pub headroom_small : (second : Bool) (count : ℕ) → AreSmall (HeadroomMeans second count)
-headroom_small second count = record {
+pub headroom_small : (rank : ℕ) (count : ℕ) → AreSmall (HeadroomMeans rank count)
+headroom_small rank count = record {
   each = λ ns s m. elim (m.0) [
     | inl h ↦ one_small 1 ns h (omega arith)
     | inr h ↦ one_small 2 ns h (omega arith)
@@ -129,8 +132,8 @@ headroom_small second count = record {
   ];
 }
 
-pub need_small : (count : ℕ) → AreSmall (NeedMeans count)
-need_small count = record {
+pub need_small : (rank count : ℕ) → AreSmall (NeedMeans rank count)
+need_small rank count = record {
   each = λ ns s m. elim (m.0) [
     | inl h ↦ one_small 1 ns h (omega arith)
     | inr h ↦ one_small 8 ns h (omega arith)
@@ -141,8 +144,8 @@ need_small count = record {
   ];
 }
 
-pub regions_small : (second : Bool) (count : ℕ) → count ≤ 262144 → AreSmall (RegionsMeans second count)
-regions_small second count few =
+pub regions_small : (rank : ℕ) (count : ℕ) → count ≤ 262144 → AreSmall (RegionsMeans rank count)
+regions_small rank count few =
     record { each = λ ns s m. one_small m.0 ns m.1 (omega (arith, m.2)); few = λ ns s m. omega (arith, ap length m.1) }
 
 pub end_small : (to_come : ℕ) → AreSmall (EndMeans to_come)
@@ -151,26 +154,26 @@ end_small to_come = record {
   few = λ ns s m. omega (arith, ap length m.1);
 }
 
-pub region_small : (second : Bool) (count to_come : ℕ) → count ≤ 262144 → AreSmall (RegionMeans second count to_come)
-region_small second count to_come few =
+pub region_small : (rank : ℕ) (count to_come : ℕ) → count ≤ 262144 → AreSmall (RegionMeans rank count to_come)
+region_small rank count to_come few =
     record {
       each = λ ns s m. two_small m.1 m.2 ns m.4 (omega (arith, m.6)) (omega (arith, m.8));
       few = λ ns s m. omega (arith, ap length m.4);
     }
 
-pub dark_small : (second : Bool) (count to_come n t : ℕ) → count ≤ 262144
-    → AreSmall (DarkMeans second count to_come n t)
-dark_small second count to_come n t few =
+pub dark_small : (rank : ℕ) (count to_come n t : ℕ) → count ≤ 262144
+    → AreSmall (DarkMeans rank count to_come n t)
+dark_small rank count to_come n t few =
     record { each = λ ns s m. listed_small count ns few m.0; few = λ ns s m. omega (arith, listed_few count ns m.0) }
 
-pub torches_small : (second : Bool) (count to_come t : ℕ) → count ≤ 262144
-    → AreSmall (TorchesMeans second count to_come t)
-torches_small second count to_come t few =
+pub torches_small : (rank : ℕ) (count to_come t : ℕ) → count ≤ 262144
+    → AreSmall (TorchesMeans rank count to_come t)
+torches_small rank count to_come t few =
     record { each = λ ns s m. listed_small count ns few m.0; few = λ ns s m. omega (arith, listed_few count ns m.0) }
 
-pub leaf_small : (second : Bool) (count to_come pending : ℕ) → count ≤ 262144
-    → AreSmall (LeafMeans second count to_come pending)
-leaf_small second count to_come pending few =
+pub leaf_small : (rank : ℕ) (count to_come pending : ℕ) → count ≤ 262144
+    → AreSmall (LeafMeans rank count to_come pending)
+leaf_small rank count to_come pending few =
     record {
       each = λ ns s m. subst (All IsSmall) (sym m.3)
           (All-cons IsSmall (length m.1) m.1 (omega (arith, listed_few count m.1 m.4))
@@ -178,76 +181,182 @@ leaf_small second count to_come pending few =
       few = λ ns s m. omega (arith, ap length m.3, listed_few count m.1 m.4);
     }
 
-pub branch_small : (second : Bool) (count to_come pending : ℕ) → count ≤ 262144
-    → AreSmall (BranchMeans second count to_come pending)
-branch_small second count to_come pending few =
+pub branch_small : (rank : ℕ) (count to_come pending : ℕ) → count ≤ 262144
+    → AreSmall (BranchMeans rank count to_come pending)
+branch_small rank count to_come pending few =
     record {
       each = λ ns s m. two_small m.1 m.2 ns m.4 (omega (arith, m.5)) (omega (arith, m.6));
       few = λ ns s m. omega (arith, ap length m.4);
     }
 
-pub bar_small : (second : Bool) (count to_come pending : ℕ) → count ≤ 262144
-    → AreSmall (BarMeans second count to_come pending)
-bar_small second count to_come pending few =
+pub bar_small : (rank : ℕ) (count to_come pending : ℕ) → count ≤ 262144
+    → AreSmall (BarMeans rank count to_come pending)
+bar_small rank count to_come pending few =
     record {
       each = λ ns s m. two_small m.1 m.2 ns m.5 (omega (arith, m.6)) (omega (arith, m.7));
       few = λ ns s m. omega (arith, ap length m.5);
     }
 
--- ---- the two lines that may come where a region may, and the three where a node does
+pub omit_small : (rank count to_come pending : ℕ) → count ≤ 262144 → AreSmall (OmitMeans rank count to_come pending)
+omit_small rank count to_come pending few =
+    record {
+      each = λ ns s m. subst (All IsSmall) (sym m.4)
+          (All-cons IsSmall (length m.1) m.1 (omega (arith, listed_few count m.1 m.6))
+          (listed_small count m.1 few m.6));
+      few = λ ns s m. omega (arith, ap length m.4, listed_few count m.1 m.6);
+    }
 
-pub at_end : (second : Bool) (count to_come : ℕ) (text : List ℕ) (r : Option Stage) → to_come ≡ 0
+pub weighted_small : (rank count to_come pending : ℕ) → count ≤ 262144
+    → AreSmall (WeightedMeans rank count to_come pending)
+weighted_small rank count to_come pending few =
+    record { each = λ ns s m. one_small m.0 ns m.2 (omega (arith, m.4)); few = λ ns s m. omega (arith, ap length m.2) }
+
+-- the numbers of shares are small
+shares_small : (count : ℕ) (shares : List Share) → count ≤ 262144 → All (λ cell. cell < count) (cells_of shares)
+    → All (λ share. share.weight ≤ 4294967295) shares → All IsSmall (share_numbers shares)
+shares_small count [] few b w = All-nil IsSmall
+shares_small count (s ∷ ss) few b w =
+    let c : s.cell < count = All-head (λ (cell : ℕ). cell < count) s.cell (cells_of ss) b in
+    All-cons IsSmall s.cell (s.weight ∷ share_numbers ss) (omega arith)
+    (All-cons IsSmall s.weight (share_numbers ss) (All-head (λ (share : Share). share.weight ≤ 4294967295) s ss w)
+    (shares_small count ss few (All-tail (λ (cell : ℕ). cell < count) s.cell (cells_of ss) b)
+    (All-tail (λ (share : Share). share.weight ≤ 4294967295) s ss w)))
+
+-- a group has no more cells than the box
+group_few : (count : ℕ) (group : Group) → IsGroup group → All (λ cell. cell < count) (cells_of group.shares)
+    → length group.shares ≤ count
+group_few count group form below = omega (
+  arith,
+  listed_few count (cells_of group.shares) (record { ascending = form.ascending; below = below }),
+  length-map group.shares (λ (share : Share). share.cell),
+)
+
+-- the numbers of a group are small
+pub group_numbers_small : (count : ℕ) (group : Group) → count ≤ 262144 → IsGroup group
+    → All (λ cell. cell < count) (cells_of group.shares) → All IsSmall (group_numbers group)
+group_numbers_small count group few form below =
+    All-cons IsSmall group.capacity (length group.shares ∷ share_numbers group.shares) form.small
+    (All-cons IsSmall (length group.shares) (share_numbers group.shares)
+    (omega (arith, group_few count group form below))
+    (shares_small count group.shares few below form.few))
+
+pub group_small : (rank count to_come pending left from : ℕ) → count ≤ 262144
+    → AreSmall (GroupMeans rank count to_come pending left from)
+group_small rank count to_come pending left from few =
+    record {
+      each = λ ns s m. subst (All IsSmall) (sym m.5) (group_numbers_small count m.2 few m.6 m.7);
+      few = λ ns s m. omega (arith, ap length m.5, group_few count m.2 m.6 m.7, length-share_numbers m.2.shares);
+    }
+
+-- ---- the two lines that may come where a region may, and the five where a node does
+
+pub at_end : (rank : ℕ) (count to_come : ℕ) (text : List ℕ) (r : Option Stage) → to_come ≡ 0
     → Decides r (Says (codes "end") (EndMeans to_come) text)
     → Decides r (λ s. Says (codes "end") (EndMeans to_come) text s ⊎ Says (codes "region")
-    (RegionMeans second count to_come) text s)
-at_end second count to_come text r e h = pick_left (Says (codes "end") (EndMeans to_come) text)
-    (Says (codes "region") (RegionMeans second count to_come) text) r (λ s m. let f = m.2.3 in omega arith) h
+    (RegionMeans rank count to_come) text s)
+at_end rank count to_come text r e h = pick_left (Says (codes "end") (EndMeans to_come) text)
+    (Says (codes "region") (RegionMeans rank count to_come) text) r (λ s m. let f = m.2.3 in omega arith) h
 
-pub at_region : (second : Bool) (count to_come : ℕ) (text : List ℕ) (r : Option Stage) → to_come ≢ 0
-    → Decides r (Says (codes "region") (RegionMeans second count to_come) text)
+pub at_region : (rank : ℕ) (count to_come : ℕ) (text : List ℕ) (r : Option Stage) → to_come ≢ 0
+    → Decides r (Says (codes "region") (RegionMeans rank count to_come) text)
     → Decides r (λ s. Says (codes "end") (EndMeans to_come) text s ⊎ Says (codes "region")
-    (RegionMeans second count to_come) text s)
-at_region second count to_come text r e h = pick_right (Says (codes "end") (EndMeans to_come) text)
-    (Says (codes "region") (RegionMeans second count to_come) text) r (λ s m. e m.2.0) h
+    (RegionMeans rank count to_come) text s)
+at_region rank count to_come text r e h = pick_right (Says (codes "end") (EndMeans to_come) text)
+    (Says (codes "region") (RegionMeans rank count to_come) text) r (λ s m. e m.2.0) h
 
 head_of : (text other : List ℕ) → text ≡ other → get_or text 0 0 ≡ get_or other 0 0
 head_of text other e = ap (λ (t : List ℕ). get_or t 0 0) e
 
-module _ (second : Bool) (count to_come pending : ℕ) (text : List ℕ) (r : Option Stage) where
+module _ (rank count to_come pending : ℕ) (text : List ℕ) (r : Option Stage) where
   abbrev Leaf : Stage → Type 0
-  Leaf = Says (codes "L") (LeafMeans second count to_come pending) text
+  Leaf = Says (codes "L") (LeafMeans rank count to_come pending) text
 
   abbrev Branch : Stage → Type 0
-  Branch = Says (codes "B") (BranchMeans second count to_come pending) text
+  Branch = Says (codes "B") (BranchMeans rank count to_come pending) text
 
   abbrev Bar : Stage → Type 0
-  Bar = Says (codes "E") (BarMeans second count to_come pending) text
+  Bar = Says (codes "E") (BarMeans rank count to_come pending) text
 
-  pub at_leaf : get_or text 0 0 ≢ 66 → get_or text 0 0 ≢ 69
-      → Decides r (Says (codes "L") (LeafMeans second count to_come pending) text)
-      → Decides r (λ s. Says (codes "L") (LeafMeans second count to_come pending) text s
-      ⊎ Says (codes "B") (BranchMeans second count to_come pending) text s
-      ⊎ Says (codes "E") (BarMeans second count to_come pending) text s)
-  at_leaf no_branch no_bar h = pick_left Leaf (λ s. Branch s ⊎ Bar s) r (λ s m. elim m [
-    | inl b ↦ no_branch (head_of text (line (codes "B") b.0) b.1)
-    | inr b ↦ no_bar (head_of text (line (codes "E") b.0) b.1)
-  ]) h
+  abbrev Weighted : Stage → Type 0
+  Weighted = Says (codes "W") (WeightedMeans rank count to_come pending) text
 
-  pub at_branch : get_or text 0 0 ≡ 66 → Decides r (Says (codes "B") (BranchMeans second count to_come pending) text)
-      → Decides r (λ s. Says (codes "L") (LeafMeans second count to_come pending) text s
-      ⊎ Says (codes "B") (BranchMeans second count to_come pending) text s
-      ⊎ Says (codes "E") (BarMeans second count to_come pending) text s)
-  at_branch is h = pick_right Leaf (λ s. Branch s ⊎ Bar s) r
-      (λ s m. let f = head_of text (line (codes "L") m.0) m.1 in omega arith)
-      (pick_left Branch Bar r (λ s m. let f = head_of text (line (codes "E") m.0) m.1 in omega arith) h)
+  abbrev Omit : Stage → Type 0
+  Omit = Says (codes "D") (OmitMeans rank count to_come pending) text
 
-  pub at_bar : get_or text 0 0 ≡ 69 → Decides r (Says (codes "E") (BarMeans second count to_come pending) text)
-      → Decides r (λ s. Says (codes "L") (LeafMeans second count to_come pending) text s
-      ⊎ Says (codes "B") (BranchMeans second count to_come pending) text s
-      ⊎ Says (codes "E") (BarMeans second count to_come pending) text s)
-  at_bar is h = pick_right Leaf (λ s. Branch s ⊎ Bar s) r
-      (λ s m. let f = head_of text (line (codes "L") m.0) m.1 in omega arith)
-      (pick_right Branch Bar r (λ s m. let f = head_of text (line (codes "B") m.0) m.1 in omega arith) h)
+  -- the last two, the last three, and all but a leaf
+  abbrev LastTwo : Stage → Type 0
+  LastTwo s = Weighted s ⊎ Omit s
+
+  abbrev LastThree : Stage → Type 0
+  LastThree s = Bar s ⊎ LastTwo s
+
+  abbrev LastFour : Stage → Type 0
+  LastFour s = Branch s ⊎ LastThree s
+
+  -- the first byte of each
+  leaf_head : (s : Stage) → Leaf s → get_or text 0 0 ≡ 76
+  leaf_head s m = head_of text (line (codes "L") m.0) m.1
+
+  branch_head : (s : Stage) → Branch s → get_or text 0 0 ≡ 66
+  branch_head s m = head_of text (line (codes "B") m.0) m.1
+
+  bar_head : (s : Stage) → Bar s → get_or text 0 0 ≡ 69
+  bar_head s m = head_of text (line (codes "E") m.0) m.1
+
+  weighted_head : (s : Stage) → Weighted s → get_or text 0 0 ≡ 87
+  weighted_head s m = head_of text (line (codes "W") m.0) m.1
+
+  omit_head : (s : Stage) → Omit s → get_or text 0 0 ≡ 68
+  omit_head s m = head_of text (line (codes "D") m.0) m.1
+
+  not_two : get_or text 0 0 ≢ 87 → get_or text 0 0 ≢ 68 → (s : Stage) → LastTwo s → ⊥
+  not_two a b s m = elim m [
+    | inl w ↦ a (weighted_head s w)
+    | inr o ↦ b (omit_head s o)
+  ]
+
+  not_three : get_or text 0 0 ≢ 69 → get_or text 0 0 ≢ 87 → get_or text 0 0 ≢ 68 → (s : Stage) → LastThree s → ⊥
+  not_three a b c s m = elim m [
+    | inl e ↦ a (bar_head s e)
+    | inr l ↦ not_two b c s l
+  ]
+
+  not_four : get_or text 0 0 ≢ 66 → get_or text 0 0 ≢ 69 → get_or text 0 0 ≢ 87 → get_or text 0 0 ≢ 68 → (s : Stage)
+      → LastFour s → ⊥
+  not_four a b c d s m = elim m [
+    | inl e ↦ a (branch_head s e)
+    | inr l ↦ not_three b c d s l
+  ]
+
+  pub at_leaf : get_or text 0 0 ≢ 66 → get_or text 0 0 ≢ 69 → get_or text 0 0 ≢ 87 → get_or text 0 0 ≢ 68
+      → Decides r (Says (codes "L") (LeafMeans rank count to_come pending) text)
+      → Decides r (Takes (stage.Node rank count to_come pending) text)
+  at_leaf a b c d h = pick_left Leaf LastFour r (not_four a b c d) h
+
+  pub at_branch : get_or text 0 0 ≡ 66 → Decides r (Says (codes "B") (BranchMeans rank count to_come pending) text)
+      → Decides r (Takes (stage.Node rank count to_come pending) text)
+  at_branch is h = pick_right Leaf LastFour r (λ s m. let f = leaf_head s m in omega arith)
+      (pick_left Branch LastThree r (not_three (λ e. omega arith) (λ e. omega arith) (λ e. omega arith)) h)
+
+  pub at_bar : get_or text 0 0 ≡ 69 → Decides r (Says (codes "E") (BarMeans rank count to_come pending) text)
+      → Decides r (Takes (stage.Node rank count to_come pending) text)
+  at_bar is h = pick_right Leaf LastFour r (λ s m. let f = leaf_head s m in omega arith)
+      (pick_right Branch LastThree r (λ s m. let f = branch_head s m in omega arith)
+      (pick_left Bar LastTwo r (not_two (λ e. omega arith) (λ e. omega arith)) h))
+
+  pub at_weighted : get_or text 0 0 ≡ 87 → Decides r (Says (codes "W") (WeightedMeans rank count to_come pending) text)
+      → Decides r (Takes (stage.Node rank count to_come pending) text)
+  at_weighted is h = pick_right Leaf LastFour r (λ s m. let f = leaf_head s m in omega arith)
+      (pick_right Branch LastThree r (λ s m. let f = branch_head s m in omega arith)
+      (pick_right Bar LastTwo r (λ s m. let f = bar_head s m in omega arith)
+      (pick_left Weighted Omit r (λ s m. let f = omit_head s m in omega arith) h)))
+
+  pub at_omit : get_or text 0 0 ≡ 68 → Decides r (Says (codes "D") (OmitMeans rank count to_come pending) text)
+      → Decides r (Takes (stage.Node rank count to_come pending) text)
+  at_omit is h = pick_right Leaf LastFour r (λ s m. let f = leaf_head s m in omega arith)
+      (pick_right Branch LastThree r (λ s m. let f = branch_head s m in omega arith)
+      (pick_right Bar LastTwo r (λ s m. let f = bar_head s m in omega arith)
+      (pick_right Weighted Omit r (λ s m. let f = weighted_head s m in omega arith) h)))
 
 pub off : (b : Bool) (A B : Type 0) → b ≡ false → MatchBool b A B → B
 off true A B e h = absurd cc

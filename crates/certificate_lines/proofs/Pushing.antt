@@ -6,6 +6,7 @@ use Rattle.std.proofs.lemmas.List.{append-nil}
 use Rattle.proof_rules.specs.Text.{ended, IsFirstMisfit}
 use Rattle.certificate_lines.specs.Cuts.{HasNoFeed, IsCutLine}
 use Rattle.certificate_lines.specs.Decides.{IsJust}
+use Rattle.certificate_lines.specs.Kinds.{kind_at}
 use Rattle.certificate_lines.specs.Moves.{Fits, FitsNot}
 use Rattle.certificate_lines.specs.Said.{Said, said, AreSaid}
 use Rattle.certificate_lines.specs.Steps.{Takes}
@@ -15,6 +16,7 @@ use Rattle.certificate_lines.specs.Keeping.{IsKeptOn, IsOverlong}
 use Rattle.certificate_lines.proofs.Feeds.{clean_append}
 use Rattle.certificate_lines.proofs.Misfit.{walk_start, start_before, walk_more, more_before, misfit, overlong}
 use Rattle.certificate_lines.proofs.Misfit.{unended, whole, whole_lines}
+use Rattle.certificate_lines.proofs.OrderLemmas.{order_none, order_push}
 use Rattle.certificate_lines.proofs.SaidLemmas.{said_push, said_is}
 use Rattle.certificate_lines.specs.declared.kind.Kind.{Kind}
 use Rattle.certificate_lines.specs.declared.stage.Stage.{Stage}
@@ -99,6 +101,7 @@ going_on bytes text all s now_s taken now_taken last now_last g clean es et el =
       walked = extend bytes s taken last text g.walked;
       clean = clean_append last text g.clean clean;
       says = subst (λ (b : List (List ℕ)). AreSaid b all) (sym (extend_before bytes s taken last text g.walked)) g.says;
+      order = g.order;
     } in
     subst (λ (x : Stage). Going (bytes ++ text) all x now_taken now_last) (sym es)
     (subst (λ (n : ℕ). Going (bytes ++ text) all s n now_last) (sym et)
@@ -198,6 +201,8 @@ takes_line piece text after line k old mid new none cut on is f same out = recor
             (sym (more_before (bytes ++ (text ++ 10 ∷ [])) old.stage old.taken (old.last ++ (text ++ 10 ∷ [])) line
             [] new.stage new.taken x c j n))
             (said_push x.before all line k new.numbers a f.said);
+        order = order_push old.stage new.stage all line new.numbers k g.order
+            (subst (λ (s : Stage). k ≡ kind_at s line) on.stage f.fits_stage) j.is;
       }));
   going = same ∙ on.misfit ∙ none;
   counted = f.counted ∙ ap (λ (m : ℕ). m + 1) on.taken;
@@ -216,6 +221,7 @@ going_none s taken last a b c =
       clean = tt;
       says = subst (λ (b : List (List ℕ)). AreSaid b [])
           (sym (start_before [])) tt;
+      order = order_none;
     })))
 
 told_misfit : (bytes : List ℕ) (number : ℕ) → Stuck bytes number ⊎ Overlong bytes number → IsFirstMisfit bytes number
@@ -246,7 +252,7 @@ tells_whole kept e f d = record {
       record {
         certificate = c.0;
         text = c.1;
-        says = λ other t. said_is g.walked.before all other g.says t.in_range
+        says = λ other t. said_is g.walked.before all other g.says g.order.ordered t.in_range
             (sym (whole_lines bytes kept.stage kept.taken kept.last g.walked f other t));
       };
 }

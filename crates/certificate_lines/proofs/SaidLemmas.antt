@@ -1,27 +1,32 @@
 -- What the lines of a certificate say, and that no other lines say it.
-use Rattle.std.proofs.Common.{◌≡◌, ℕ, ◌≤◌, inl, inr, List, [], ◌∷◌, ◌++◌, length, get_or, map, All, refl, sym, ap}
+use Rattle.std.proofs.Common.{◌≡◌, ℕ, ◌<◌, ◌≤◌, inl, inr, List, [], ◌∷◌, ◌++◌, length, get_or, map, All, refl, sym, ap}
 use Rattle.std.proofs.Common.{subst, ◌∙◌, arith, append_assoc}
-use Rattle.std.specs.Prelude.{codes, flat_map, nat_eq, if◌then◌else◌}
+use Rattle.std.specs.Prelude.{Bool, true, false, codes, flat_map, nat_eq, if◌then◌else◌}
 use Rattle.std.proofs.lemmas.List.Elements.{All-nil, All-cons, All-head, All-tail}
-use Rattle.proof_rules.specs.Tree.{Tree, Forest, leaf, branch, bar, none, more, tree_count}
-use Rattle.proof_rules.specs.Certificate.{Section, Version, first, second, Certificate, AreListed, IsTreeIn}
+use Rattle.proof_rules.specs.Tree.{Tree, Forest, leaf, weighted, branch, bar, omit, none, more, tree_count}
+use Rattle.proof_rules.specs.Certificate.{Section, Version, first, second, third, Certificate, AreListed, IsTreeIn}
 use Rattle.proof_rules.specs.Certificate.{AreTreesIn, IsSectionIn, IsInRange, IsVersionOf}
-use Rattle.proof_rules.specs.Text.{line, tree_lines, forest_lines, section_lines, lines_of}
+use Rattle.proof_rules.specs.Text.{line, group_line, tree_lines, forest_lines, section_lines, lines_of}
 use Rattle.certificate_lines.specs.Numbers.{IsSmall}
 use Rattle.certificate_lines.specs.Decides.{IsLineOf}
 use Rattle.certificate_lines.specs.Kinds.{word_of}
-use Rattle.certificate_lines.specs.Said.{Said, said, text_of, tree_said, forest_said, section_said, said_of, AreSaid}
-use Rattle.certificate_lines.proofs.Complete.{listed_few}
+use Rattle.certificate_lines.specs.Said.{Said, said, text_of, group_said, tree_said, forest_said, section_said, said_of}
+use Rattle.certificate_lines.specs.Said.{AreSaid}
+use Rattle.certificate_lines.specs.Orders.{is_dark, IsOrdered}
+use Rattle.certificate_lines.proofs.OrderLemmas.{said_ordered}
+use Rattle.certificate_lines.proofs.Complete.{listed_few, groups_few, all_cells_head, all_cells_tail}
+use Rattle.proof_rules.specs.declared.groups.Group.{Group}
+use Rattle.proof_rules.specs.Groups.{all_cells_of, IsGroup}
 use Rattle.cave_base.specs.Box.{cell_count}
-use Rattle.certificate_lines.proofs.Lift.{sides}
+use Rattle.certificate_lines.proofs.Lift.{sides, group_numbers_small}
 use Rattle.certificate_lines.proofs.Walk.{count_small}
-use Rattle.certificate_lines.proofs.Whole.{magic_first, magic_second}
+use Rattle.certificate_lines.proofs.Whole.{magic_first, magic_second, magic_third}
 use Rattle.certificate_lines.specs.declared.kind.Kind.{Kind}
 use Rattle.certificate_lines.specs.declared.kind.Kind.TheVariants as kind
 
 -- ---- the kind of a line, by two of its bytes
 
--- a number for each kind
+-- a number for each kind, and one for the two with the same word
 code_of : Kind → ℕ
 code_of kind.Version = 116
 code_of kind.Size = 98
@@ -34,22 +39,28 @@ code_of kind.Torches = 84
 code_of kind.Leaf = 76
 code_of kind.Branch = 66
 code_of kind.Bar = 69
+code_of kind.Weighted = 87
+code_of kind.Group = 71
+code_of kind.Omit = 68
 code_of kind.End = 101
 
--- the kind of such a number
-from_code : ℕ → Kind
-from_code n =
+-- the kind of such a number, if it is that of dark cells or isn't
+from_code : Bool → ℕ → Kind
+from_code true n = kind.Dark
+from_code false n =
     if nat_eq n 116 then kind.Version else
     if nat_eq n 98 then kind.Size else
     if nat_eq n 104 then kind.Headroom else
     if nat_eq n 110 then kind.Need else
     if nat_eq n 115 then kind.Regions else
     if nat_eq n 114 then kind.Region else
-    if nat_eq n 68 then kind.Dark else
     if nat_eq n 84 then kind.Torches else
     if nat_eq n 76 then kind.Leaf else
     if nat_eq n 66 then kind.Branch else
     if nat_eq n 69 then kind.Bar else
+    if nat_eq n 87 then kind.Weighted else
+    if nat_eq n 71 then kind.Group else
+    if nat_eq n 68 then kind.Omit else
     kind.End
 
 -- the number of the kind whose line begins with these bytes
@@ -72,10 +83,13 @@ coded kind.Torches numbers = refl
 coded kind.Leaf numbers = refl
 coded kind.Branch numbers = refl
 coded kind.Bar numbers = refl
+coded kind.Weighted numbers = refl
+coded kind.Group numbers = refl
+coded kind.Omit numbers = refl
 coded kind.End numbers = refl
 
--- the number of a kind tells the kind
-back : (k : Kind) → from_code (code_of k) ≡ k
+-- the number of a kind tells the kind, if it is told whether it is that of dark cells
+back : (k : Kind) → from_code (is_dark k) (code_of k) ≡ k
 unfolding from_code code_of
 back kind.Version = refl
 back kind.Size = refl
@@ -88,11 +102,15 @@ back kind.Torches = refl
 back kind.Leaf = refl
 back kind.Branch = refl
 back kind.Bar = refl
+back kind.Weighted = refl
+back kind.Group = refl
+back kind.Omit = refl
 back kind.End = refl
 
--- lines with the same text are of one kind
-one_kind : (j k : Kind) (a b : List ℕ) → line (word_of j) a ≡ line (word_of k) b → j ≡ k
-one_kind j k a b e = sym (back j) ∙ ap from_code (sym (coded j a) ∙ ap code_at e ∙ coded k b) ∙ back k
+-- lines with the same text are of one kind, if both are those of dark cells or neither is
+one_kind : (j k : Kind) (a b : List ℕ) → is_dark j ≡ is_dark k → line (word_of j) a ≡ line (word_of k) b → j ≡ k
+one_kind j k a b d e = sym (back j) ∙ ap (λ (x : Bool). from_code x (code_of j)) d
+    ∙ ap (from_code (is_dark k)) (sym (coded j a) ∙ ap code_at e ∙ coded k b) ∙ back k
 
 -- ---- one meaning
 
@@ -104,21 +122,23 @@ AreAllSmall all = All (λ s. All IsSmall s.numbers) all
 same_said : (j k : Kind) (a b : List ℕ) → j ≡ k → a ≡ b → said j a ≡ said k b
 same_said j k a b e f = cc
 
--- lines say one thing
-pub one_said : (lines : List (List ℕ)) (all others : List Said) → AreSaid lines all
+-- lines say one thing, where those of dark cells stand in order
+pub one_said : (before : Kind) (lines : List (List ℕ)) (all others : List Said) → AreSaid lines all
+    → IsOrdered before all → IsOrdered before others
     → All (λ s. All IsSmall s.numbers) others → lines ≡ map text_of others → others ≡ all
-one_said [] [] [] a small e = refl
-one_said [] [] (o ∷ os) a small e = absurd cc
-one_said [] (s ∷ all) others a small e = absurd a
-one_said (t ∷ ts) [] others a small e = absurd a
-one_said (t ∷ ts) (s ∷ all) [] a small e = absurd cc
-one_said (t ∷ ts) (s ∷ all) (o ∷ os) a small e =
+one_said before [] [] [] a p q small e = refl
+one_said before [] [] (o ∷ os) a p q small e = absurd cc
+one_said before [] (s ∷ all) others a p q small e = absurd a
+one_said before (t ∷ ts) [] others a p q small e = absurd a
+one_said before (t ∷ ts) (s ∷ all) [] a p q small e = absurd cc
+one_said before (t ∷ ts) (s ∷ all) (o ∷ os) a p q small e =
     let here : t ≡ text_of o = cc in
     let later : ts ≡ map text_of os = cc in
-    let kinds : o.kind ≡ s.kind = one_kind o.kind s.kind o.numbers s.numbers (sym here ∙ a.0.is) in
+    let kinds : o.kind ≡ s.kind = one_kind o.kind s.kind o.numbers s.numbers (q.0 ∙ sym p.0) (sym here ∙ a.0.is) in
     let numbers : o.numbers ≡ s.numbers = a.0.only o.numbers (All-head (λ (s : Said). All IsSmall s.numbers) o os small)
     (here ∙ ap (λ (k : Kind). line (word_of k) o.numbers) kinds) in
-    let rest : os ≡ all = one_said ts all os a.1 (All-tail (λ (s : Said). All IsSmall s.numbers) o os small) later in
+    let rest : os ≡ all = one_said s.kind ts all os a.1 p.1 (subst (λ (k : Kind). IsOrdered k os) kinds q.1)
+    (All-tail (λ (s : Said). All IsSmall s.numbers) o os small) later in
     let first : o ≡ s = same_said o.kind s.kind o.numbers s.numbers kinds numbers in
     cc
 
@@ -144,12 +164,20 @@ map_on : (xs ys : List Said) → map text_of (xs ++ ys) ≡ map text_of xs ++ ma
 map_on [] ys = refl
 map_on (x ∷ xs) ys = ap (λ (l : List (List ℕ)). text_of x ∷ l) (map_on xs ys)
 
+-- what groups say is written as their lines
+groups_text : (gs : List Group) → map text_of (map group_said gs) ≡ map group_line gs
+groups_text [] = refl
+groups_text (g ∷ gs) = ap (λ (l : List (List ℕ)). group_line g ∷ l) (groups_text gs)
+
 mutual
   tree_text : (t : Tree) → map text_of (tree_said t) ≡ tree_lines t
   tree_text (leaf cells) = refl
   tree_text (branch cell kids) = ap (λ (l : List (List ℕ)). line (codes "B") (cell ∷ tree_count kids ∷ []) ∷ l)
       (forest_text kids)
   tree_text (bar place by kid) = ap (λ (l : List (List ℕ)). line (codes "E") (place ∷ by ∷ []) ∷ l) (tree_text kid)
+  tree_text (weighted groups) = ap (λ (l : List (List ℕ)). line (codes "W") (length groups ∷ []) ∷ l)
+      (groups_text groups)
+  tree_text (omit cells kid) = ap (λ (l : List (List ℕ)). line (codes "D") (length cells ∷ cells) ∷ l) (tree_text kid)
 
   forest_text : (ts : Forest) → map text_of (forest_said ts) ≡ forest_lines ts
   forest_text none = refl
@@ -190,6 +218,12 @@ said_text c = go c.version where
       ∙ ap (λ (t : List ℕ). t ∷ line (codes "box") (c.size.x ∷ c.size.y ∷ c.size.z ∷ []) ∷ line (codes "headroom")
       (c.headroom ∷ []) ∷ line (codes "need") (need ∷ []) ∷ line (codes "regions")
       (length c.sections ∷ []) ∷ (flat_map section_lines c.sections ++ codes "end" ∷ [])) magic_second
+  go (third need) = ap (λ (l : List (List ℕ)). line (codes "torchproof") (3 ∷ []) ∷ line (codes "box")
+      (c.size.x ∷ c.size.y ∷ c.size.z ∷ []) ∷ line (codes "headroom") (c.headroom ∷ []) ∷ line (codes "need")
+      (need ∷ []) ∷ line (codes "regions") (length c.sections ∷ []) ∷ l) rest
+      ∙ ap (λ (t : List ℕ). t ∷ line (codes "box") (c.size.x ∷ c.size.y ∷ c.size.z ∷ []) ∷ line (codes "headroom")
+      (c.headroom ∷ []) ∷ line (codes "need") (need ∷ []) ∷ line (codes "regions")
+      (length c.sections ∷ []) ∷ (flat_map section_lines c.sections ++ codes "end" ∷ [])) magic_third
 
 -- ---- its numbers are small
 
@@ -213,15 +247,23 @@ small_nil = All-nil (λ (s : Said). All IsSmall s.numbers)
 
 -- two small numbers
 pair : (a b : ℕ) → a ≤ 262144 → b ≤ 262144 → All IsSmall (a ∷ b ∷ [])
-pair a b h i = All-cons IsSmall a (b ∷ []) h (All-cons IsSmall b [] i (All-nil IsSmall))
+pair a b h i = All-cons IsSmall a (b ∷ []) (omega arith) (All-cons IsSmall b [] (omega arith) (All-nil IsSmall))
 
 -- one small number
 one : (a : ℕ) → a ≤ 262144 → All IsSmall (a ∷ [])
-one a h = All-cons IsSmall a [] h (All-nil IsSmall)
+one a h = All-cons IsSmall a [] (omega arith) (All-nil IsSmall)
 
 module _ (count : ℕ) (few : count ≤ 262144) where
   listed_small : (cells : List ℕ) → AreListed count cells → All IsSmall cells
   listed_small cells a = λ k d h. (let b = a.below k d h in omega arith)
+
+  groups_small : (gs : List Group) → All IsGroup gs → All (λ cell. cell < count) (all_cells_of gs)
+      → AreAllSmall (map group_said gs)
+  groups_small [] f b = small_nil
+  groups_small (g ∷ gs) f b = small_cons (group_said g) (map group_said gs)
+      (group_numbers_small count g few (All-head IsGroup g gs f)
+      (all_cells_head (λ (cell : ℕ). cell < count) g gs b))
+      (groups_small gs (All-tail IsGroup g gs f) (all_cells_tail (λ (cell : ℕ). cell < count) g gs b))
 
   mutual
     tree_small : (t : Tree) → IsTreeIn count t → AreAllSmall (tree_said t)
@@ -232,6 +274,15 @@ module _ (count : ℕ) (few : count ≤ 262144) where
         (pair cell (tree_count kids) (let h = i.0 in omega arith) (let h = i.1 in omega arith)) (forest_small kids i.2)
     tree_small (bar place by kid) i = small_cons (said kind.Bar (place ∷ by ∷ [])) (tree_said kid)
         (pair place by (let h = i.0 in omega arith) (let h = i.1 in omega arith)) (tree_small kid i.2)
+    tree_small (weighted groups) i =
+        let f = i.groups_are in
+        small_cons (said kind.Weighted (length groups ∷ [])) (map group_said groups)
+        (one (length groups) (let h = groups_few count groups i in omega arith))
+        (groups_small groups f.each i.below)
+    tree_small (omit cells kid) i = small_cons (said kind.Omit (length cells ∷ cells)) (tree_said kid)
+        (All-cons IsSmall (length cells) cells (let h = listed_few count cells i.0 in omega arith)
+        (listed_small cells i.0))
+        (tree_small kid i.2)
 
     forest_small : (ts : Forest) → AreTreesIn count ts → AreAllSmall (forest_said ts)
     forest_small none i = small_nil
@@ -307,9 +358,26 @@ said_small c i = go c.version i.versioned where
       ∷ (flat_map section_said c.sections ++ said kind.End [] ∷ []))) headroom
       (small_cons (said kind.Need (need ∷ []))
       (said kind.Regions (length c.sections ∷ []) ∷ (flat_map section_said c.sections ++ said kind.End [] ∷ []))
-      (one need (elim h [ inl e ↦ omega arith | inr e ↦ omega arith ])) rest)))
+      (one need (elim h.needed [ inl e ↦ omega arith | inr e ↦ omega arith ])) rest)))
+  go (third need) h = small_cons (said kind.Version (3 ∷ []))
+      (said kind.Size (c.size.x ∷ c.size.y ∷ c.size.z ∷ []) ∷ said kind.Headroom (c.headroom ∷ []) ∷ said
+      kind.Need (need ∷ [])
+      ∷ (said kind.Regions (length c.sections ∷ []) ∷ (flat_map section_said c.sections ++ said kind.End [] ∷ [])))
+      (one 3 (omega arith))
+      (small_cons (said kind.Size (c.size.x ∷ c.size.y ∷ c.size.z ∷ []))
+      (said kind.Headroom (c.headroom ∷ []) ∷ said kind.Need (need ∷ [])
+      ∷ (said kind.Regions (length c.sections ∷ [])
+      ∷ (flat_map section_said c.sections ++ said kind.End [] ∷ []))) box
+      (small_cons (said kind.Headroom (c.headroom ∷ []))
+      (said kind.Need (need ∷ [])
+      ∷ (said kind.Regions (length c.sections ∷ [])
+      ∷ (flat_map section_said c.sections ++ said kind.End [] ∷ []))) headroom
+      (small_cons (said kind.Need (need ∷ []))
+      (said kind.Regions (length c.sections ∷ []) ∷ (flat_map section_said c.sections ++ said kind.End [] ∷ []))
+      (one need (elim h.needed [ inl e ↦ omega arith | inr e ↦ omega arith ])) rest)))
 
 -- the lines of a certificate say what it says
-pub said_is : (lines : List (List ℕ)) (all : List Said) (c : Certificate) → AreSaid lines all → IsInRange c
-    → lines ≡ lines_of c → all ≡ said_of c
-said_is lines all c a i e = sym (one_said lines all (said_of c) a (said_small c i) (e ∙ sym (said_text c)))
+pub said_is : (lines : List (List ℕ)) (all : List Said) (c : Certificate) → AreSaid lines all → IsOrdered kind.End all
+    → IsInRange c → lines ≡ lines_of c → all ≡ said_of c
+said_is lines all c a o i e = sym (one_said kind.End lines all (said_of c) a o (said_ordered c) (said_small c i)
+    (e ∙ sym (said_text c)))

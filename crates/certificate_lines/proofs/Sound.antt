@@ -1,13 +1,17 @@
 -- Lines that lead to the end are what is left of a certificate.
-use Rattle.std.proofs.Common.{◌≡◌, ℕ, suc, zero, ◌+◌, ◌<◌, ◌≤◌, inl, inr, List, [], ◌∷◌, ◌++◌, length, refl, sym}
-use Rattle.std.proofs.Common.{subst, ap, arith, append_assoc, append-nil, ◌∙◌}
-use Rattle.std.specs.Prelude.{Bool, false, IsTrue, codes, flat_map}
-use Rattle.std.proofs.lemmas.List.Elements.{All-nil, All-cons}
-use Rattle.proof_rules.specs.Tree.{Forest, leaf, branch, bar, none, more, tree_count}
-use Rattle.proof_rules.specs.Certificate.{Section, AreListed, AreTreesIn, HasNoBar, HaveNoBar, IsSectionIn}
-use Rattle.proof_rules.specs.Text.{line, forest_lines, tree_lines, section_lines}
-use Rattle.certificate_lines.specs.Steps.{Leads, after_node}
-use Rattle.certificate_lines.proofs.Rest.{SectionsRest, NodesRest, DarkRest, Rest}
+use Rattle.std.proofs.Common.{◌≡◌, ℕ, suc, zero, ◌+◌, ◌<◌, ◌≤◌, inl, inr, List, [], ◌∷◌, ◌++◌, length, map, All, refl}
+use Rattle.std.proofs.Common.{sym, subst, ap, arith, append_assoc, append-nil, ◌∙◌}
+use Rattle.std.specs.Prelude.{codes, flat_map}
+use Rattle.std.proofs.lemmas.List.Elements.{All-nil, All-cons, All-append}
+use Rattle.proof_rules.specs.declared.groups.Group.{Group}
+use Rattle.proof_rules.specs.Groups.{cells_of, all_cells_of, first_cells, IsGroup}
+use Rattle.proof_rules.specs.Tree.{Forest, leaf, weighted, branch, bar, omit, none, more, tree_count}
+use Rattle.proof_rules.specs.Certificate.{Section, AreListed, AreTreesIn, IsKnownTo, AreKnownTo, IsSectionIn}
+use Rattle.proof_rules.specs.Text.{line, group_line, forest_lines, tree_lines, section_lines}
+use Rattle.certificate_lines.specs.Nodes.{after_node, after_group, first_cell}
+use Rattle.certificate_lines.specs.Steps.{Leads}
+use Rattle.certificate_lines.proofs.ShareLemmas.{ascend_to}
+use Rattle.certificate_lines.proofs.Rest.{SectionsRest, NodesRest, GroupsRest, DarkRest, Rest}
 use Rattle.certificate_lines.specs.declared.stage.Stage.{Stage}
 use Rattle.certificate_lines.specs.declared.stage.Stage.TheVariants as stage
 
@@ -18,7 +22,7 @@ forest_append none others = others
 forest_append (more tree trees) others = more tree (forest_append trees others)
 
 -- a front of so many trees, and the others
-pub record Cut (count k p : ℕ) (trees : Forest) : Type 0 where
+pub record Cut (rank count k p : ℕ) (trees : Forest) : Type 0 where
   pub front : Forest
   pub others : Forest
   pub front_many : tree_count front ≡ k
@@ -26,11 +30,12 @@ pub record Cut (count k p : ℕ) (trees : Forest) : Type 0 where
   pub is : forest_lines trees ≡ forest_lines front ++ forest_lines others
   pub front_in : AreTreesIn count front
   pub others_in : AreTreesIn count others
-  pub front_bars : HaveNoBar trees → HaveNoBar front
-  pub others_bars : HaveNoBar trees → HaveNoBar others
+  pub front_known : AreKnownTo rank trees → AreKnownTo rank front
+  pub others_known : AreKnownTo rank trees → AreKnownTo rank others
 
-pub cut : (count k p : ℕ) (trees : Forest) → tree_count trees ≡ k + p → AreTreesIn count trees → Cut count k p trees
-cut count zero p trees e i = record {
+pub cut : (rank count k p : ℕ) (trees : Forest) → tree_count trees ≡ k + p → AreTreesIn count trees
+    → Cut rank count k p trees
+cut rank count zero p trees e i = record {
   front = none;
   others = trees;
   front_many = refl;
@@ -38,13 +43,13 @@ cut count zero p trees e i = record {
   is = refl;
   front_in = tt;
   others_in = i;
-  front_bars = λ b. tt;
-  others_bars = λ b. b;
+  front_known = λ b. tt;
+  others_known = λ b. b;
 }
-cut count (suc k) p none e i = absurd (omega arith)
-cut count (suc k) p (more t trees) e i =
+cut rank count (suc k) p none e i = absurd (omega arith)
+cut rank count (suc k) p (more t trees) e i =
     let many : tree_count trees ≡ k + p = omega arith in
-    let r = cut count k p trees many i.1 in
+    let r = cut rank count k p trees many i.1 in
     record {
       front = more t r.front;
       others = r.others;
@@ -53,21 +58,40 @@ cut count (suc k) p (more t trees) e i =
       is = rw (r.is) (sym (append_assoc (tree_lines t) (forest_lines r.front) (forest_lines r.others)));
       front_in = (i.0, r.front_in);
       others_in = r.others_in;
-      front_bars = λ b. (b.0, r.front_bars b.1);
-      others_bars = λ b. r.others_bars b.1;
+      front_known = λ b. (b.0, r.front_known b.1);
+      others_known = λ b. r.others_known b.1;
     }
 
 -- ---- no tree is left: the sections follow
-nothing_left : (second : Bool) (count to_come : ℕ) (lines : List (List ℕ)) → SectionsRest second count to_come lines
-    → NodesRest second count to_come 0 lines
-nothing_left second count to_come lines r =
-    record { trees = none; many = refl; each = tt; bars = λ e. tt; after = lines; rest = r; is = refl }
+nothing_left : (rank count to_come : ℕ) (lines : List (List ℕ)) → SectionsRest rank count to_come lines
+    → NodesRest rank count to_come 0 lines
+nothing_left rank count to_come lines r =
+    record { trees = none; many = refl; each = tt; known = tt; after = lines; rest = r; is = refl }
 
 -- what is left after a tree, whichever stage that is
-pub nodes_left : (second : Bool) (count to_come pending : ℕ) (lines : List (List ℕ))
-    → Rest (after_node second count to_come pending) lines → NodesRest second count to_come pending lines
-nodes_left second count to_come zero lines r = nothing_left second count to_come lines r
-nodes_left second count to_come (suc p) lines r = r
+pub nodes_left : (rank count to_come pending : ℕ) (lines : List (List ℕ))
+    → Rest (after_node rank count to_come pending) lines → NodesRest rank count to_come pending lines
+nodes_left rank count to_come zero lines r = nothing_left rank count to_come lines r
+nodes_left rank count to_come (suc p) lines r = r
+
+-- what is left after a group, whichever stage that is
+groups_left : (rank count to_come p left from : ℕ) (lines : List (List ℕ))
+    → Rest (after_group rank count to_come p left from) lines → GroupsRest rank count to_come (p + 1) left from lines
+groups_left rank count to_come p zero from lines r = record {
+  groups = [];
+  many = refl;
+  form = All-nil IsGroup;
+  below = All-nil (λ (cell : ℕ). cell < count);
+  ordered = tt;
+  after = lines;
+  fewer = p;
+  one_less = refl;
+  rest = nodes_left rank count to_come p lines r;
+  is = refl;
+}
+groups_left rank count to_come p (suc left) from lines r =
+    let e : suc p ≡ p + 1 = omega arith in
+    subst (λ (q : ℕ). GroupsRest rank count to_come q (suc left) from lines) e r
 
 joined : (text : List ℕ) (lines : List (List ℕ)) (region dark torches : List ℕ)
     (after later last tree sections : List (List ℕ)) (end : List ℕ)
@@ -79,14 +103,14 @@ joined text lines region dark torches after later last tree sections end a b c d
     let g = append-nil tree in
     cc
 
-module _ (second : Bool) (count to_come : ℕ) (text : List ℕ) (lines : List (List ℕ)) where
+module _ (rank count to_come : ℕ) (text : List ℕ) (lines : List (List ℕ)) where
   leaf_first : (p : ℕ) (cells : List ℕ) → text ≡ line (codes "L") (length cells ∷ cells) → AreListed count cells
-      → NodesRest second count to_come p lines → NodesRest second count to_come (p + 1) (text ∷ lines)
+      → NodesRest rank count to_come p lines → NodesRest rank count to_come (p + 1) (text ∷ lines)
   leaf_first p cells e listed r = record {
     trees = more (leaf cells) r.trees;
     many = omega (arith, r.many);
     each = (listed, r.each);
-    bars = λ f. (tt, r.bars f);
+    known = (tt, r.known);
     after = r.after;
     rest = r.rest;
     is = (ap (λ (t : List ℕ). t ∷ lines) e)
@@ -94,16 +118,16 @@ module _ (second : Bool) (count to_come : ℕ) (text : List ℕ) (lines : List (
   }
 
   branch_first : (p cell kids : ℕ) → text ≡ line (codes "B") (cell ∷ kids ∷ []) → cell < count → kids ≤ count
-      → NodesRest second count to_come (kids + p) lines → NodesRest second count to_come (p + 1) (text ∷ lines)
+      → NodesRest rank count to_come (kids + p) lines → NodesRest rank count to_come (p + 1) (text ∷ lines)
   branch_first p cell kids e below few r =
-      let c = cut count kids p r.trees r.many r.each in
+      let c = cut rank count kids p r.trees r.many r.each in
       let first : text ≡ line (codes "B") (cell ∷ tree_count c.front ∷ []) = e
       ∙ ap (λ (k : ℕ). line (codes "B") (cell ∷ k ∷ [])) (sym c.front_many) in
       record {
         trees = more (branch cell c.front) c.others;
         many = omega (arith, c.others_many);
         each = ((below, omega (arith, c.front_many), c.front_in), c.others_in);
-        bars = λ f. (c.front_bars (r.bars f), c.others_bars (r.bars f));
+        known = (c.front_known r.known, c.others_known r.known);
         after = r.after;
         rest = r.rest;
         is = ap (λ (t : List ℕ). t ∷ lines) first
@@ -111,38 +135,101 @@ module _ (second : Bool) (count to_come : ℕ) (text : List ℕ) (lines : List (
             (r.is ∙ ap (λ (ls : List (List ℕ)). ls ++ r.after) c.is);
       }
 
-  bar_first : (p place by : ℕ) → IsTrue second → text ≡ line (codes "E") (place ∷ by ∷ []) → place < count → by < count
-      → NodesRest second count to_come (p + 1) lines → NodesRest second count to_come (p + 1) (text ∷ lines)
-  bar_first p place by allowed e below by_below r = onto r.trees r.many r.each r.is where
-    onto : (trees : Forest) → tree_count trees ≡ p + 1 → AreTreesIn count trees → lines ≡ forest_lines trees ++ r.after
-        → NodesRest second count to_come (p + 1) (text ∷ lines)
-    onto none many i is = absurd (omega arith)
-    onto (more t ts) many i is = record {
+  bar_first : (p place by : ℕ) → 2 ≤ rank → text ≡ line (codes "E") (place ∷ by ∷ []) → place < count → by < count
+      → NodesRest rank count to_come (p + 1) lines → NodesRest rank count to_come (p + 1) (text ∷ lines)
+  bar_first p place by allowed e below by_below r = onto r.trees r.many r.each r.known r.is where
+    onto : (trees : Forest) → tree_count trees ≡ p + 1 → AreTreesIn count trees → AreKnownTo rank trees
+        → lines ≡ forest_lines trees ++ r.after → NodesRest rank count to_come (p + 1) (text ∷ lines)
+    onto none many i b is = absurd (omega arith)
+    onto (more t ts) many i b is = record {
       trees = more (bar place by t) ts;
       many = many;
       each = ((below, by_below, i.0), i.1);
-      bars = λ f. let no : IsTrue false = subst IsTrue f allowed in cc;
+      known = ((allowed, b.0), b.1);
       after = r.after;
       rest = r.rest;
       is = ap (λ (t : List ℕ). t ∷ lines) e ∙ ap (λ (ls : List (List ℕ)). line (codes "E") (place ∷ by ∷ []) ∷ ls) is;
     }
 
+  omit_first : (p : ℕ) (cells : List ℕ) → 3 ≤ rank → text ≡ line (codes "D") (length cells ∷ cells)
+      → 0 < length cells → AreListed count cells
+      → NodesRest rank count to_come (p + 1) lines → NodesRest rank count to_come (p + 1) (text ∷ lines)
+  omit_first p cells allowed e filled listed r = onto r.trees r.many r.each r.known r.is where
+    onto : (trees : Forest) → tree_count trees ≡ p + 1 → AreTreesIn count trees → AreKnownTo rank trees
+        → lines ≡ forest_lines trees ++ r.after → NodesRest rank count to_come (p + 1) (text ∷ lines)
+    onto none many i b is = absurd (omega arith)
+    onto (more t ts) many i b is = record {
+      trees = more (omit cells t) ts;
+      many = many;
+      each = ((listed, filled, i.0), i.1);
+      known = ((allowed, b.0), b.1);
+      after = r.after;
+      rest = r.rest;
+      is = ap (λ (t : List ℕ). t ∷ lines) e
+          ∙ ap (λ (ls : List (List ℕ)). line (codes "D") (length cells ∷ cells) ∷ ls) is;
+    }
+
+  weighted_first : (pending groups : ℕ) → 3 ≤ rank → text ≡ line (codes "W") (groups ∷ []) → 0 < groups
+      → GroupsRest rank count to_come pending groups 0 lines → NodesRest rank count to_come pending (text ∷ lines)
+  weighted_first pending groups allowed e filled r =
+      let first : text ≡ line (codes "W") (length r.groups ∷ []) = e
+      ∙ ap (λ (k : ℕ). line (codes "W") (k ∷ [])) (sym r.many) in
+      record {
+        trees = more (weighted r.groups) r.rest.trees;
+        many = omega (arith, r.rest.many, r.one_less);
+        each = (
+          record {
+            groups_are = record {
+              filled = omega (arith, r.many);
+              each = r.form;
+              ordered = ascend_to (first_cells r.groups) 0 r.ordered;
+            };
+            below = r.below;
+          },
+          r.rest.each,
+        );
+        known = (allowed, r.rest.known);
+        after = r.rest.after;
+        rest = r.rest.rest;
+        is = ap (λ (t : List ℕ). t ∷ lines) first
+            ∙ ap (λ (ls : List (List ℕ)). line (codes "W") (length r.groups ∷ []) ∷ ls)
+            (r.is ∙ ap (λ (ls : List (List ℕ)). map group_line r.groups ++ ls) r.rest.is
+            ∙ sym (append_assoc (map group_line r.groups) (forest_lines r.rest.trees) r.rest.after));
+      }
+
+  group_first : (p l from : ℕ) (group : Group) → text ≡ group_line group → IsGroup group
+      → All (λ cell. cell < count) (cells_of group.shares) → from ≤ first_cell group
+      → GroupsRest rank count to_come (p + 1) l (first_cell group + 1) lines
+      → GroupsRest rank count to_come (p + 1) (l + 1) from (text ∷ lines)
+  group_first p l from group e form below least r = record {
+    groups = group ∷ r.groups;
+    many = omega (arith, r.many);
+    form = All-cons IsGroup group r.groups form r.form;
+    below = All-append (λ (cell : ℕ). cell < count) (cells_of group.shares) (all_cells_of r.groups) below r.below;
+    ordered = (least, r.ordered);
+    after = r.after;
+    fewer = r.fewer;
+    one_less = r.one_less;
+    rest = r.rest;
+    is = ap (λ (t : List ℕ). t ∷ lines) e ∙ ap (λ (ls : List (List ℕ)). group_line group ∷ ls) r.is;
+  }
+
   -- `end`
-  end_first : text ≡ line (codes "end") [] → lines ≡ [] → SectionsRest second count 0 (text ∷ lines)
+  end_first : text ≡ line (codes "end") [] → lines ≡ [] → SectionsRest rank count 0 (text ∷ lines)
   end_first e n = record {
     sections = [];
     many = refl;
     each = All-nil (IsSectionIn count);
-    bars = λ f. All-nil (λ section. HasNoBar section.tree);
+    known = All-nil (λ section. IsKnownTo rank section.tree);
     is = cc;
   }
 
   region_first : (k n t : ℕ) → text ≡ line (codes "region") (n ∷ t ∷ []) → 0 < n → 0 < t
-      → DarkRest second count k n t lines → SectionsRest second count (k + 1) (text ∷ lines)
+      → DarkRest rank count k n t lines → SectionsRest rank count (k + 1) (text ∷ lines)
   region_first k n t e filled some d =
-      onto d.rest.rest.trees d.rest.rest.many d.rest.rest.each d.rest.rest.bars d.rest.rest.is where
-        onto : (trees : Forest) → tree_count trees ≡ 1 → AreTreesIn count trees → (second ≡ false → HaveNoBar trees)
-            → d.rest.after ≡ forest_lines trees ++ d.rest.rest.after → SectionsRest second count (k + 1) (text ∷ lines)
+      onto d.rest.rest.trees d.rest.rest.many d.rest.rest.each d.rest.rest.known d.rest.rest.is where
+        onto : (trees : Forest) → tree_count trees ≡ 1 → AreTreesIn count trees → AreKnownTo rank trees
+            → d.rest.after ≡ forest_lines trees ++ d.rest.rest.after → SectionsRest rank count (k + 1) (text ∷ lines)
         onto none many i b is = absurd (omega arith)
         onto (more x (more y ys)) many i b is = absurd (omega arith)
         onto (more x none) many i b is =
@@ -160,7 +247,7 @@ module _ (second : Bool) (count to_come : ℕ) (text : List ℕ) (lines : List (
                     some = omega (arith, d.rest.many);
                     proof = i.0;
                   }) r.each;
-              bars = λ f. All-cons (λ section. HasNoBar section.tree) s r.sections (b f).0 (r.bars f);
+              known = All-cons (λ section. IsKnownTo rank section.tree) s r.sections b.0 r.known;
               is = joined text lines (line (codes "region") (length d.cells ∷ length d.rest.torches ∷ [])) _ _
                   d.after d.rest.after d.rest.rest.after (tree_lines x) (flat_map section_lines r.sections)
                   (codes "end")
@@ -172,30 +259,31 @@ module _ (second : Bool) (count to_come : ℕ) (text : List ℕ) (lines : List (
 -- what is left at each stage
 pub left : (lines : List (List ℕ)) (s : Stage) → Leads lines s stage.Done → Rest s lines
 left [] stage.Start h = tt
-left [] (stage.Box second) h = tt
-left [] (stage.Headroom second count) h = tt
-left [] (stage.Need count) h = tt
-left [] (stage.Regions second count) h = tt
-left [] (stage.Region second count to_come) h = absurd (cc)
-left [] (stage.Dark second count to_come n t) h = absurd (cc)
-left [] (stage.Torches second count to_come t) h = absurd (cc)
-left [] (stage.Node second count to_come pending) h = absurd (cc)
+left [] (stage.Box rank) h = tt
+left [] (stage.Headroom rank count) h = tt
+left [] (stage.Need rank count) h = tt
+left [] (stage.Regions rank count) h = tt
+left [] (stage.Region rank count to_come) h = absurd (cc)
+left [] (stage.Dark rank count to_come n t) h = absurd (cc)
+left [] (stage.Torches rank count to_come t) h = absurd (cc)
+left [] (stage.Node rank count to_come pending) h = absurd (cc)
+left [] (stage.Group rank count to_come pending l from) h = absurd (cc)
 left [] stage.Done h = refl
 left (text ∷ ls) stage.Start h = tt
-left (text ∷ ls) (stage.Box second) h = tt
-left (text ∷ ls) (stage.Headroom second count) h = tt
-left (text ∷ ls) (stage.Need count) h = tt
-left (text ∷ ls) (stage.Regions second count) h = tt
-left (text ∷ ls) (stage.Region second count to_come) (next, inl (numbers, e, (z, n, nx)), rest) =
-    subst (λ (k : ℕ). SectionsRest second count k (text ∷ ls)) (sym z)
-    (end_first second count to_come text ls (e ∙ ap (λ (ns : List ℕ). line (codes "end") ns) n)
+left (text ∷ ls) (stage.Box rank) h = tt
+left (text ∷ ls) (stage.Headroom rank count) h = tt
+left (text ∷ ls) (stage.Need rank count) h = tt
+left (text ∷ ls) (stage.Regions rank count) h = tt
+left (text ∷ ls) (stage.Region rank count to_come) (next, inl (numbers, e, (z, n, nx)), rest) =
+    subst (λ (k : ℕ). SectionsRest rank count k (text ∷ ls)) (sym z)
+    (end_first rank count to_come text ls (e ∙ ap (λ (ns : List ℕ). line (codes "end") ns) n)
     (subst (λ (s : Stage). Rest s ls) nx (left ls next rest)))
-left (text ∷ ls) (stage.Region second count to_come)
+left (text ∷ ls) (stage.Region rank count to_come)
     (next, inr (numbers, e, (k, n, t, z, ns, n0, nc, t0, tc, nx)), rest) =
-    subst (λ (k : ℕ). SectionsRest second count k (text ∷ ls)) (sym z)
-    (region_first second count to_come text ls k n t (e ∙ ap (λ (ns : List ℕ). line (codes "region") ns) ns) n0 t0
+    subst (λ (k : ℕ). SectionsRest rank count k (text ∷ ls)) (sym z)
+    (region_first rank count to_come text ls k n t (e ∙ ap (λ (ns : List ℕ). line (codes "region") ns) ns) n0 t0
     (subst (λ (s : Stage). Rest s ls) nx (left ls next rest)))
-left (text ∷ ls) (stage.Dark second count to_come n t) (next, (numbers, e, (listed, many, nx)), rest) =
+left (text ∷ ls) (stage.Dark rank count to_come n t) (next, (numbers, e, (listed, many, nx)), rest) =
     record {
       cells = numbers;
       listed = listed;
@@ -205,7 +293,7 @@ left (text ∷ ls) (stage.Dark second count to_come n t) (next, (numbers, e, (li
           (left ls next rest);
       is = ap (λ (l : List ℕ). l ∷ ls) e;
     }
-left (text ∷ ls) (stage.Torches second count to_come t) (next, (numbers, e, (listed, many, nx)), rest) =
+left (text ∷ ls) (stage.Torches rank count to_come t) (next, (numbers, e, (listed, many, nx)), rest) =
     record {
       torches = numbers;
       listed = listed;
@@ -215,21 +303,41 @@ left (text ∷ ls) (stage.Torches second count to_come t) (next, (numbers, e, (l
           (left ls next rest);
       is = ap (λ (l : List ℕ). l ∷ ls) e;
     }
-left (text ∷ ls) (stage.Node second count to_come pending)
+left (text ∷ ls) (stage.Node rank count to_come pending)
     (next, inl (numbers, e, (p, cells, z, ns, listed, nx)), rest) =
-    subst (λ (k : ℕ). NodesRest second count to_come k (text ∷ ls)) (sym z)
-    (leaf_first second count to_come text ls p cells (e ∙ ap (λ (ns : List ℕ). line (codes "L") ns) ns) listed
-    (nodes_left second count to_come p ls (subst (λ (s : Stage). Rest s ls) nx (left ls next rest))))
-left (text ∷ ls) (stage.Node second count to_come pending)
+    subst (λ (k : ℕ). NodesRest rank count to_come k (text ∷ ls)) (sym z)
+    (leaf_first rank count to_come text ls p cells (e ∙ ap (λ (ns : List ℕ). line (codes "L") ns) ns) listed
+    (nodes_left rank count to_come p ls (subst (λ (s : Stage). Rest s ls) nx (left ls next rest))))
+left (text ∷ ls) (stage.Node rank count to_come pending)
     (next, inr (inl (numbers, e, (p, cell, kids, z, ns, below, few, nx))), rest) =
-    subst (λ (k : ℕ). NodesRest second count to_come k (text ∷ ls)) (sym z)
-    (branch_first second count to_come text ls p cell kids (e ∙ ap (λ (ns : List ℕ). line (codes "B") ns) ns) below few
-    (nodes_left second count to_come (kids + p) ls (subst (λ (s : Stage). Rest s ls) nx (left ls next rest))))
-left (text ∷ ls) (stage.Node second count to_come pending)
-    (next, inr (inr (numbers, e, (p, place, by, allowed, z, ns, below, by_below, nx))), rest) =
-    subst (λ (k : ℕ). NodesRest second count to_come k (text ∷ ls)) (sym z)
-    (bar_first second count to_come text ls p place by allowed (e ∙ ap (λ (ns : List ℕ). line (codes "E") ns) ns)
+    subst (λ (k : ℕ). NodesRest rank count to_come k (text ∷ ls)) (sym z)
+    (branch_first rank count to_come text ls p cell kids (e ∙ ap (λ (ns : List ℕ). line (codes "B") ns) ns) below few
+    (nodes_left rank count to_come (kids + p) ls (subst (λ (s : Stage). Rest s ls) nx (left ls next rest))))
+left (text ∷ ls) (stage.Node rank count to_come pending)
+    (next, inr (inr (inl (numbers, e, (p, place, by, allowed, z, ns, below, by_below, nx)))), rest) =
+    subst (λ (k : ℕ). NodesRest rank count to_come k (text ∷ ls)) (sym z)
+    (bar_first rank count to_come text ls p place by allowed (e ∙ ap (λ (ns : List ℕ). line (codes "E") ns) ns)
     below by_below
-    (subst (λ (k : ℕ). NodesRest second count to_come k ls) z
+    (subst (λ (k : ℕ). NodesRest rank count to_come k ls) z
     (subst (λ (s : Stage). Rest s ls) nx (left ls next rest))))
+left (text ∷ ls) (stage.Node rank count to_come pending)
+    (next, inr (inr (inr (inl (numbers, e, (groups, allowed, ns, filled, few, nx))))), rest) =
+    weighted_first rank count to_come text ls pending groups allowed
+    (e ∙ ap (λ (ns : List ℕ). line (codes "W") ns) ns) filled
+    (subst (λ (s : Stage). Rest s ls) nx (left ls next rest))
+left (text ∷ ls) (stage.Node rank count to_come pending)
+    (next, inr (inr (inr (inr (numbers, e, (p, cells, allowed, z, ns, filled, listed, nx))))), rest) =
+    subst (λ (k : ℕ). NodesRest rank count to_come k (text ∷ ls)) (sym z)
+    (omit_first rank count to_come text ls p cells allowed (e ∙ ap (λ (ns : List ℕ). line (codes "D") ns) ns)
+    filled listed
+    (subst (λ (k : ℕ). NodesRest rank count to_come k ls) z
+    (subst (λ (s : Stage). Rest s ls) nx (left ls next rest))))
+left (text ∷ ls) (stage.Group rank count to_come pending l from)
+    (next, (numbers, e, (p, m, group, z, zl, ns, form, below, least, room, nx)), rest) =
+    subst (λ (k : ℕ). GroupsRest rank count to_come k l from (text ∷ ls)) (sym z)
+    (subst (λ (k : ℕ). GroupsRest rank count to_come (p + 1) k from (text ∷ ls)) (sym zl)
+    (group_first rank count to_come text ls p m from group (e ∙ ap (λ (ns : List ℕ). line (codes "G") ns) ns) form below
+    least
+    (groups_left rank count to_come p m (first_cell group + 1) ls
+    (subst (λ (s : Stage). Rest s ls) nx (left ls next rest)))))
 left (text ∷ ls) stage.Done (next, h, rest) = absurd h

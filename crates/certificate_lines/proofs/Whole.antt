@@ -1,10 +1,10 @@
 -- The lines that lead from the start to the end are those of the certificates in range.
 use Rattle.std.proofs.Common.{◌≡◌, ℕ, ◌+◌, ◌<◌, ◌≤◌, ◌⊎◌, inl, inr, List, [], ◌∷◌, ◌++◌, length, All, refl, sym}
 use Rattle.std.proofs.Common.{subst, ap, arith, ◌∙◌}
-use Rattle.std.specs.Prelude.{Bool, true, false, IsTrue, codes, flat_map, if◌then◌else◌}
+use Rattle.std.specs.Prelude.{zero, suc, IsTrue, codes, flat_map}
 use Rattle.std.proofs.lemmas.Fmt.{decimal_digit}
 use Rattle.cave_base.specs.Box.{Point, cell_count, is_small}
-use Rattle.proof_rules.specs.Certificate.{Section, Certificate, Version, IsInRange, IsSectionIn, HasNoBar}
+use Rattle.proof_rules.specs.Certificate.{Section, Certificate, Version, IsInRange, IsSectionIn, IsKnownTo}
 use Rattle.proof_rules.specs.Certificate as version
 use Rattle.proof_rules.specs.Text.{line, section_lines, lines_of}
 use Rattle.certificate_lines.specs.Steps.{Leads}
@@ -24,26 +24,29 @@ magic_first = magic 1 (omega arith)
 pub magic_second : line (codes "torchproof") (2 ∷ []) ≡ codes "torchproof 2"
 magic_second = magic 2 (omega arith)
 
+pub magic_third : line (codes "torchproof") (3 ∷ []) ≡ codes "torchproof 3"
+magic_third = magic 3 (omega arith)
+
 -- ---- from the lines to a certificate
 
-record RegionsRest (second : Bool) (count : ℕ) (lines : List (List ℕ)) : Type 0 where
+record RegionsRest (rank count : ℕ) (lines : List (List ℕ)) : Type 0 where
   sections : List Section
   few : length sections ≤ count
   each : All (IsSectionIn count) sections
-  bars : second ≡ false → All (λ section. HasNoBar section.tree) sections
+  known : All (λ section. IsKnownTo rank section.tree) sections
   is : lines ≡ line (codes "regions") (length sections ∷ []) ∷ (flat_map section_lines sections ++ codes "end" ∷ [])
 
-regions_left : (second : Bool) (count : ℕ) (lines : List (List ℕ)) → Leads lines (stage.Regions second count) stage.Done
-    → RegionsRest second count lines
-regions_left second count [] h = absurd (cc)
-regions_left second count (text ∷ ls) (next, (numbers, e, (k, ns, few, nx)), rest) =
-    let r : SectionsRest second count k ls = left ls (stage.Region second count k)
+regions_left : (rank : ℕ) (count : ℕ) (lines : List (List ℕ)) → Leads lines (stage.Regions rank count) stage.Done
+    → RegionsRest rank count lines
+regions_left rank count [] h = absurd (cc)
+regions_left rank count (text ∷ ls) (next, (numbers, e, (k, ns, few, nx)), rest) =
+    let r : SectionsRest rank count k ls = left ls (stage.Region rank count k)
     (subst (λ (s : Stage). Leads ls s stage.Done) nx rest) in
     record {
       sections = r.sections;
       few = omega (arith, r.many);
       each = r.each;
-      bars = r.bars;
+      known = r.known;
       is = cons_same text ls (line (codes "regions") (length r.sections ∷ []))
           (flat_map section_lines r.sections ++ codes "end" ∷ [])
           (e ∙ ap (λ (ns : List ℕ). line (codes "regions") ns) ns ∙ ap (λ (m : ℕ). line (codes "regions") (m ∷ []))
@@ -66,11 +69,17 @@ either k a b numbers (inr e) = (b, e, inr refl)
 -- of the first version
 with_first : (t1 t2 t3 : List ℕ) (ls : List (List ℕ)) (size : Point) (headroom : ℕ) → t1 ≡ codes "torchproof 1"
     → t2 ≡ line (codes "box") (size.x ∷ size.y ∷ size.z ∷ []) → t3 ≡ line (codes "headroom") (headroom ∷ [])
-    → IsTrue (is_small size) → (headroom ≡ 1) ⊎ (headroom ≡ 2) → RegionsRest false (cell_count size) ls
+    → IsTrue (is_small size) → (headroom ≡ 1) ⊎ (headroom ≡ 2) → RegionsRest 1 (cell_count size) ls
     → WholeRest (t1 ∷ t2 ∷ t3 ∷ ls)
 with_first t1 t2 t3 ls size headroom e1 e2 e3 small ruled r = record {
   certificate = record { version = version.first; size = size; headroom = headroom; sections = r.sections };
-  in_range = record { small = small; ruled = ruled; versioned = r.bars refl; few = r.few; each = r.each };
+  in_range = record {
+    small = small;
+    ruled = ruled;
+    versioned = record { known = r.known; needed = inl refl };
+    few = r.few;
+    each = r.each;
+  };
   is = let f = r.is in cc;
 }
 
@@ -79,54 +88,85 @@ with_second : (t1 t2 t3 t4 : List ℕ) (ls : List (List ℕ)) (size : Point) (he
     → t2 ≡ line (codes "box") (size.x ∷ size.y ∷ size.z ∷ []) → t3 ≡ line (codes "headroom") (headroom ∷ [])
     → t4 ≡ line (codes "need") (need ∷ [])
     → IsTrue (is_small size) → (headroom ≡ 1) ⊎ (headroom ≡ 2) → (need ≡ 1) ⊎ (need ≡ 8)
-    → RegionsRest true (cell_count size) ls → WholeRest (t1 ∷ t2 ∷ t3 ∷ t4 ∷ ls)
+    → RegionsRest 2 (cell_count size) ls → WholeRest (t1 ∷ t2 ∷ t3 ∷ t4 ∷ ls)
 with_second t1 t2 t3 t4 ls size headroom need e1 e2 e3 e4 small ruled needed r = record {
   certificate = record { version = version.second need; size = size; headroom = headroom; sections = r.sections };
-  in_range = record { small = small; ruled = ruled; versioned = needed; few = r.few; each = r.each };
+  in_range = record {
+    small = small;
+    ruled = ruled;
+    versioned = record { known = r.known; needed = needed };
+    few = r.few;
+    each = r.each;
+  };
   is = let f = r.is in cc;
 }
 
-need_step : (t1 t2 t3 : List ℕ) (ls : List (List ℕ)) (size : Point) (headroom : ℕ) → t1 ≡ codes "torchproof 2"
+-- of the third
+with_third : (t1 t2 t3 t4 : List ℕ) (ls : List (List ℕ)) (size : Point) (headroom need : ℕ) → t1 ≡ codes "torchproof 3"
     → t2 ≡ line (codes "box") (size.x ∷ size.y ∷ size.z ∷ []) → t3 ≡ line (codes "headroom") (headroom ∷ [])
-    → IsTrue (is_small size) → (headroom ≡ 1) ⊎ (headroom ≡ 2) → Leads ls (stage.Need (cell_count size)) stage.Done
-    → WholeRest (t1 ∷ t2 ∷ t3 ∷ ls)
-need_step t1 t2 t3 [] size headroom e1 e2 e3 small ruled h = absurd (cc)
-need_step t1 t2 t3 (t4 ∷ ls) size headroom e1 e2 e3 small ruled (next, (numbers, e, (which, nx)), rest) =
-    let n = either 0 1 8 numbers which in
-    with_second t1 t2 t3 t4 ls size headroom n.0 e1 e2 e3 (e ∙ ap (λ (ns : List ℕ). line (codes "need") ns) n.1)
-    small ruled n.2
-    (regions_left true (cell_count size) ls (subst (λ (s : Stage). Leads ls s stage.Done) nx rest))
+    → t4 ≡ line (codes "need") (need ∷ [])
+    → IsTrue (is_small size) → (headroom ≡ 1) ⊎ (headroom ≡ 2) → (need ≡ 1) ⊎ (need ≡ 8)
+    → RegionsRest 3 (cell_count size) ls → WholeRest (t1 ∷ t2 ∷ t3 ∷ t4 ∷ ls)
+with_third t1 t2 t3 t4 ls size headroom need e1 e2 e3 e4 small ruled needed r = record {
+  certificate = record { version = version.third need; size = size; headroom = headroom; sections = r.sections };
+  in_range = record {
+    small = small;
+    ruled = ruled;
+    versioned = record { known = r.known; needed = needed };
+    few = r.few;
+    each = r.each;
+  };
+  is = let f = r.is in cc;
+}
 
-headroom_step : (second : Bool) (t1 t2 : List ℕ) (ls : List (List ℕ)) (size : Point)
-    → t1 ≡ line (codes "torchproof") ((if second then 2 else 1) ∷ [])
+need_step : (rank : ℕ) (t1 t2 t3 : List ℕ) (ls : List (List ℕ)) (size : Point)
+    → ((t4 : List ℕ) (ls : List (List ℕ)) (need : ℕ) → t4 ≡ line (codes "need") (need ∷ []) → (need ≡ 1) ⊎ (need ≡ 8)
+    → RegionsRest rank (cell_count size) ls → WholeRest (t1 ∷ t2 ∷ t3 ∷ t4 ∷ ls))
+    → Leads ls (stage.Need rank (cell_count size)) stage.Done → WholeRest (t1 ∷ t2 ∷ t3 ∷ ls)
+need_step rank t1 t2 t3 [] size with h = absurd (cc)
+need_step rank t1 t2 t3 (t4 ∷ ls) size with (next, (numbers, e, (which, nx)), rest) =
+    let n = either 0 1 8 numbers which in
+    with t4 ls n.0 (e ∙ ap (λ (ns : List ℕ). line (codes "need") ns) n.1) n.2
+    (regions_left rank (cell_count size) ls (subst (λ (s : Stage). Leads ls s stage.Done) nx rest))
+
+headroom_step : (rank : ℕ) (t1 t2 : List ℕ) (ls : List (List ℕ)) (size : Point)
+    → t1 ≡ line (codes "torchproof") (rank ∷ []) → 0 < rank → rank ≤ 3
     → t2 ≡ line (codes "box") (size.x ∷ size.y ∷ size.z ∷ [])
-    → IsTrue (is_small size) → Leads ls (stage.Headroom second (cell_count size)) stage.Done → WholeRest (t1 ∷ t2 ∷ ls)
-headroom_step second t1 t2 [] size e1 e2 small h = absurd (cc)
-headroom_step false t1 t2 (t3 ∷ ls) size e1 e2 small (next, (numbers, e, (which, nx)), rest) =
+    → IsTrue (is_small size) → Leads ls (stage.Headroom rank (cell_count size)) stage.Done → WholeRest (t1 ∷ t2 ∷ ls)
+headroom_step rank t1 t2 [] size e1 some most e2 small h = absurd (cc)
+headroom_step zero t1 t2 (t3 ∷ ls) size e1 some most e2 small h = absurd (omega arith)
+headroom_step (suc zero) t1 t2 (t3 ∷ ls) size e1 some most e2 small (next, (numbers, e, (which, nx)), rest) =
     let n = either 0 1 2 numbers which in
     with_first t1 t2 t3 ls size n.0 (e1 ∙ magic_first) e2
     (e ∙ ap (λ (ns : List ℕ). line (codes "headroom") ns) n.1) small n.2
-    (regions_left false (cell_count size) ls (subst (λ (s : Stage). Leads ls s stage.Done) nx rest))
-headroom_step true t1 t2 (t3 ∷ ls) size e1 e2 small (next, (numbers, e, (which, nx)), rest) =
+    (regions_left 1 (cell_count size) ls (subst (λ (s : Stage). Leads ls s stage.Done) nx rest))
+headroom_step (suc (suc zero)) t1 t2 (t3 ∷ ls) size e1 some most e2 small (next, (numbers, e, (which, nx)), rest) =
     let n = either 0 1 2 numbers which in
-    need_step t1 t2 t3 ls size n.0 (e1 ∙ magic_second) e2
-    (e ∙ ap (λ (ns : List ℕ). line (codes "headroom") ns) n.1) small n.2
+    need_step 2 t1 t2 t3 ls size
+    (λ t4 ls need e4 needed r. with_second t1 t2 t3 t4 ls size n.0 need (e1 ∙ magic_second) e2
+    (e ∙ ap (λ (ns : List ℕ). line (codes "headroom") ns) n.1) e4 small n.2 needed r)
     (subst (λ (s : Stage). Leads ls s stage.Done) nx rest)
+headroom_step (suc (suc (suc zero))) t1 t2 (t3 ∷ ls) size e1 some most e2 small
+    (next, (numbers, e, (which, nx)), rest) =
+    let n = either 0 1 2 numbers which in
+    need_step 3 t1 t2 t3 ls size
+    (λ t4 ls need e4 needed r. with_third t1 t2 t3 t4 ls size n.0 need (e1 ∙ magic_third) e2
+    (e ∙ ap (λ (ns : List ℕ). line (codes "headroom") ns) n.1) e4 small n.2 needed r)
+    (subst (λ (s : Stage). Leads ls s stage.Done) nx rest)
+headroom_step (suc (suc (suc (suc k)))) t1 t2 (t3 ∷ ls) size e1 some most e2 small h = absurd (omega arith)
 
-box_step : (second : Bool) (t1 : List ℕ) (ls : List (List ℕ))
-    → t1 ≡ line (codes "torchproof") ((if second then 2 else 1) ∷ []) → Leads ls (stage.Box second) stage.Done
-    → WholeRest (t1 ∷ ls)
-box_step second t1 [] e1 h = absurd (cc)
-box_step second t1 (t2 ∷ ls) e1 (next, (numbers, e, (size, ns, small, nx)), rest) =
-    headroom_step second t1 t2 ls size e1 (e ∙ ap (λ (ns : List ℕ). line (codes "box") ns) ns) small
+box_step : (rank : ℕ) (t1 : List ℕ) (ls : List (List ℕ)) → t1 ≡ line (codes "torchproof") (rank ∷ []) → 0 < rank
+    → rank ≤ 3 → Leads ls (stage.Box rank) stage.Done → WholeRest (t1 ∷ ls)
+box_step rank t1 [] e1 some most h = absurd (cc)
+box_step rank t1 (t2 ∷ ls) e1 some most (next, (numbers, e, (size, ns, small, nx)), rest) =
+    headroom_step rank t1 t2 ls size e1 some most (e ∙ ap (λ (ns : List ℕ). line (codes "box") ns) ns) small
     (subst (λ (s : Stage). Leads ls s stage.Done) nx rest)
 
 pub certificate_of : (lines : List (List ℕ)) → Leads lines stage.Start stage.Done → WholeRest lines
 certificate_of [] h = absurd (cc)
-certificate_of (t1 ∷ ls) (next, (numbers, e, inl (ns, nx)), rest) = box_step false t1 ls
-    (e ∙ ap (λ (ns : List ℕ). line (codes "torchproof") ns) ns) (subst (λ (s : Stage). Leads ls s stage.Done) nx rest)
-certificate_of (t1 ∷ ls) (next, (numbers, e, inr (ns, nx)), rest) = box_step true t1 ls
-    (e ∙ ap (λ (ns : List ℕ). line (codes "torchproof") ns) ns) (subst (λ (s : Stage). Leads ls s stage.Done) nx rest)
+certificate_of (t1 ∷ ls) (next, (numbers, e, (rank, ns, some, most, nx)), rest) = box_step rank t1 ls
+    (e ∙ ap (λ (ns : List ℕ). line (codes "torchproof") ns) ns) some most
+    (subst (λ (s : Stage). Leads ls s stage.Done) nx rest)
 
 -- ---- from a certificate to its lines
 
@@ -134,14 +174,14 @@ alone : (a b n : ℕ) → (n ≡ a) ⊎ (n ≡ b) → (n ∷ [] ≡ a ∷ []) �
 alone a b n (inl e) = inl (ap (λ (m : ℕ). m ∷ []) e)
 alone a b n (inr e) = inr (ap (λ (m : ℕ). m ∷ []) e)
 
-leads_regions : (second : Bool) (count : ℕ) (sections : List Section) → length sections ≤ count
-    → All (IsSectionIn count) sections → (second ≡ false → All (λ section. HasNoBar section.tree) sections)
+leads_regions : (rank count : ℕ) (sections : List Section) → length sections ≤ count
+    → All (IsSectionIn count) sections → All (λ section. IsKnownTo rank section.tree) sections
     → Leads (line (codes "regions") (length sections ∷ []) ∷ (flat_map section_lines sections ++ codes "end" ∷ []))
-    (stage.Regions second count) stage.Done
-leads_regions second count sections few each bars = (
-  stage.Region second count (length sections),
+    (stage.Regions rank count) stage.Done
+leads_regions rank count sections few each known = (
+  stage.Region rank count (length sections),
   (length sections ∷ [], refl, (length sections, refl, few, refl)),
-  leads_sections second count sections each bars,
+  leads_sections rank count sections each known,
 )
 
 pub leads_whole : (version : Version) (size : Point) (headroom : ℕ) (sections : List Section)
@@ -149,31 +189,48 @@ pub leads_whole : (version : Version) (size : Point) (headroom : ℕ) (sections 
     → Leads (lines_of (record { version = version; size = size; headroom = headroom; sections = sections }))
     stage.Start stage.Done
 leads_whole version.first size headroom sections r = (
-  stage.Box false,
-  (1 ∷ [], sym magic_first, inl (refl, refl)),
+  stage.Box 1,
+  (1 ∷ [], sym magic_first, (1, refl, omega arith, omega arith, refl)),
   (
-    stage.Headroom false (cell_count size),
+    stage.Headroom 1 (cell_count size),
     (size.x ∷ size.y ∷ size.z ∷ [], refl, (size, refl, r.small, refl)),
     (
-      stage.Regions false (cell_count size),
+      stage.Regions 1 (cell_count size),
       (headroom ∷ [], refl, (alone 1 2 headroom r.ruled, refl)),
-      leads_regions false (cell_count size) sections r.few r.each (λ f. r.versioned),
+      leads_regions 1 (cell_count size) sections r.few r.each r.versioned.known,
     ),
   ),
 )
 leads_whole (version.second need) size headroom sections r = (
-  stage.Box true,
-  (2 ∷ [], sym magic_second, inr (refl, refl)),
+  stage.Box 2,
+  (2 ∷ [], sym magic_second, (2, refl, omega arith, omega arith, refl)),
   (
-    stage.Headroom true (cell_count size),
+    stage.Headroom 2 (cell_count size),
     (size.x ∷ size.y ∷ size.z ∷ [], refl, (size, refl, r.small, refl)),
     (
-      stage.Need (cell_count size),
+      stage.Need 2 (cell_count size),
       (headroom ∷ [], refl, (alone 1 2 headroom r.ruled, refl)),
       (
-        stage.Regions true (cell_count size),
-        (need ∷ [], refl, (alone 1 8 need r.versioned, refl)),
-        leads_regions true (cell_count size) sections r.few r.each (λ f. absurd (cc)),
+        stage.Regions 2 (cell_count size),
+        (need ∷ [], refl, (alone 1 8 need r.versioned.needed, refl)),
+        leads_regions 2 (cell_count size) sections r.few r.each r.versioned.known,
+      ),
+    ),
+  ),
+)
+leads_whole (version.third need) size headroom sections r = (
+  stage.Box 3,
+  (3 ∷ [], sym magic_third, (3, refl, omega arith, omega arith, refl)),
+  (
+    stage.Headroom 3 (cell_count size),
+    (size.x ∷ size.y ∷ size.z ∷ [], refl, (size, refl, r.small, refl)),
+    (
+      stage.Need 3 (cell_count size),
+      (headroom ∷ [], refl, (alone 1 2 headroom r.ruled, refl)),
+      (
+        stage.Regions 3 (cell_count size),
+        (need ∷ [], refl, (alone 1 8 need r.versioned.needed, refl)),
+        leads_regions 3 (cell_count size) sections r.few r.each r.versioned.known,
       ),
     ),
   ),

@@ -5,6 +5,7 @@ use Rattle.proof_rules.specs.Text.{IsTextOf, IsFirstMisfit}
 use Rattle.certificate_lines.specs.Cuts.{HasNoFeed, IsCutLine}
 use Rattle.certificate_lines.specs.Decides.{IsNone}
 use Rattle.certificate_lines.specs.Numbers.{longest_line}
+use Rattle.certificate_lines.specs.Orders.{AreInOrder}
 use Rattle.certificate_lines.specs.Said.{Said, said, said_of, AreSaid}
 use Rattle.certificate_lines.specs.Steps.{Takes}
 use Rattle.certificate_lines.specs.Walked.{Walked}
@@ -25,6 +26,7 @@ pub record Going (bytes : List ℕ) (all : List Said) (s : Stage) (taken : ℕ) 
   pub walked : Walked bytes s taken last
   pub clean : HasNoFeed last
   pub says : AreSaid walked.before all
+  pub order : AreInOrder s all
 
 -- a line doesn't fit
 pub record Stuck (bytes : List ℕ) (number : ℕ) : Type 0 where

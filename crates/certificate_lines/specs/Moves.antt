@@ -2,7 +2,7 @@
 use Rattle.std.specs.Prelude.{◌≡◌, ℕ, ◌+◌, List}
 use Rattle.certificate_lines.specs.Steps.{Takes}
 use Rattle.certificate_lines.specs.Decides.{IsJust, IsNone, IsLineOf}
-use Rattle.certificate_lines.specs.Kinds.{word_of}
+use Rattle.certificate_lines.specs.Kinds.{word_of, kind_at}
 use Rattle.certificate_lines.specs.declared.kind.Kind.{Kind}
 use Rattle.certificate_lines.specs.declared.stage.Stage.{Stage}
 
@@ -10,6 +10,8 @@ use Rattle.certificate_lines.specs.declared.stage.Stage.{Stage}
 pub record Fits (text : List ℕ) (kind : Kind) (numbers : List ℕ) (old new : Stage)
     (taken now_taken : ℕ) : Type 0 where
   pub one : IsJust (Takes old text) new
+  -- it is of the kind that may come there
+  pub fits_stage : kind ≡ kind_at old text
   -- it has the word of its kind, and these numbers
   pub said : IsLineOf text (word_of kind) numbers
   pub counted : now_taken ≡ taken + 1

@@ -1,24 +1,27 @@
 -- What holds of the numbers that a stage keeps.
-use Rattle.std.specs.Prelude.{ℕ, ◌<◌, ◌≤◌}
+use Rattle.std.specs.Prelude.{ℕ, ◌+◌, ◌<◌, ◌≤◌}
 use Rattle.certificate_lines.specs.declared.stage.Stage.{Stage}
 use Rattle.certificate_lines.specs.declared.stage.Stage.TheVariants as stage
 
 -- the box is no larger than one may be, no more regions, cells or torches are to come than it has cells, and where
--- cells, torches or trees are to come they are at least one
+-- cells, torches, trees or groups are to come they are at least one; where groups are, enough cells are left for them
 abbrev pub IsSoundStage : Stage → Type 0
 IsSoundStage stage.Start = Unit {0}
-IsSoundStage (stage.Box second) = Unit {0}
-IsSoundStage (stage.Headroom second count) = count ≤ 262144
-IsSoundStage (stage.Need count) = count ≤ 262144
-IsSoundStage (stage.Regions second count) = count ≤ 262144
-IsSoundStage (stage.Region second count to_come) = (count ≤ 262144) × (to_come ≤ count)
-IsSoundStage (stage.Dark second count to_come n t) = (count ≤ 262144) × (to_come < count) × (0 < n) × (n ≤ count)
+IsSoundStage (stage.Box rank) = Unit {0}
+IsSoundStage (stage.Headroom rank count) = count ≤ 262144
+IsSoundStage (stage.Need rank count) = count ≤ 262144
+IsSoundStage (stage.Regions rank count) = count ≤ 262144
+IsSoundStage (stage.Region rank count to_come) = (count ≤ 262144) × (to_come ≤ count)
+IsSoundStage (stage.Dark rank count to_come n t) = (count ≤ 262144) × (to_come < count) × (0 < n) × (n ≤ count)
     × (0 < t) × (t ≤ count)
-IsSoundStage (stage.Torches second count to_come t) = (count ≤ 262144) × (to_come < count) × (0 < t) × (t ≤ count)
-IsSoundStage (stage.Node second count to_come pending) = (count ≤ 262144) × (to_come < count) × (0 < pending)
+IsSoundStage (stage.Torches rank count to_come t) = (count ≤ 262144) × (to_come < count) × (0 < t) × (t ≤ count)
+IsSoundStage (stage.Node rank count to_come pending) = (count ≤ 262144) × (to_come < count) × (0 < pending)
+IsSoundStage (stage.Group rank count to_come pending left from) = (count ≤ 262144) × (to_come < count) × (0 < pending)
+    × (0 < left) × (from + left ≤ count)
 IsSoundStage stage.Done = Unit {0}
 
 -- how many trees are still to come
 abbrev pub pending_of : Stage → ℕ
-pending_of (stage.Node second count to_come pending) = pending
+pending_of (stage.Node rank count to_come pending) = pending
+pending_of (stage.Group rank count to_come pending left from) = pending
 pending_of s = 0

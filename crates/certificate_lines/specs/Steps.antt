@@ -1,107 +1,88 @@
 -- What a line may be at each stage, and what comes after it. This is this project's own.
-use Rattle.std.specs.Prelude.{◌≡◌, ℕ, zero, suc, ◌+◌, ◌<◌, ◌≤◌, ◌⊎◌, Bool, true, false, IsTrue, List, [], ◌∷◌, length}
-use Rattle.std.specs.Prelude.{codes}
+use Rattle.std.specs.Prelude.{◌≡◌, ℕ, ◌+◌, ◌<◌, ◌≤◌, ◌⊎◌, IsTrue, List, [], ◌∷◌, length, codes, nat_eq, if◌then◌else◌}
 use Rattle.cave_base.specs.Box.{Point, cell_count, is_small}
 use Rattle.proof_rules.specs.Certificate.{AreListed}
 use Rattle.proof_rules.specs.Text.{line}
 use Rattle.certificate_lines.specs.declared.stage.Stage.{Stage}
 use Rattle.certificate_lines.specs.declared.stage.Stage.TheVariants as stage
+use Rattle.certificate_lines.specs.Nodes.{LeafMeans, BranchMeans, BarMeans, OmitMeans, WeightedMeans, GroupMeans}
 
 -- a line that begins with this word, whose numbers mean that
 abbrev pub Says : List ℕ → (List ℕ → Stage → Type 0) → List ℕ → Stage → Type 0
 Says word Means text next = (numbers : List ℕ) × (text ≡ line word numbers) × Means numbers next
 
--- what comes after the headroom: what is needed, where it is the second version, else how many regions there are
-abbrev pub after_headroom : Bool → ℕ → Stage
-after_headroom false count = stage.Regions false count
-after_headroom true count = stage.Need count
-
--- with so many trees still to come
-abbrev pub after_node : Bool → ℕ → ℕ → ℕ → Stage
-after_node second count to_come zero = stage.Region second count to_come
-after_node second count to_come (suc p) = stage.Node second count to_come (suc p)
+-- what comes after the headroom: how many regions there are in the first version, what is needed in the later ones
+abbrev pub after_headroom : ℕ → ℕ → Stage
+after_headroom rank count = if nat_eq rank 1 then stage.Regions rank count else stage.Need rank count
 
 -- ---- what the numbers of a line mean
 
--- the version, 1 or 2; the box comes next
+-- the version, from 1 to 3; the box comes next
 abbrev pub StartMeans : List ℕ → Stage → Type 0
-StartMeans numbers next = ((numbers ≡ 1 ∷ []) × (next ≡ stage.Box false)) ⊎ ((numbers ≡ 2 ∷ [])
-    × (next ≡ stage.Box true))
+StartMeans numbers next = (rank : ℕ) × (numbers ≡ rank ∷ []) × (0 < rank) × (rank ≤ 3) × (next ≡ stage.Box rank)
 
 -- the sides of a small box; the headroom comes next
-abbrev pub BoxMeans : Bool → List ℕ → Stage → Type 0
-BoxMeans second numbers next = (size : Point) × (numbers ≡ size.x ∷ size.y ∷ size.z ∷ [])
-    × IsTrue (is_small size) × (next ≡ stage.Headroom second (cell_count size))
+abbrev pub BoxMeans : ℕ → List ℕ → Stage → Type 0
+BoxMeans rank numbers next = (size : Point) × (numbers ≡ size.x ∷ size.y ∷ size.z ∷ [])
+    × IsTrue (is_small size) × (next ≡ stage.Headroom rank (cell_count size))
 
 -- a headroom of 1 or 2; what is needed comes next, or how many regions there are
-abbrev pub HeadroomMeans : Bool → ℕ → List ℕ → Stage → Type 0
-HeadroomMeans second count numbers next = ((numbers ≡ 1 ∷ []) ⊎ (numbers ≡ 2 ∷ []))
-    × (next ≡ after_headroom second count)
+abbrev pub HeadroomMeans : ℕ → ℕ → List ℕ → Stage → Type 0
+HeadroomMeans rank count numbers next = ((numbers ≡ 1 ∷ []) ⊎ (numbers ≡ 2 ∷ []))
+    × (next ≡ after_headroom rank count)
 
 -- a need of 1 or 8; how many regions there are comes next
-abbrev pub NeedMeans : ℕ → List ℕ → Stage → Type 0
-NeedMeans count numbers next = ((numbers ≡ 1 ∷ []) ⊎ (numbers ≡ 8 ∷ [])) × (next ≡ stage.Regions true count)
+abbrev pub NeedMeans : ℕ → ℕ → List ℕ → Stage → Type 0
+NeedMeans rank count numbers next = ((numbers ≡ 1 ∷ []) ⊎ (numbers ≡ 8 ∷ [])) × (next ≡ stage.Regions rank count)
 
 -- how many regions there are, no more than the box has cells; so many are to come
-abbrev pub RegionsMeans : Bool → ℕ → List ℕ → Stage → Type 0
-RegionsMeans second count numbers next = (k : ℕ) × (numbers ≡ k ∷ []) × (k ≤ count)
-    × (next ≡ stage.Region second count k)
+abbrev pub RegionsMeans : ℕ → ℕ → List ℕ → Stage → Type 0
+RegionsMeans rank count numbers next = (k : ℕ) × (numbers ≡ k ∷ []) × (k ≤ count)
+    × (next ≡ stage.Region rank count k)
 
 -- no number, and no region is to come; nothing comes next
 abbrev pub EndMeans : ℕ → List ℕ → Stage → Type 0
 EndMeans to_come numbers next = (to_come ≡ 0) × (numbers ≡ []) × (next ≡ stage.Done)
 
 -- how many cells and torches a region has, some of each, no more than the box has cells; its cells come next
-abbrev pub RegionMeans : Bool → ℕ → ℕ → List ℕ → Stage → Type 0
-RegionMeans second count to_come numbers next = (k n t : ℕ) × (to_come ≡ k + 1) × (numbers ≡ n ∷ t ∷ [])
-    × (0 < n) × (n ≤ count) × (0 < t) × (t ≤ count) × (next ≡ stage.Dark second count k n t)
+abbrev pub RegionMeans : ℕ → ℕ → ℕ → List ℕ → Stage → Type 0
+RegionMeans rank count to_come numbers next = (k n t : ℕ) × (to_come ≡ k + 1) × (numbers ≡ n ∷ t ∷ [])
+    × (0 < n) × (n ≤ count) × (0 < t) × (t ≤ count) × (next ≡ stage.Dark rank count k n t)
 
 -- the cells of the region, ascending, of the box, as many as were told; its torches come next
-abbrev pub DarkMeans : Bool → ℕ → ℕ → ℕ → ℕ → List ℕ → Stage → Type 0
-DarkMeans second count to_come n t numbers next = AreListed count numbers × (length numbers ≡ n)
-    × (next ≡ stage.Torches second count to_come t)
+abbrev pub DarkMeans : ℕ → ℕ → ℕ → ℕ → ℕ → List ℕ → Stage → Type 0
+DarkMeans rank count to_come n t numbers next = AreListed count numbers × (length numbers ≡ n)
+    × (next ≡ stage.Torches rank count to_come t)
 
 -- the torches of the region, ascending, in the box, as many as were told; its tree comes next
-abbrev pub TorchesMeans : Bool → ℕ → ℕ → ℕ → List ℕ → Stage → Type 0
-TorchesMeans second count to_come t numbers next = AreListed count numbers × (length numbers ≡ t)
-    × (next ≡ stage.Node second count to_come 1)
-
--- how many cells a leaf has, and these, ascending, of the box; one tree less is to come
-abbrev pub LeafMeans : Bool → ℕ → ℕ → ℕ → List ℕ → Stage → Type 0
-LeafMeans second count to_come pending numbers next = (p : ℕ) × (cells : List ℕ) × (pending ≡ p + 1)
-    × (numbers ≡ length cells ∷ cells) × AreListed count cells × (next ≡ after_node second count to_come p)
-
--- a cell of the box and how many kids the branch has, no more than the box has cells; so many trees come in its place
-abbrev pub BranchMeans : Bool → ℕ → ℕ → ℕ → List ℕ → Stage → Type 0
-BranchMeans second count to_come pending numbers next = (p cell kids : ℕ) × (pending ≡ p + 1)
-    × (numbers ≡ cell ∷ kids ∷ []) × (cell < count) × (kids ≤ count)
-    × (next ≡ after_node second count to_come (kids + p))
-
--- a place to leave out and another, both in the box, in the second version alone; as many trees are to come as before
-abbrev pub BarMeans : Bool → ℕ → ℕ → ℕ → List ℕ → Stage → Type 0
-BarMeans second count to_come pending numbers next = (p place by : ℕ) × IsTrue second × (pending ≡ p + 1)
-    × (numbers ≡ place ∷ by ∷ []) × (place < count) × (by < count) × (next ≡ stage.Node second count to_come pending)
+abbrev pub TorchesMeans : ℕ → ℕ → ℕ → ℕ → List ℕ → Stage → Type 0
+TorchesMeans rank count to_come t numbers next = AreListed count numbers × (length numbers ≡ t)
+    × (next ≡ stage.Node rank count to_come 1)
 
 -- ---- a step
 
 -- the line may come at this stage, and leads to that one
 abbrev pub Takes : Stage → List ℕ → Stage → Type 0
 Takes stage.Start text next = Says (codes "torchproof") StartMeans text next
-Takes (stage.Box second) text next = Says (codes "box") (BoxMeans second) text next
-Takes (stage.Headroom second count) text next = Says (codes "headroom") (HeadroomMeans second count) text next
-Takes (stage.Need count) text next = Says (codes "need") (NeedMeans count) text next
-Takes (stage.Regions second count) text next = Says (codes "regions") (RegionsMeans second count) text next
-Takes (stage.Region second count to_come) text next =
+Takes (stage.Box rank) text next = Says (codes "box") (BoxMeans rank) text next
+Takes (stage.Headroom rank count) text next = Says (codes "headroom") (HeadroomMeans rank count) text next
+Takes (stage.Need rank count) text next = Says (codes "need") (NeedMeans rank count) text next
+Takes (stage.Regions rank count) text next = Says (codes "regions") (RegionsMeans rank count) text next
+Takes (stage.Region rank count to_come) text next =
     Says (codes "end") (EndMeans to_come) text next
-    ⊎ Says (codes "region") (RegionMeans second count to_come) text next
-Takes (stage.Dark second count to_come n t) text next = Says (codes "D")
-    (DarkMeans second count to_come n t) text next
-Takes (stage.Torches second count to_come t) text next = Says (codes "T")
-    (TorchesMeans second count to_come t) text next
-Takes (stage.Node second count to_come pending) text next =
-    Says (codes "L") (LeafMeans second count to_come pending) text next
-    ⊎ Says (codes "B") (BranchMeans second count to_come pending) text next
-    ⊎ Says (codes "E") (BarMeans second count to_come pending) text next
+    ⊎ Says (codes "region") (RegionMeans rank count to_come) text next
+Takes (stage.Dark rank count to_come n t) text next = Says (codes "D")
+    (DarkMeans rank count to_come n t) text next
+Takes (stage.Torches rank count to_come t) text next = Says (codes "T")
+    (TorchesMeans rank count to_come t) text next
+Takes (stage.Node rank count to_come pending) text next =
+    Says (codes "L") (LeafMeans rank count to_come pending) text next
+    ⊎ Says (codes "B") (BranchMeans rank count to_come pending) text next
+    ⊎ Says (codes "E") (BarMeans rank count to_come pending) text next
+    ⊎ Says (codes "W") (WeightedMeans rank count to_come pending) text next
+    ⊎ Says (codes "D") (OmitMeans rank count to_come pending) text next
+Takes (stage.Group rank count to_come pending left from) text next =
+    Says (codes "G") (GroupMeans rank count to_come pending left from) text next
 Takes stage.Done text next = ⊥
 
 -- these lines lead from one stage to the other

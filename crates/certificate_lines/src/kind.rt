@@ -17,6 +17,9 @@ pub enum Kind {
     Leaf,
     Branch,
     Bar,
+    Weighted,
+    Group,
+    Omit,
     End,
 }
 
@@ -37,6 +40,9 @@ impl Kind {
             Kind::Leaf => b"L",
             Kind::Branch => b"B",
             Kind::Bar => b"E",
+            Kind::Weighted => b"W",
+            Kind::Group => b"G",
+            Kind::Omit => b"D",
             Kind::End => b"end",
         }
     }
@@ -56,6 +62,7 @@ pub fn kind_at(stage: Stage, text: &[u8]) -> Kind
         Stage::Dark { .. } => Kind::Dark,
         Stage::Torches { .. } => Kind::Torches,
         Stage::Node { .. } => node_kind(first_byte(text)),
+        Stage::Group { .. } => Kind::Group,
         Stage::Done => Kind::End,
     }
 }
@@ -77,6 +84,10 @@ fn node_kind(head: u8) -> Kind
         Kind::Branch
     } else if head == b'E' {
         Kind::Bar
+    } else if head == b'W' {
+        Kind::Weighted
+    } else if head == b'D' {
+        Kind::Omit
     } else {
         Kind::Leaf
     }

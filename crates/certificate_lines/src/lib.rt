@@ -2,6 +2,7 @@
 #![tactic(auto)]
 
 mod cut;
+mod group;
 mod kind;
 mod line;
 mod lines;

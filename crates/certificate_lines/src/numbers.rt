@@ -5,13 +5,13 @@ ghost use Rattle.certificate_lines.specs.Numbers.{AreNoNumbers};
 use std::alloc::AllocError;
 
 /// No certificate names a greater number.
-const LIMIT: u32 = 262_144;
+const LIMIT: u64 = 4_294_967_295;
 
 /// No line of one has more numbers.
-const MOST_NUMBERS: usize = 262_145;
+const MOST_NUMBERS: usize = 524_290;
 
 /// The digit that a text begins with, and what comes after it.
-fn digit(text: &[u8]) -> Option<(u32, &[u8])>
+fn digit(text: &[u8]) -> Option<(u64, &[u8])>
     ensures { MatchOption result (IsCut text.now)
         (λ r. (text.now ≡ (48 + r.0) ∷ r.1.now) × (r.0 < 10)) }
 {
@@ -21,7 +21,7 @@ fn digit(text: &[u8]) -> Option<(u32, &[u8])>
     if *byte < b'0' || *byte > b'9' {
         return None;
     }
-    Some((u32::from(*byte - b'0'), rest))
+    Some((u64::from(*byte - b'0'), rest))
 }
 
 /// The number that a text begins with, and what comes after it.
@@ -44,7 +44,7 @@ fn number(text: &[u8]) -> Option<(u32, &[u8])>
         }
         rest = tail;
     }
-    Some((number, rest))
+    Some((number as u32, rest))
 }
 
 /// Reads the numbers of a text, each after a space, into the buffer; stops where there are more than a line may have.

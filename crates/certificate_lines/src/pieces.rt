@@ -9,7 +9,7 @@ use std::alloc::{AllocError, Global};
 use std::marker::Model;
 
 /// No line of a certificate has more bytes.
-const LONGEST_LINE: usize = 1_835_025;
+const LONGEST_LINE: usize = 5_767_200;
 
 /// The text of a certificate, given in pieces of any size.
 #[derive(Drop)]

@@ -10,7 +10,9 @@ use crate::meaning::{
     after_box, after_dark, after_end, after_headroom, after_need, after_region, after_regions,
     after_start, after_torches,
 };
-use crate::node::{Trees, after_bar, after_branch, after_leaf};
+use crate::node::{
+    Trees, after_bar, after_branch, after_group, after_leaf, after_omit, after_weighted,
+};
 use crate::stage::Stage;
 use std::alloc::AllocError;
 
@@ -41,44 +43,62 @@ fn after(stage: Stage, kind: Kind, numbers: &[u32]) -> Option<Stage>
 {
     match stage {
         Stage::Start => after_start(numbers),
-        Stage::Box { second } => after_box(second, numbers),
-        Stage::Headroom { second, count } => after_headroom(second, count, numbers),
-        Stage::Need { count } => after_need(count, numbers),
-        Stage::Regions { second, count } => after_regions(second, count, numbers),
+        Stage::Box { rank } => after_box(rank, numbers),
+        Stage::Headroom { rank, count } => after_headroom(rank, count, numbers),
+        Stage::Need { rank, count } => after_need(rank, count, numbers),
+        Stage::Regions { rank, count } => after_regions(rank, count, numbers),
         Stage::Region {
-            second,
+            rank,
             count,
             to_come,
         } => match kind {
             Kind::End => after_end(to_come, numbers),
-            _ => after_region(second, count, to_come, numbers),
+            _ => after_region(rank, count, to_come, numbers),
         },
         Stage::Dark {
-            second,
+            rank,
             count,
             to_come,
             cells,
             torches,
-        } => after_dark(second, count, to_come, cells, torches, numbers),
+        } => after_dark(rank, count, to_come, cells, torches, numbers),
         Stage::Torches {
-            second,
+            rank,
             count,
             to_come,
             torches,
-        } => after_torches(second, count, to_come, torches, numbers),
+        } => after_torches(rank, count, to_come, torches, numbers),
         Stage::Node {
-            second,
+            rank,
             count,
             to_come,
             pending,
         } => after_node_line(
             Trees {
-                second,
+                rank,
                 count,
                 to_come,
                 pending,
             },
             kind,
+            numbers,
+        ),
+        Stage::Group {
+            rank,
+            count,
+            to_come,
+            pending,
+            left,
+            from,
+        } => after_group(
+            Trees {
+                rank,
+                count,
+                to_come,
+                pending,
+            },
+            left,
+            from,
             numbers,
         ),
         Stage::Done => None,
@@ -90,11 +110,13 @@ fn after_node_line(trees: Trees, kind: Kind, numbers: &[u32]) -> Option<Stage>
     requires few { trees.count ≤ 262144 }
     requires room { trees.pending + 262144 < 2 ^ 128 }
     ensures { Decides result (kinds.MeansAt
-        (kinds.node_stage trees.second trees.count trees.to_come trees.pending) kind numbers.now) }
+        (kinds.node_stage trees.rank trees.count trees.to_come trees.pending) kind numbers.now) }
 {
     match kind {
         Kind::Branch => after_branch(trees, numbers),
         Kind::Bar => after_bar(trees, numbers),
+        Kind::Weighted => after_weighted(trees, numbers),
+        Kind::Omit => after_omit(trees, numbers),
         _ => after_leaf(trees, numbers),
     }
 }

@@ -6,26 +6,32 @@ use Rattle.std.specs.Ordering.{nat_cmp}
 use Rattle.std.specs.List.Sorted.{IsPermutation, IsSorted}
 use Rattle.std.proofs.lemmas.List.{append-nil, drop_more}
 use Rattle.std.proofs.lemmas.Grind.{flat_map-append}
+use Rattle.std.proofs.lemmas.List.Folds.{flat_map-map}
 use Rattle.std.proofs.lemmas.List.Sorted.{IsPermutation-sym, Contains-permutation}
 use Rattle.cave_model.specs.Plan.{AreDistinct}
 use Rattle.set_cover.proofs.OrderLemmas.{sorted_rises}
-use Rattle.proof_rules.specs.Tree.{Tree, Forest, leaf, branch, none, more, tree_count}
-use Rattle.proof_rules.specs.Text.{line, tree_lines, forest_lines}
-use Rattle.certificate_text.specs.Lines.{tree_text, forest_text, HaveDistinctCells}
+use Rattle.proof_rules.specs.declared.groups.Group.{Group}
+use Rattle.proof_rules.specs.Tree.{Tree, Forest, weighted, branch, none, more, tree_count}
+use Rattle.proof_rules.specs.Text.{ended, line, group_line, tree_lines, forest_lines}
+use Rattle.certificate_text.specs.Lines.{groups_text, tree_text, forest_text, HaveDistinctCells}
 use Rattle.proof_tree.specs.Order.{in_order, ordered_tree, ordered_trees}
 use Rattle.proof_tree.specs.Shape.{tree_of, forest_of, tree_size, forest_size}
 use Rattle.certificate_text.specs.Writing.{AppendsPart, Passes, IsSent}
 use Rattle.proof_tree.specs.declared.proof.Proof.{Proof}
-use Rattle.proof_tree.proofs.OrderLemmas.{order_is, length_ordered}
+use Rattle.proof_tree.proofs.OrderLemmas.{order_is}
 use Rattle.certificate_text.proofs.SentLemmas.{part_more, part_then, passes_then, passes_none, sent_then}
 
 -- ---- texts
 
--- a leaf's line is its text
-pub leaf_text : (cells : List ℕ) → line (codes "L") (length cells ∷ in_order cells) ++ 10 ∷ [] ≡ tree_text (leaf cells)
-leaf_text cells =
-    ap (λ (n : ℕ). line (codes "L") (n ∷ in_order cells) ++ 10 ∷ []) (sym (length_ordered cells))
-    ∙ sym (append-nil (line (codes "L") (length (in_order cells) ∷ in_order cells) ++ 10 ∷ []))
+-- a line that is all there is
+pub one_line : (text : List ℕ) → text ++ 10 ∷ [] ≡ ended (text ∷ [])
+one_line text = sym (append-nil (text ++ 10 ∷ []))
+
+-- the line of a weighted leaf and those of its groups are its text
+pub weighted_text : (groups : List Group) → (line (codes "W") (length groups ∷ []) ++ 10 ∷ []) ++ groups_text groups
+    ≡ tree_text (weighted groups)
+weighted_text groups = ap (λ (l : List ℕ). (line (codes "W") (length groups ∷ []) ++ 10 ∷ []) ++ l)
+    (sym (flat_map-map (λ text. text ++ 10 ∷ []) group_line groups))
 
 -- trees with ordered leaves are as many
 ordered_count : (trees : Forest) → tree_count (ordered_trees trees) ≡ tree_count trees

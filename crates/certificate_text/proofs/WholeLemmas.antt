@@ -10,12 +10,13 @@ use Rattle.std.proofs.lemmas.List.Elements.{All-weaker}
 use Rattle.cave_model.specs.Cave.{Cave}
 use Rattle.cave_model.specs.Coverage.{Coverage}
 use Rattle.set_cover.specs.Instance.{of_instance}
-use Rattle.proof_rules.specs.Tree.{Tree, Forest, leaf, branch, bar, none, more}
+use Rattle.proof_rules.specs.Tree.{Tree, Forest, leaf, weighted, branch, bar, omit, none, more}
+use Rattle.proof_rules.specs.Omitted.{left_without}
 use Rattle.proof_rules.specs.Good.{Good, AreGood}
 use Rattle.proof_rules.specs.Text.{ended, line, head_lines, section_lines}
-use Rattle.certificate_text.specs.Heading.{heading_text, version_for}
+use Rattle.certificate_text.specs.Heading.{heading_text}
 use Rattle.certificate_text.specs.Lines.{HasDistinctCells, HaveDistinctCells}
-use Rattle.certificate_text.specs.Planned.{Plan, section_of, is_second, certificate_text, IsBestOf, AreBestOf}
+use Rattle.certificate_text.specs.Planned.{Plan, section_of, version_of, certificate_text, IsBestOf, AreBestOf}
 use Rattle.certificate_text.specs.Sections.{IsWritable, AreWritable, section_text, sections_text, body_text}
 use Rattle.certificate_text.specs.Writing.{AppendsPart, Passes}
 use Rattle.certificate_text.proofs.WritingLemmas.{then_appends}
@@ -49,14 +50,16 @@ joined heads regions rest =
 
 -- the heading and the body
 pub certificate_is : (cave : Cave) (plans : List Plan)
-    → heading_text cave (length plans) (is_second cave.rule.need plans) ++ body_text plans ≡ certificate_text cave plans
+    → heading_text cave (length plans) (version_of cave.rule.need plans) ++ body_text plans
+    ≡ certificate_text cave plans
 certificate_is cave plans =
-    ap (λ (l : List ℕ). heading_text cave (length plans) (is_second cave.rule.need plans) ++ l) (sym (rest_ended plans))
-    ∙ joined (head_lines (version_for cave (is_second cave.rule.need plans))
+    ap (λ (l : List ℕ). heading_text cave (length plans) (version_of cave.rule.need plans) ++ l)
+    (sym (rest_ended plans))
+    ∙ joined (head_lines (version_of cave.rule.need plans)
     (line (codes "box") (cave.size.x ∷ cave.size.y ∷ cave.size.z ∷ []))
     (line (codes "headroom") (cave.rule.headroom ∷ [])))
     (line (codes "regions") (length plans ∷ [])) (flat_map section_lines (map section_of plans) ++ codes "end" ∷ [])
-    ∙ ap (λ (n : ℕ). ended (head_lines (version_for cave (is_second cave.rule.need plans))
+    ∙ ap (λ (n : ℕ). ended (head_lines (version_of cave.rule.need plans)
     (line (codes "box") (cave.size.x ∷ cave.size.y ∷ cave.size.z ∷ []))
     (line (codes "headroom") (cave.rule.headroom ∷ []))
     ++ line (codes "regions") (n ∷ []) ∷ (flat_map section_lines (map section_of plans) ++ codes "end" ∷ [])))
@@ -68,10 +71,13 @@ mutual
   pub good_distinct : (coverage : Coverage) (cells chosen barred : List ℕ) (floor : ℕ) (tree : Tree)
       → Good coverage cells chosen barred floor tree → HasDistinctCells tree
   good_distinct coverage cells chosen barred floor (leaf these) g = g.0.distinct
+  good_distinct coverage cells chosen barred floor (weighted groups) g = tt
   good_distinct coverage cells chosen barred floor (branch cell kids) g =
       all_distinct coverage cells chosen barred floor g.1 kids g.3
   good_distinct coverage cells chosen barred floor (bar place by kid) g =
       good_distinct coverage cells chosen (barred ++ place ∷ []) floor kid g.1
+  good_distinct coverage cells chosen barred floor (omit these kid) g =
+      good_distinct coverage (left_without these cells) chosen barred floor kid g.1
 
   all_distinct : (coverage : Coverage) (cells chosen barred : List ℕ) (floor : ℕ) (places : List ℕ) (trees : Forest)
       → AreGood coverage cells chosen barred floor places trees → HaveDistinctCells trees

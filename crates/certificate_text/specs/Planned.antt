@@ -1,12 +1,12 @@
 -- The certificate of a plan: its regions, each with its torches and its tree. This is this project's own.
-use Rattle.std.specs.Prelude.{ℕ, Bool, ◌||◌, not, true, false, nat_eq, List, [], ◌∷◌, length, map, All, if◌then◌else◌}
+use Rattle.std.specs.Prelude.{ℕ, max, nat_eq, nat_le, List, [], ◌∷◌, length, map, All, if◌then◌else◌}
 use Rattle.cave_model.specs.Cave.{Cave}
 use Rattle.cave_model.specs.Coverage.{of_cave, Agrees}
 use Rattle.cave_model.specs.Regions.{AreRegions}
 use Rattle.set_cover.specs.Instance.{Instance, of_instance}
-use Rattle.proof_rules.specs.Tree.{Tree, Forest, leaf, branch, bar, none, more}
+use Rattle.proof_rules.specs.Tree.{Tree, Forest, leaf, weighted, branch, bar, omit, none, more}
 use Rattle.proof_rules.specs.Good.{Good}
-use Rattle.proof_rules.specs.Certificate.{Section, Version, first, second, Certificate}
+use Rattle.proof_rules.specs.Certificate.{Section, Version, first, second, third, Certificate}
 use Rattle.proof_rules.specs.Text.{ended, lines_of}
 use Rattle.cave_regions.specs.Cover.{IsCoverOfRegion}
 use Rattle.cave_regions.specs.Region.{IsRegion}
@@ -19,29 +19,39 @@ pub record Plan : Type 0 where
   pub tree : Tree
 
 abbrev mutual
-  -- some place is left out in the tree
-  pub has_bar : Tree → Bool
-  has_bar (leaf cells) = false
-  has_bar (branch cell kids) = have_bar kids
-  has_bar (bar place by kid) = true
+  -- the number of the first version that knows each node of the tree
+  pub rank_for : Tree → ℕ
+  rank_for (leaf cells) = 1
+  rank_for (weighted groups) = 3
+  rank_for (branch cell kids) = ranks_for kids
+  rank_for (bar place by kid) = max (rank_for kid) 2
+  rank_for (omit cells kid) = 3
 
-  -- some place is left out in one of the trees
-  pub have_bar : Forest → Bool
-  have_bar none = false
-  have_bar (more tree trees) = has_bar tree || have_bar trees
+  -- the number of the first version that knows each node of the trees
+  pub ranks_for : Forest → ℕ
+  ranks_for none = 1
+  ranks_for (more tree trees) = max (rank_for tree) (ranks_for trees)
 
--- some place is left out in the tree of one of the plans
-abbrev pub any_bar : List Plan → Bool
-any_bar [] = false
-any_bar (plan ∷ plans) = has_bar plan.tree || any_bar plans
+-- the number of the first version that knows each node of the plans' trees
+abbrev pub plans_rank : List Plan → ℕ
+plans_rank [] = 1
+plans_rank (plan ∷ plans) = max (rank_for plan.tree) (plans_rank plans)
 
--- whether the first version can't say all: where more light is needed, or a place is left out
-abbrev pub is_second : ℕ → List Plan → Bool
-is_second need plans = not (nat_eq need 1) || any_bar plans
+-- the number of the first version that speaks of this need
+abbrev pub need_rank : ℕ → ℕ
+need_rank need = if nat_eq need 1 then 1 else 2
 
--- the version for these plans under this need: the first, or the second where that can't say all
+-- the number of the first version that can say all
+abbrev pub rank_needed : ℕ → List Plan → ℕ
+rank_needed need plans = max (need_rank need) (plans_rank plans)
+
+-- the version with this number, under this need
+abbrev pub version_at : ℕ → ℕ → Version
+version_at need rank = if nat_le 3 rank then third need else (if nat_le 2 rank then second need else first)
+
+-- the version for these plans under this need: the first that can say all
 abbrev pub version_of : ℕ → List Plan → Version
-version_of need plans = if is_second need plans then second need else first
+version_of need plans = version_at need (rank_needed need plans)
 
 -- the section of a plan: its cells, its torches in order, and its tree with the cells of each leaf in order
 abbrev pub section_of : Plan → Section

@@ -10,7 +10,7 @@ ghost use Rattle.certificate_text.specs.Writing.{AppendsPart, IsSent};
 use crate::buffer::{flush, put_text};
 use crate::fault::WriteFault;
 use crate::heading::heading;
-use crate::omission::leaves_out;
+use crate::ranks::rank_of;
 use crate::sections::put_section;
 use cave_model::World;
 use cave_regions::{Cover, Region};
@@ -22,19 +22,23 @@ use std::sync::Arc;
 /// A planned region: a cover of it, and a tree which proves that none is smaller.
 pub type Planned = (Arc<Region>, Cover, Proof);
 
-/// Whether the first version can't say all: where more light is needed, or a place is left out.
-fn is_second(world: &World, parts: &[Planned]) -> bool
-    ensures { result ≡ planned.is_second world.now.rule.need (plans_of parts.now) }
+/// The number of the first version that can say all: the second where more light is needed.
+fn rank_needed(world: &World, parts: &[Planned]) -> u8
+    ensures { result ≡ planned.rank_needed world.now.rule.need (plans_of parts.now) }
 {
-    if world.need() != 1 {
-        return true;
-    }
+    let mut rank = if world.need() == 1 { 1 } else { 2 };
     for part in parts {
-        if part_leaves_out(part) {
-            return true;
-        }
+        rank = part_rank(part).max(rank);
     }
-    false
+    rank
+}
+
+/// The number of the first version that knows each node of the region's tree.
+fn part_rank(part: &Planned) -> u8
+    ensures { result ≡ planned.rank_for (plan_of part.now).tree }
+{
+    let (_, _, proof) = part;
+    rank_of(proof)
 }
 
 /// Puts the lines of one region behind what is on its way.
@@ -50,14 +54,6 @@ fn put_part<W: Write>(
 {
     let (region, cover, proof) = part;
     put_section(alloc, writer, buffer, region, cover, proof)
-}
-
-/// Whether some place is left out in the tree of the region.
-fn part_leaves_out(part: &Planned) -> bool
-    ensures { result ≡ planned.has_bar (plan_of part.now).tree }
-{
-    let (_, _, proof) = part;
-    leaves_out(proof)
 }
 
 /// Puts the lines of all regions behind what is on its way.
@@ -104,14 +100,14 @@ fn put_certificate<W: Write>(
     ensures { IsSent result (W.contents writer.old) (string_bytes buffer.old) (W.contents writer.new)
         (string_bytes buffer.new) (planned.certificate_text world.now (plans_of parts.now)) }
 {
-    let second = is_second(world, parts);
-    let heading = heading(alloc, world, parts.len(), second)?;
+    let version = rank_needed(world, parts);
+    let heading = heading(alloc, world, parts.len(), version)?;
     put_text(writer, buffer, heading.as_str())?;
     put_body(alloc, writer, buffer, parts)
 }
 
-/// Writes the certificate of a plan: its regions, each with its torches and its tree, in the first version where that
-/// can say all, else in the second (the text is this project's own). Torches and the cells of leaves are written in
+/// Writes the certificate of a plan: its regions, each with its torches and its tree, in the first version that can say
+/// all (the text is this project's own). Torches and the cells of leaves are written in
 /// order. Its text never stands whole in memory.
 pub fn write_certificate<W: Write>(
     alloc: Global,

@@ -1,7 +1,9 @@
 //! The lines of a certificate before its regions.
-ghost use Rattle.std.specs.Prelude.{◌≡◌, IfOk, true, false, string_bytes};
+ghost use Rattle.std.specs.Prelude.{◌≡◌, IfOk, string_bytes};
 ghost use Rattle.cave_base.specs.Box.{point};
+ghost use Rattle.proof_rules.specs.Certificate.{first, second, third};
 ghost use Rattle.certificate_text.specs.Heading as texts;
+ghost use Rattle.certificate_text.specs.Planned.{version_at};
 
 use crate::line::line_text;
 use cave_model::World;
@@ -22,7 +24,7 @@ fn front_text(
 
 /// The lines of the first version, which speaks of no need.
 fn first_heading(alloc: Global, world: &World, regions: usize) -> Result<String, AllocError>
-    ensures { IfOk result (λ s. string_bytes s ≡ texts.heading_text world.now regions false) }
+    ensures { IfOk result (λ s. string_bytes s ≡ texts.heading_text world.now regions first) }
 {
     let headroom = world.rule().headroom;
     let mut out = front_text(alloc, "torchproof 1", world.size(), headroom)?;
@@ -31,29 +33,51 @@ fn first_heading(alloc: Global, world: &World, regions: usize) -> Result<String,
     Ok(out)
 }
 
-/// The lines of the second version.
-fn second_heading(alloc: Global, world: &World, regions: usize) -> Result<String, AllocError>
-    ensures { IfOk result (λ s. string_bytes s ≡ texts.heading_text world.now regions true) }
+/// The lines of need and how many regions there are, which both later versions have.
+fn need_text(alloc: Global, world: &World, regions: usize) -> Result<String, AllocError>
+    ensures { IfOk result (λ s. string_bytes s ≡ texts.need_text world.now.rule.need regions) }
 {
-    let headroom = world.rule().headroom;
-    let mut out = front_text(alloc, "torchproof 2", world.size(), headroom)?;
-    let need = line_text(alloc, "need", &[world.need() as u64])?;
-    out.push_str(need.as_str())?;
+    let mut out = line_text(alloc, "need", &[world.need() as u64])?;
     let regions = line_text(alloc, "regions", &[regions as u64])?;
     out.push_str(regions.as_str())?;
     Ok(out)
 }
 
-/// The lines up to the number of regions.
+/// The lines of the second version.
+fn second_heading(alloc: Global, world: &World, regions: usize) -> Result<String, AllocError>
+    ensures { IfOk result (λ s. string_bytes s ≡ texts.heading_text world.now regions (second world.now.rule.need)) }
+{
+    let headroom = world.rule().headroom;
+    let mut out = front_text(alloc, "torchproof 2", world.size(), headroom)?;
+    let rest = need_text(alloc, world, regions)?;
+    out.push_str(rest.as_str())?;
+    Ok(out)
+}
+
+/// The lines of the third version.
+fn third_heading(alloc: Global, world: &World, regions: usize) -> Result<String, AllocError>
+    ensures { IfOk result (λ s. string_bytes s ≡ texts.heading_text world.now regions (third world.now.rule.need)) }
+{
+    let headroom = world.rule().headroom;
+    let mut out = front_text(alloc, "torchproof 3", world.size(), headroom)?;
+    let rest = need_text(alloc, world, regions)?;
+    out.push_str(rest.as_str())?;
+    Ok(out)
+}
+
+/// The lines up to the number of regions, in the version with this number.
 pub fn heading(
     alloc: Global,
     world: &World,
     regions: usize,
-    second: bool,
+    version: u8,
 ) -> Result<String, AllocError>
-    ensures { IfOk result (λ s. string_bytes s ≡ texts.heading_text world.now regions second) }
+    ensures { IfOk result (λ s. string_bytes s
+        ≡ texts.heading_text world.now regions (version_at world.now.rule.need version)) }
 {
-    if second {
+    if version >= 3 {
+        third_heading(alloc, world, regions)
+    } else if version >= 2 {
         second_heading(alloc, world, regions)
     } else {
         first_heading(alloc, world, regions)

@@ -4,10 +4,11 @@
 mod buffer;
 mod certificate;
 mod fault;
+mod groups;
 mod heading;
 mod line;
 mod nodes;
-mod omission;
+mod ranks;
 mod sections;
 mod writing;
 

@@ -1,4 +1,4 @@
-//! The lines of a tree: one a node, a node before its kids, and the kids in order.
+//! The lines of a tree: those of a node before its kids', and the kids in order.
 ghost use Rattle.std.specs.Prelude.{◌≡◌, ◌∷◌, IfOk, length, string_bytes};
 ghost use Rattle.cave_model.specs.Plan.{AreDistinct};
 ghost use Rattle.certificate_text.specs.Lines.{HasDistinctCells, HaveDistinctCells, forest_text, tree_text};
@@ -7,6 +7,7 @@ ghost use Rattle.proof_tree.specs.Shape.{forest_of, tree_of};
 ghost use Rattle.certificate_text.specs.Writing.{IsSent};
 
 use crate::fault::WriteFault;
+use crate::groups::put_weighted;
 use crate::line::put_line;
 use cave_base::Cell;
 use proof_tree::Proof;
@@ -34,16 +35,23 @@ pub fn widened(alloc: Global, cells: &[Cell]) -> Result<Vec<u64>, AllocError>
     Ok(numbers)
 }
 
-/// The number of the cells, and the cells in order.
+/// The number of the cells, and the cells.
 fn counted(alloc: Global, cells: &[Cell]) -> Result<Vec<u64>, AllocError>
-    requires { AreDistinct cells.now }
-    ensures { IfOk result (λ v. v.items ≡ length cells.now ∷ in_order cells.now) }
+    ensures { IfOk result (λ v. v.items ≡ length cells.now ∷ cells.now) }
 {
-    let ordered = ordered(alloc, cells)?;
     let mut numbers = vec![in alloc; cells.len() as u64]?;
-    let wide = widened(alloc, &ordered)?;
+    let wide = widened(alloc, cells)?;
     numbers.extend_from_slice(&wide)?;
     Ok(numbers)
+}
+
+/// The number of the cells, and the cells in order.
+fn counted_in_order(alloc: Global, cells: &[Cell]) -> Result<Vec<u64>, AllocError>
+    requires { AreDistinct cells.now }
+    ensures { IfOk result (λ v. v.items ≡ length (in_order cells.now) ∷ in_order cells.now) }
+{
+    let ordered = ordered(alloc, cells)?;
+    counted(alloc, &ordered)
 }
 
 /// Puts the lines of a tree behind what is on its way.
@@ -60,9 +68,10 @@ pub fn put_tree<W: Write>(
 {
     match proof {
         Proof::Leaf(cells) => {
-            let numbers = counted(alloc, cells.as_slice())?;
+            let numbers = counted_in_order(alloc, cells.as_slice())?;
             put_line(alloc, writer, buffer, "L", &numbers)
         }
+        Proof::Weighted(groups) => put_weighted(alloc, writer, buffer, groups.as_slice()),
         Proof::Branch { cell, kids } => {
             let trees = kids.trees();
             put_line(
@@ -76,6 +85,11 @@ pub fn put_tree<W: Write>(
         }
         Proof::Bar { place, by, kid } => {
             put_line(alloc, writer, buffer, "E", &[*place as u64, *by as u64])?;
+            put_tree(alloc, writer, buffer, kid.tree())
+        }
+        Proof::Omit { cells, kid } => {
+            let numbers = counted(alloc, cells.as_slice())?;
+            put_line(alloc, writer, buffer, "D", &numbers)?;
             put_tree(alloc, writer, buffer, kid.tree())
         }
     }

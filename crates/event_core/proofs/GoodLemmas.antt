@@ -5,7 +5,7 @@ use Rattle.std.specs.Prelude.{take, drop, slice_index}
 use Rattle.std.proofs.lemmas.Bool.{cases_lt}
 use Rattle.std.proofs.lemmas.List.{take_more, drop_more}
 use Rattle.set_cover.specs.Instance.{Instance, of_instance}
-use Rattle.proof_rules.specs.Tree.{Tree, Forest, leaf, branch, bar, none, more}
+use Rattle.proof_rules.specs.Tree.{Tree, Forest, leaf, weighted, branch, bar, omit, none, more}
 use Rattle.proof_rules.specs.Good.{Good, AreGood}
 use Rattle.proof_rules.proofs.LessLemmas.{good_at_less}
 use Rattle.event_core.specs.State.{State, Part, Status, opened, closed, HasPart}
@@ -28,11 +28,15 @@ there : (state : State) (name : List ℕ) (tree : Tree) → IsAssembled state na
     → (p : Part) × (state.part_at name ≡ Some p)
 there state name (leaf cells) (c, b, floor, h) =
     (record { chosen = c; barred = b; status = closed floor (leaf cells) }, h)
+there state name (weighted groups) (c, b, floor, h) =
+    (record { chosen = c; barred = b; status = closed floor (weighted groups) }, h)
 there state name (branch cell kids) (inl (c, b, floor, h)) =
     (record { chosen = c; barred = b; status = closed floor (branch cell kids) }, h)
 there state name (branch cell kids) (inr o) = (record { chosen = o.0.0; barred = o.0.1; status = opened cell }, o.0.2)
 there state name (bar place by kid) (c, b, floor, h) =
     (record { chosen = c; barred = b; status = closed floor (bar place by kid) }, h)
+there state name (omit cells kid) (c, b, floor, h) =
+    (record { chosen = c; barred = b; status = closed floor (omit cells kid) }, h)
 
 module _ (state : State) (sound : IsSoundState state) where
   abbrev GoodHere : List ℕ → List ℕ → Tree → Type 0
@@ -52,6 +56,7 @@ module _ (state : State) (sound : IsSoundState state) where
     pub good : (tree : Tree) (name c b : List ℕ) (status : Status) → HasPart state name c b status
         → IsAssembled state name tree → GoodHere c b tree
     good (leaf cells) name c b status h a = closed_good name c b status (leaf cells) h a
+    good (weighted groups) name c b status h a = closed_good name c b status (weighted groups) h a
     good (branch cell kids) name c b status h (inl k) = closed_good name c b status (branch cell kids) h k
     good (branch cell kids) name c b status h (inr o) =
         let same = same_parts state name o.0.0 o.0.1 c b (opened cell) status o.0.2 h in
@@ -65,6 +70,7 @@ module _ (state : State) (sound : IsSoundState state) where
               (length state.best) k.places kids) (append-nil b) (all_good kids name c b cell k 0 o.1),
         )
     good (bar place by kid) name c b status h a = closed_good name c b status (bar place by kid) h a
+    good (omit cells kid) name c b status h a = closed_good name c b status (omit cells kid) h a
 
     -- and so do the trees of its kids, from any of them on
     pub all_good : (kids : Forest) (name c b : List ℕ) (cell : ℕ) (k : HasKids state name c b cell) (i : ℕ)

@@ -4,4 +4,5 @@ mod forged;
 mod judging;
 mod proofs;
 mod streams;
+mod weighted;
 mod worked;

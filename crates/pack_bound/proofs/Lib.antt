@@ -1,4 +1,6 @@
 pub mod NumberLemmas
 pub mod NodeLemmas
 pub mod JudgeLemmas
+pub mod IndexLemmas
+pub mod WeightedLemmas
 pub mod NamingLemmas

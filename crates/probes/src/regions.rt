@@ -56,12 +56,14 @@ fn lines(alloc: Global, tree: &Proof) -> Result<u64, OutOfMemory> {
         count = count.saturating_add(1);
         match tree {
             Proof::Leaf(_) => (),
+            Proof::Weighted(groups) => count = count.saturating_add(groups.as_slice().len() as u64),
             Proof::Branch { cell: _, kids } => open.extend(kids.trees())?,
             Proof::Bar {
                 place: _,
                 by: _,
                 kid,
             } => open.push(kid.tree())?,
+            Proof::Omit { cells: _, kid } => open.push(kid.tree())?,
         }
     }
     Ok(count)

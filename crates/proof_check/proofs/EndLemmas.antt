@@ -23,7 +23,7 @@ use Rattle.proof_check.specs.Ends.{home_of, is_somewhere, is_misplaced, IsNoneBe
 use Rattle.proof_check.specs.Ends.{IsMisplaced, IsUnlitBy}
 use Rattle.proof_check.specs.Homes.{Homes, AreHomesOf, IsHomeOf}
 use Rattle.proof_check.specs.Refused.{IsInTwo, IsListed, IsBadCell}
-use Rattle.proof_check.specs.Tests.{lit_by}
+use Rattle.node_judges.specs.Tests.{lit_by}
 use Rattle.proof_check.specs.declared.homes.Home.{Home}
 use Rattle.proof_check.specs.declared.homes.Home.TheVariants as home
 use Rattle.proof_check.proofs.RefusalLemmas.{listed, which_list}

@@ -53,6 +53,9 @@ dark_other kind.Torches ne = refl
 dark_other kind.Leaf ne = refl
 dark_other kind.Branch ne = refl
 dark_other kind.Bar ne = refl
+dark_other kind.Weighted ne = refl
+dark_other kind.Group ne = refl
+dark_other kind.Omit ne = refl
 dark_other kind.End ne = refl
 
 -- any other kind is no line of torches
@@ -68,6 +71,9 @@ torch_other kind.Torches ne = absurd (ne refl)
 torch_other kind.Leaf ne = refl
 torch_other kind.Branch ne = refl
 torch_other kind.Bar ne = refl
+torch_other kind.Weighted ne = refl
+torch_other kind.Group ne = refl
+torch_other kind.Omit ne = refl
 torch_other kind.End ne = refl
 
 -- a line of another kind leaves the regions as they were
@@ -143,6 +149,18 @@ step_line cave kind.Bar (a ∷ []) s (at t) h = ap line_of h
 step_line cave kind.Bar (a ∷ b ∷ []) s (at t) (inl h) = ap line_of h.1
 step_line cave kind.Bar (a ∷ b ∷ []) s (at t) (inr h) = absurd (let e = h.1 in cc)
 step_line cave kind.Bar (a ∷ b ∷ c ∷ ns) s (at t) h = ap line_of h
+step_line cave kind.Weighted [] s (at t) h = ap line_of h
+step_line cave kind.Weighted (a ∷ []) s (at t) h = ap line_of h
+step_line cave kind.Weighted (a ∷ b ∷ ns) s (at t) h = ap line_of h
+step_line cave kind.Group [] s (at t) h = ap line_of h
+step_line cave kind.Group (a ∷ []) s (at t) h = ap line_of h
+step_line cave kind.Group (a ∷ b ∷ ns) s (at t) (inl h) = ap line_of h.1
+step_line cave kind.Group (a ∷ b ∷ ns) s (at t) (inr (inl (last, inl h))) = ap line_of h.1
+step_line cave kind.Group (a ∷ b ∷ ns) s (at t) (inr (inl (last, inr h))) = absurd (let e = h.1 in cc)
+step_line cave kind.Group (a ∷ b ∷ ns) s (at t) (inr (inr h)) = ap line_of h.3
+step_line cave kind.Omit [] s (at t) h = ap line_of h
+step_line cave kind.Omit (n ∷ ns) s (at t) (inl h) = ap line_of h.1
+step_line cave kind.Omit (n ∷ ns) s (at t) (inr h) = absurd (let e = h.1 in cc)
 
 -- a line more, judged by its kind, leads the judge of nodes on
 pub nodes_led : (cave : Cave) (old new : Judge) (all : List Said) (k : Kind) (numbers : List ℕ) (line : ℕ)

@@ -7,7 +7,7 @@ use Rattle.std.proofs.lemmas.Bool.{cases_eq, cases_lt, eqb-true, eq-eqb, true≢
 use Rattle.std.proofs.lemmas.List.{take_more, take_all, get_or_past, get_or_push, get_or_append_left}
 use Rattle.std.proofs.lemmas.List.Elements.{Contains-append_left, Contains-push, Contains-push_cases}
 use Rattle.proof_rules.proofs.ListLemmas.{no_member, has_or_not}
-use Rattle.proof_check.proofs.TestLemmas.{element_of}
+use Rattle.node_judges.proofs.TestLemmas.{element_of}
 use Rattle.proof_check.specs.Refused.{IsInTwo}
 use Rattle.proof_check.specs.Homes.{Stands, IsHomeOf, both_homes, Homes, AreHomesOf, Joins, PutsAll, AreInTwo}
 use Rattle.proof_check.specs.declared.homes.Home.{Home}

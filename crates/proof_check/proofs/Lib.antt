@@ -1,12 +1,12 @@
 pub mod FewestLemmas
 pub mod RefusalLemmas
 pub mod JudgedLemmas
-pub mod TallyLemmas
-pub mod TestLemmas
-pub mod LeafLemmas
 pub mod TrackLemmas
+pub mod MeaningLemmas
+pub mod WeighedLemmas
 pub mod NodeLemmas
 pub mod StepLemmas
+pub mod GroupSteps
 pub mod HomeLemmas
 pub mod PartLemmas
 pub mod HearLemmas

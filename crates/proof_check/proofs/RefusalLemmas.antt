@@ -9,7 +9,9 @@ use Rattle.std.proofs.lemmas.List.Kept.{AllPairs-from_increasing}
 use Rattle.proof_rules.proofs.ListLemmas.{no_member, cons_cases, later, here, at_member}
 use Rattle.std.proofs.lemmas.List.Elements.{All-head, All-tail, All-cons}
 use Rattle.cave_model.specs.Cave.{Cave}
-use Rattle.proof_rules.specs.Tree.{Tree, Forest, leaf, branch, bar, none, more, tree_count, node_count}
+use Rattle.proof_rules.specs.Tree.{Tree, Forest, leaf, weighted, branch, bar, omit, none, more, tree_count, node_count}
+use Rattle.proof_rules.specs.Groups.{places_for_all}
+use Rattle.proof_rules.specs.Omitted.{left_without}
 use Rattle.cave_model.specs.Coverage.{of_cave}
 use Rattle.proof_rules.specs.Good.{Good, AreGood, AreOpen}
 use Rattle.proof_rules.specs.Certificate.{Section, Certificate, regions_of, torch_lists, torches_of}
@@ -56,6 +58,14 @@ mutual
       (g.0, g.1, g.2, strong_all cave cells chosen barred floor count (line + 1) g.1 kids n g.3 e)
   strong cave cells chosen barred floor count line (bar place by kid) n g e =
       (g.0, strong cave cells chosen (barred ++ place ∷ []) floor count (line + 1) kid n g.1 e)
+  strong cave cells chosen barred floor count line (weighted groups) n g e = (
+    g.0,
+    subst (λ (k : ℕ). floor ≤ k + places_for_all groups) (sym n)
+        (not_below (count + places_for_all groups) floor
+        (if_none (nat_lt (count + places_for_all groups) floor) line e)),
+  )
+  strong cave cells chosen barred floor count line (omit these kid) n g e =
+      (g.0, strong cave (left_without these cells) chosen barred floor count (line + 1) kid n g.1 e)
 
   strong_all : (cave : Cave) (cells chosen barred : List ℕ) (floor count line : ℕ) (places : List ℕ) (trees : Forest)
       → length chosen ≡ count → AreGood (of_cave cave) cells chosen barred 0 places trees
@@ -151,6 +161,10 @@ mutual
   bad_proves_none cave cells chosen barred (bar place by kid) line bad floor (inl b) g = b.0 g.0
   bad_proves_none cave cells chosen barred (bar place by kid) line bad floor (inr b) g =
       bad_proves_none cave cells chosen (barred ++ place ∷ []) kid (line + 1) bad floor b.1 g.1
+  bad_proves_none cave cells chosen barred (weighted groups) line bad floor b g = b.0 g.0
+  bad_proves_none cave cells chosen barred (omit these kid) line bad floor (inl b) g = b.0 g.0
+  bad_proves_none cave cells chosen barred (omit these kid) line bad floor (inr b) g =
+      bad_proves_none cave (left_without these cells) chosen barred kid (line + 1) bad floor b.1 g.1
 
   bad_kid : (cave : Cave) (cells chosen barred places : List ℕ) (trees : Forest) (line bad floor : ℕ)
       → AreBadAt cave cells chosen barred places trees line bad
@@ -235,6 +249,13 @@ mutual
       weak_kid cave cells chosen barred floor count (line + 1) weak g.1 kids n e g.3
   weak_fails cave cells chosen barred floor count line weak (bar place by kid) n e g = weak_fails cave cells chosen
       (barred ++ place ∷ []) floor count (line + 1) weak kid n e g.1
+  weak_fails cave cells chosen barred floor count line weak (weighted groups) n e g =
+      let lt : count + places_for_all groups < floor = ltb-true (count + places_for_all groups) floor
+      (if_some (nat_lt (count + places_for_all groups) floor) line weak e) in
+      let le : floor ≤ length chosen + places_for_all groups = g.1 in
+      absurd (omega arith)
+  weak_fails cave cells chosen barred floor count line weak (omit these kid) n e g = weak_fails cave
+      (left_without these cells) chosen barred floor count (line + 1) weak kid n e g.1
 
   weak_kid : (cave : Cave) (cells chosen barred : List ℕ) (floor count line weak : ℕ) (places : List ℕ) (trees : Forest)
       → length chosen ≡ count → weak_leaf_of floor (count + 1) trees line ≡ Some weak

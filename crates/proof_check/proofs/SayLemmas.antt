@@ -6,10 +6,13 @@ use Rattle.std.proofs.lemmas.Grind.{flat_map-append}
 use Rattle.std.proofs.lemmas.List.Elements.{All-nil, All-cons, All-head, All-tail, All-append}
 use Rattle.cave_base.specs.Box.{Point}
 use Rattle.cave_model.specs.Cave.{Cave}
-use Rattle.proof_rules.specs.Tree.{Tree, Forest, leaf, branch, bar, none, more, tree_count}
-use Rattle.proof_rules.specs.Certificate.{Section, Version, first, second, Certificate, AreListed, IsSectionIn}
+use Rattle.proof_rules.specs.Tree.{Tree, Forest, leaf, weighted, branch, bar, omit, none, more, tree_count}
+use Rattle.proof_rules.specs.declared.groups.Group.{Group}
+use Rattle.proof_rules.specs.Certificate.{Section, Version, first, second, third, Certificate, AreListed}
+use Rattle.proof_rules.specs.Certificate.{IsSectionIn}
 use Rattle.proof_rules.specs.Certificate.{need_of, regions_of, torch_lists}
-use Rattle.certificate_lines.specs.Said.{Said, said, tree_said, forest_said, section_said, said_of}
+use Rattle.certificate_lines.specs.Said.{Said, said, share_numbers, group_said, tree_said, forest_said, section_said}
+use Rattle.certificate_lines.specs.Said.{said_of}
 use Rattle.certificate_lines.specs.declared.kind.Kind.TheVariants as kind
 use Rattle.proof_check.specs.Accepted.{IsOfCave}
 use Rattle.proof_check.specs.Heard.{part_if, is_dark_line, is_torch_line, dark_parts, torch_parts}
@@ -22,7 +25,14 @@ two_none : (xs ys : List (List ℕ)) → xs ≡ [] → ys ≡ [] → xs ++ ys �
 two_none xs ys e f = ap (λ (x : List (List ℕ)). x ++ ys) e ∙ f
 
 module _ (f : Said → List (List ℕ)) (l : (ns : List ℕ) → f (said kind.Leaf ns) ≡ [])
-    (b : (ns : List ℕ) → f (said kind.Branch ns) ≡ []) (e : (ns : List ℕ) → f (said kind.Bar ns) ≡ []) where
+    (b : (ns : List ℕ) → f (said kind.Branch ns) ≡ []) (e : (ns : List ℕ) → f (said kind.Bar ns) ≡ [])
+    (w : (ns : List ℕ) → f (said kind.Weighted ns) ≡ []) (g : (ns : List ℕ) → f (said kind.Group ns) ≡ [])
+    (o : (ns : List ℕ) → f (said kind.Omit ns) ≡ []) where
+  groups_none : (groups : List Group) → flat_map f (map group_said groups) ≡ []
+  groups_none [] = refl
+  groups_none (h ∷ hs) = two_none (f (group_said h)) (flat_map f (map group_said hs))
+      (g (h.capacity ∷ length h.shares ∷ share_numbers h.shares)) (groups_none hs)
+
   mutual
     tree_none : (t : Tree) → flat_map f (tree_said t) ≡ []
     tree_none (leaf cells) = two_none (f (said kind.Leaf (length cells ∷ cells))) [] (l (length cells ∷ cells)) refl
@@ -30,6 +40,10 @@ module _ (f : Said → List (List ℕ)) (l : (ns : List ℕ) → f (said kind.Le
         (flat_map f (forest_said kids)) (b (cell ∷ tree_count kids ∷ [])) (forest_none kids)
     tree_none (bar place by kid) = two_none (f (said kind.Bar (place ∷ by ∷ []))) (flat_map f (tree_said kid))
         (e (place ∷ by ∷ [])) (tree_none kid)
+    tree_none (weighted groups) = two_none (f (said kind.Weighted (length groups ∷ [])))
+        (flat_map f (map group_said groups)) (w (length groups ∷ [])) (groups_none groups)
+    tree_none (omit cells kid) = two_none (f (said kind.Omit (length cells ∷ cells))) (flat_map f (tree_said kid))
+        (o (length cells ∷ cells)) (tree_none kid)
 
     forest_none : (ts : Forest) → flat_map f (forest_said ts) ≡ []
     forest_none none = refl
@@ -47,7 +61,8 @@ torch_sections (s ∷ ss) = ap torch_parts
     (append_assoc (section_said s) (flat_map section_said ss) (said kind.End [] ∷ []))
     ∙ ap (λ (p : List (List ℕ)). s.torches ∷ p)
     (after_tree (λ s. part_if (is_torch_line s.kind) s.numbers) (λ ns. refl) (λ ns. refl)
-    (λ ns. refl) s.tree (flat_map section_said ss ++ said kind.End [] ∷ []) ∙ torch_sections ss)
+    (λ ns. refl) (λ ns. refl) (λ ns. refl) (λ ns. refl) s.tree (flat_map section_said ss ++ said kind.End [] ∷ [])
+    ∙ torch_sections ss)
 
 -- the lines of a certificate say its lists of torches
 pub torches_said : (c : Certificate) → torch_parts (said_of c) ≡ torch_lists c.sections
@@ -55,6 +70,7 @@ torches_said c = go c.version where
   go : (v : Version) → torch_parts (said_of (record c { version = v })) ≡ torch_lists c.sections
   go first = torch_sections c.sections
   go (second need) = torch_sections c.sections
+  go (third need) = torch_sections c.sections
 
 -- the lines of sections say their regions
 dark_sections : (ss : List Section)
@@ -64,7 +80,8 @@ dark_sections (s ∷ ss) = ap dark_parts
     (append_assoc (section_said s) (flat_map section_said ss) (said kind.End [] ∷ []))
     ∙ ap (λ (p : List (List ℕ)). s.cells ∷ p)
     (after_tree (λ s. part_if (is_dark_line s.kind) s.numbers) (λ ns. refl) (λ ns. refl)
-    (λ ns. refl) s.tree (flat_map section_said ss ++ said kind.End [] ∷ []) ∙ dark_sections ss)
+    (λ ns. refl) (λ ns. refl) (λ ns. refl) (λ ns. refl) s.tree (flat_map section_said ss ++ said kind.End [] ∷ [])
+    ∙ dark_sections ss)
 
 -- the lines of a certificate say its regions
 pub regions_said : (c : Certificate) → dark_parts (said_of c) ≡ regions_of c
@@ -72,6 +89,7 @@ regions_said c = go c.version where
   go : (v : Version) → dark_parts (said_of (record c { version = v })) ≡ regions_of c
   go first = dark_sections c.sections
   go (second need) = dark_sections c.sections
+  go (third need) = dark_sections c.sections
 
 -- sections within a box list torches within it
 pub torches_in : (count : ℕ) (ss : List Section) → All (IsSectionIn count) ss → All (AreListed count) (torch_lists ss)
@@ -102,12 +120,20 @@ module _ (cave : Cave) where
   with_line : (s : Said) (all : List Said) → AgreesWithSaid cave s → AllAgree all → AllAgree (s ∷ all)
   with_line s all h a = All-cons (AgreesWithSaid cave) s all h a
 
+  groups_agree : (groups : List Group) → AllAgree (map group_said groups)
+  groups_agree [] = All-nil (AgreesWithSaid cave)
+  groups_agree (h ∷ hs) = with_line (group_said h) (map group_said hs) tt (groups_agree hs)
+
   mutual
     tree_agrees : (t : Tree) → AllAgree (tree_said t)
     tree_agrees (leaf cells) = with_line (said kind.Leaf (length cells ∷ cells)) [] tt (All-nil (AgreesWithSaid cave))
     tree_agrees (branch cell kids) = with_line (said kind.Branch (cell ∷ tree_count kids ∷ [])) (forest_said kids) tt
         (forest_agrees kids)
     tree_agrees (bar place by kid) = with_line (said kind.Bar (place ∷ by ∷ [])) (tree_said kid) tt (tree_agrees kid)
+    tree_agrees (weighted groups) = with_line (said kind.Weighted (length groups ∷ [])) (map group_said groups) tt
+        (groups_agree groups)
+    tree_agrees (omit cells kid) = with_line (said kind.Omit (length cells ∷ cells)) (tree_said kid) tt
+        (tree_agrees kid)
 
     forest_agrees : (ts : Forest) → AllAgree (forest_said ts)
     forest_agrees none = All-nil (AgreesWithSaid cave)
@@ -174,6 +200,21 @@ module _ (cave : Cave) where
         (with_line (said kind.Need (need ∷ []))
         (said kind.Regions (length c.sections ∷ []) ∷ (flat_map section_said c.sections ++ said kind.End [] ∷ []))
         (ap (λ (k : ℕ). k ∷ []) n) rest)))
+    go (third need) n =
+        with_line (said kind.Version (3 ∷ []))
+        (said kind.Size (c.size.x ∷ c.size.y ∷ c.size.z ∷ []) ∷ said kind.Headroom (c.headroom ∷ []) ∷ said
+        kind.Need (need ∷ []) ∷ said kind.Regions (length c.sections ∷ [])
+        ∷ (flat_map section_said c.sections ++ said kind.End [] ∷ [])) (λ e. absurd cc)
+        (with_line (said kind.Size (c.size.x ∷ c.size.y ∷ c.size.z ∷ []))
+        (said kind.Headroom (c.headroom ∷ []) ∷ said kind.Need (need ∷ []) ∷ said
+        kind.Regions (length c.sections ∷ []) ∷ (flat_map section_said c.sections ++ said kind.End [] ∷ []))
+        size
+        (with_line (said kind.Headroom (c.headroom ∷ []))
+        (said kind.Need (need ∷ []) ∷ said kind.Regions (length c.sections ∷ [])
+        ∷ (flat_map section_said c.sections ++ said kind.End [] ∷ [])) headroom
+        (with_line (said kind.Need (need ∷ []))
+        (said kind.Regions (length c.sections ∷ []) ∷ (flat_map section_said c.sections ++ said kind.End [] ∷ []))
+        (ap (λ (k : ℕ). k ∷ []) n) rest)))
 
   one_number : (a b : ℕ) → a ∷ [] ≡ b ∷ [] → a ≡ b
   one_number a b e = cc
@@ -211,6 +252,21 @@ module _ (cave : Cave) where
         let headroom : Said = said kind.Headroom (c.headroom ∷ []) in
         let needed : Said = said kind.Need (need ∷ []) in
         let a1 = All-tail (AgreesWithSaid cave) (said kind.Version (2 ∷ [])) (size ∷ headroom ∷ needed ∷ regions) a in
+        let a2 = All-tail (AgreesWithSaid cave) size (headroom ∷ needed ∷ regions) a1 in
+        let a3 = All-tail (AgreesWithSaid cave) headroom (needed ∷ regions) a2 in
+        record {
+          box = size_from c.size cave.size (All-head (AgreesWithSaid cave) size (headroom ∷ needed ∷ regions) a1);
+          headroom = one_number c.headroom cave.rule.headroom
+              (All-head (AgreesWithSaid cave) headroom (needed ∷ regions) a2);
+          need = one_number need cave.rule.need (All-head (AgreesWithSaid cave) needed regions a3);
+        }
+    go (third need) a =
+        let regions : List Said = said kind.Regions (length c.sections ∷ [])
+        ∷ (flat_map section_said c.sections ++ said kind.End [] ∷ []) in
+        let size : Said = said kind.Size (c.size.x ∷ c.size.y ∷ c.size.z ∷ []) in
+        let headroom : Said = said kind.Headroom (c.headroom ∷ []) in
+        let needed : Said = said kind.Need (need ∷ []) in
+        let a1 = All-tail (AgreesWithSaid cave) (said kind.Version (3 ∷ [])) (size ∷ headroom ∷ needed ∷ regions) a in
         let a2 = All-tail (AgreesWithSaid cave) size (headroom ∷ needed ∷ regions) a1 in
         let a3 = All-tail (AgreesWithSaid cave) headroom (needed ∷ regions) a2 in
         record {

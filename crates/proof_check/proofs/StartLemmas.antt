@@ -22,6 +22,8 @@ wide_start cave lists nodes known n = record {
   seen = n.seen ∙ sym known.places.whole;
   chosen = n.chosen ∙ sym known.places.whole;
   barred = n.barred ∙ sym known.places.whole;
+  omitted = n.omitted ∙ sym known.places.whole;
+  few = omega (arith, n.few, known.places.whole);
   none = n.no_seen;
   inside = record {
     each = λ place cell h. (let lt = marked_inside cave
@@ -49,7 +51,13 @@ after_none cave judge known n torches torch_cells regions region_cells = record 
       cells = n.no_region;
       floor = n.floor;
       weak = n.weak;
-      spot = record { chosen_is = n.no_chosen; barred_is = n.no_barred; fits = (n.no_frames, n.no_chosen) };
+      spot = record {
+        chosen_is = n.no_chosen;
+        barred_is = n.no_barred;
+        omitted_is = n.no_omitted;
+        fits = (n.no_frames, n.no_chosen);
+      };
+      weighing = record { line = n.weighed_at; to_come = n.to_come; groups = n.no_groups };
       dark = λ cell h. no_member cell h;
     };
     before = refl;

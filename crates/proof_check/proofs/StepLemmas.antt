@@ -8,12 +8,13 @@ use Rattle.lit_lists.specs.Lists.{LitLists}
 use Rattle.lit_lists.proofs.PairLemmas.{marked_inside}
 use Rattle.certificate_lines.specs.declared.kind.Kind.{Kind}
 use Rattle.certificate_lines.specs.declared.kind.Kind.TheVariants as kind
-use Rattle.proof_check.specs.Judged.{JudgeState, at, next_line, NodeSteps}
+use Rattle.proof_check.specs.Judged.{JudgeState, at, outset, next_line, NodeSteps}
 use Rattle.proof_check.specs.Track.{IsAt}
-use Rattle.proof_check.specs.Kept.{IsWide, JudgesLeaf, StepsOn, BeginsRegion, Expects}
+use Rattle.proof_check.specs.Kept.{IsWide, IsWeighing, JudgesLeaf, StepsOn, BeginsRegion, Expects}
 use Rattle.proof_check.specs.declared.nodes.NodeJudge.{NodeJudge}
 use Rattle.proof_check.specs.declared.track.Track.{Track}
-use Rattle.proof_check.specs.Tally.{Tally}
+use Rattle.proof_check.specs.declared.weighing.Weighing as held
+use Rattle.node_judges.specs.Tally.{Tally}
 
 -- a line that says nothing of nodes
 abbrev SaysNothing : Kind → List ℕ → Type 0
@@ -27,7 +28,15 @@ nothing_said lists k numbers line nodes f = record {
   each = λ cave s known i e d. (
     at (next_line s),
     f cave s,
-    record { good = i.good; cells = i.cells; floor = i.floor; weak = i.weak; spot = i.spot; dark = i.dark },
+    record {
+      good = i.good;
+      cells = i.cells;
+      floor = i.floor;
+      weak = i.weak;
+      spot = i.spot;
+      weighing = i.weighing;
+      dark = i.dark;
+    },
   );
 }
 
@@ -68,33 +77,43 @@ leaf_steps lists (n ∷ ns) line old new h j =
 -- a line of no kind of node says nothing of nodes
 pub other_nothing : (lists : LitLists) (k : Kind) (numbers : List ℕ) (line : ℕ) (nodes : NodeJudge) → (k ≢ kind.Dark)
     → (k ≢ kind.Torches) → (k ≢ kind.Leaf) → (k ≢ kind.Branch) → (k ≢ kind.Bar)
+    → (k ≢ kind.Weighted) → (k ≢ kind.Group) → (k ≢ kind.Omit)
     → StepsOn lists k numbers line nodes nodes
-other_nothing lists kind.Version numbers line nodes a b c d e = nothing_said lists kind.Version numbers line nodes
+other_nothing lists kind.Version numbers line nodes a b c d e f g h = nothing_said lists kind.Version numbers line nodes
     (λ cave s. refl)
-other_nothing lists kind.Size numbers line nodes a b c d e = nothing_said lists kind.Size numbers line nodes
+other_nothing lists kind.Size numbers line nodes a b c d e f g h = nothing_said lists kind.Size numbers line nodes
     (λ cave s. refl)
-other_nothing lists kind.Headroom numbers line nodes a b c d e = nothing_said lists kind.Headroom numbers line nodes
+other_nothing lists kind.Headroom numbers line nodes a b c d e f g h = nothing_said lists kind.Headroom numbers line
+    nodes
     (λ cave s. refl)
-other_nothing lists kind.Need numbers line nodes a b c d e = nothing_said lists kind.Need numbers line nodes
+other_nothing lists kind.Need numbers line nodes a b c d e f g h = nothing_said lists kind.Need numbers line nodes
     (λ cave s. refl)
-other_nothing lists kind.Regions numbers line nodes a b c d e = nothing_said lists kind.Regions numbers line nodes
+other_nothing lists kind.Regions numbers line nodes a b c d e f g h = nothing_said lists kind.Regions numbers line nodes
     (λ cave s. refl)
-other_nothing lists kind.Region numbers line nodes a b c d e = nothing_said lists kind.Region numbers line nodes
+other_nothing lists kind.Region numbers line nodes a b c d e f g h = nothing_said lists kind.Region numbers line nodes
     (λ cave s. refl)
-other_nothing lists kind.End numbers line nodes a b c d e = nothing_said lists kind.End numbers line nodes
+other_nothing lists kind.End numbers line nodes a b c d e f g h = nothing_said lists kind.End numbers line nodes
     (λ cave s. refl)
-other_nothing lists kind.Dark numbers line nodes a b c d e = absurd (a refl)
-other_nothing lists kind.Torches numbers line nodes a b c d e = absurd (b refl)
-other_nothing lists kind.Leaf numbers line nodes a b c d e = absurd (c refl)
-other_nothing lists kind.Branch numbers line nodes a b c d e = absurd (d refl)
-other_nothing lists kind.Bar numbers line nodes a b c d e = absurd (e refl)
+other_nothing lists kind.Dark numbers line nodes a b c d e f g h = absurd (a refl)
+other_nothing lists kind.Torches numbers line nodes a b c d e f g h = absurd (b refl)
+other_nothing lists kind.Leaf numbers line nodes a b c d e f g h = absurd (c refl)
+other_nothing lists kind.Branch numbers line nodes a b c d e f g h = absurd (d refl)
+other_nothing lists kind.Bar numbers line nodes a b c d e f g h = absurd (e refl)
+other_nothing lists kind.Weighted numbers line nodes a b c d e f g h = absurd (f refl)
+other_nothing lists kind.Group numbers line nodes a b c d e f g h = absurd (g refl)
+other_nothing lists kind.Omit numbers line nodes a b c d e f g h = absurd (h refl)
 
 -- the same track is at the same spot
 spot_kept : (lists : LitLists) (s : JudgeState) (old new : Track) → new ≡ old
-    → IsAt lists s.spot old.chosen.items old.barred.items old.frames.items
-    → IsAt lists s.spot new.chosen.items new.barred.items new.frames.items
-spot_kept lists s old new e i = subst (λ (t : Track). IsAt lists s.spot t.chosen.items t.barred.items t.frames.items)
-    (sym e) i
+    → IsAt lists s.spot old.chosen.items old.barred.items old.omitted.items old.frames.items
+    → IsAt lists s.spot new.chosen.items new.barred.items new.omitted.items new.frames.items
+spot_kept lists s old new e i =
+    subst (λ (t : Track). IsAt lists s.spot t.chosen.items t.barred.items t.omitted.items t.frames.items) (sym e) i
+
+-- and what is told of a weighted leaf stays
+weighing_kept : (s : JudgeState) (old new : held.Weighing) → new ≡ old → IsWeighing old s.weighing
+    → IsWeighing new s.weighing
+weighing_kept s old new e i = subst (λ (w : held.Weighing). IsWeighing w s.weighing) (sym e) i
 
 -- a line of dark cells begins a region
 pub dark_steps : (lists : LitLists) (cells : List ℕ) (line : ℕ) (old new : NodeJudge) → IsWide lists old
@@ -111,6 +130,7 @@ dark_steps lists cells line old new w b = record {
       floor = b.floor ∙ i.floor;
       weak = b.weak ∙ i.weak;
       spot = spot_kept lists s old.track new.track b.track i.spot;
+      weighing = weighing_kept s old.weighing new.weighing b.weighing i.weighing;
       dark = d refl;
     },
   );
@@ -122,14 +142,20 @@ pub torch_steps : (lists : LitLists) (torches : List ℕ) (line : ℕ) (old new 
     → StepsOn lists kind.Torches torches line old new
 torch_steps lists torches line old new x = record {
   each = λ cave s known i e d. (
-    at (record (next_line s) { floor = length torches; spot = record { chosen = []; barred = []; frames = [] } }),
+    at (record (next_line s) { floor = length torches; spot = outset }),
     refl,
     record {
       good = x.bad ∙ i.good;
       cells = region old.region new.region x.region ∙ i.cells;
       floor = x.floor;
       weak = x.weak ∙ i.weak;
-      spot = record { chosen_is = x.chosen; barred_is = x.barred; fits = (x.frames, x.chosen) };
+      spot = record {
+        chosen_is = x.chosen;
+        barred_is = x.barred;
+        omitted_is = x.omitted;
+        fits = (x.frames, x.chosen);
+      };
+      weighing = weighing_kept s old.weighing new.weighing x.weighing i.weighing;
       dark = i.dark;
     },
   );

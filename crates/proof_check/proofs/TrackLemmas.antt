@@ -9,7 +9,7 @@ use Rattle.lit_lists.specs.Lists.{LitLists, is_marked}
 use Rattle.proof_check.specs.Judged.{Frame, Spot, close, enter_or}
 use Rattle.proof_check.specs.Track.{IsFrameOf, Fits, IsAt, ClosesFrames, Enters}
 use Rattle.proof_check.specs.declared.track.Frame as held
-use Rattle.proof_check.proofs.TestLemmas.{element_of}
+use Rattle.node_judges.proofs.TestLemmas.{element_of}
 
 -- a list with a last element isn't empty
 snoc_nil : {A : Type 0} {B : Type 0} (xs : List A) (x : A) → xs ++ x ∷ [] ≡ [] → B
@@ -42,7 +42,7 @@ front_part [] ys = refl
 front_part (x ∷ xs) ys = ap (λ (l : List ℕ). x ∷ l) (front_part xs ys)
 
 -- the innermost frame is taken away
-pub record Popped (lists : LitLists) (chosen barred : List ℕ) (front : List held.Frame) (last : held.Frame)
+pub record Popped (lists : LitLists) (chosen barred omitted : List ℕ) (front : List held.Frame) (last : held.Frame)
     (frames : List Frame) : Type 0 where
   pub frame : Frame
   pub outer : List Frame
@@ -50,14 +50,15 @@ pub record Popped (lists : LitLists) (chosen barred : List ℕ) (front : List he
   pub is : IsFrameOf lists last frame
   pub chosen_is : take (length chosen - 1) chosen ≡ frame.chosen
   pub barred_is : take last.bars barred ≡ frame.barred
-  pub fits : Fits lists frame.chosen frame.barred front outer
+  pub omitted_is : take last.omits omitted ≡ frame.omitted
+  pub fits : Fits lists frame.chosen frame.barred frame.omitted front outer
 
 -- the last frame kept is the innermost open branch
-pub popped : (lists : LitLists) (chosen barred : List ℕ) (kept front : List held.Frame) (last : held.Frame)
-    (frames : List Frame) → Fits lists chosen barred kept frames → kept ≡ front ++ last ∷ []
-    → Popped lists chosen barred front last frames
-popped lists chosen barred kept front last [] f e = snoc_nil front last (sym e ∙ f.0)
-popped lists chosen barred kept front last (a ∷ fs) (front2, last2, at, is, c, more, b, rest) e =
+pub popped : (lists : LitLists) (chosen barred omitted : List ℕ) (kept front : List held.Frame) (last : held.Frame)
+    (frames : List Frame) → Fits lists chosen barred omitted kept frames → kept ≡ front ++ last ∷ []
+    → Popped lists chosen barred omitted front last frames
+popped lists chosen barred omitted kept front last [] f e = snoc_nil front last (sym e ∙ f.0)
+popped lists chosen barred omitted kept front last (a ∷ fs) (front2, last2, at, is, c, more, b, gone, o, rest) e =
     let same = snoc_same front2 front last2 last (sym at ∙ e) in
     let here : IsFrameOf lists last a = subst (λ (x : held.Frame). IsFrameOf lists x a) same.1 is in
     record {
@@ -68,18 +69,21 @@ popped lists chosen barred kept front last (a ∷ fs) (front2, last2, at, is, c,
       chosen_is = ap (λ (l : List ℕ). take (length l - 1) l) c ∙ front_of a.chosen a.place;
       barred_is = ap (λ (l : List ℕ). take last.bars l) b ∙ ap (λ (n : ℕ). take n (a.barred ++ more)) here.bars
           ∙ front_part a.barred more;
-      fits = subst (λ (l : List held.Frame). Fits lists a.chosen a.barred l fs) same.0 rest;
+      omitted_is = ap (λ (l : List ℕ). take last.omits l) o
+          ∙ ap (λ (n : ℕ). take n (a.omitted ++ gone)) here.omits ∙ front_part a.omitted gone;
+      fits = subst (λ (l : List held.Frame). Fits lists a.chosen a.barred a.omitted l fs) same.0 rest;
     }
 
 -- where no frame is kept no branch is open, and nothing is chosen
-pub no_frames : (lists : LitLists) (chosen barred : List ℕ) (kept : List held.Frame) (frames : List Frame)
-    → Fits lists chosen barred kept frames → kept ≡ [] → (frames ≡ []) × (chosen ≡ [])
-no_frames lists chosen barred kept [] f e = (refl, f.1)
-no_frames lists chosen barred kept (a ∷ fs) f e = snoc_nil f.0 f.1 (sym f.2 ∙ e)
+pub no_frames : (lists : LitLists) (chosen barred omitted : List ℕ) (kept : List held.Frame) (frames : List Frame)
+    → Fits lists chosen barred omitted kept frames → kept ≡ [] → (frames ≡ []) × (chosen ≡ [])
+no_frames lists chosen barred omitted kept [] f e = (refl, f.1)
+no_frames lists chosen barred omitted kept (a ∷ fs) f e = snoc_nil f.0 f.1 (sym f.2 ∙ e)
 
 -- a frame with no later place
 pub ended : (frame : Frame) (frames : List Frame) → frame.later ≡ [] → close (frame ∷ frames) ≡ close frames
-ended frame frames e = ap (λ (l : List ℕ). enter_or frame.chosen (frame.barred ++ frame.place ∷ []) l frames
+ended frame frames e = ap (λ (l : List ℕ). enter_or frame.chosen
+    (frame.barred ++ frame.place ∷ []) frame.omitted l frames
     (close frames)) e
 
 -- a marked place lies in the box
@@ -97,11 +101,40 @@ place_below lists last frame limit k e is h = marked_below lists.places (slice_i
     (is.legal (slice_index last.places.items k) (element_of last.places.items k h))
 
 -- more places may be barred
-pub fits_wider : (lists : LitLists) (chosen barred more : List ℕ) (kept : List held.Frame) (frames : List Frame)
-    → Fits lists chosen barred kept frames → Fits lists chosen (barred ++ more) kept frames
-fits_wider lists chosen barred more kept [] f = f
-fits_wider lists chosen barred more kept (a ∷ fs) (front, last, k, is, c, rest, b, outer) =
-    (front, last, k, is, c, rest ++ more, ap (λ (l : List ℕ). l ++ more) b ∙ append_assoc a.barred rest more, outer)
+pub fits_wider : (lists : LitLists) (chosen barred omitted more : List ℕ) (kept : List held.Frame)
+    (frames : List Frame) → Fits lists chosen barred omitted kept frames
+    → Fits lists chosen (barred ++ more) omitted kept frames
+fits_wider lists chosen barred omitted more kept [] f = f
+fits_wider lists chosen barred omitted more kept (a ∷ fs) (front, last, k, is, c, rest, b, gone, o, outer) = (
+  front,
+  last,
+  k,
+  is,
+  c,
+  rest ++ more,
+  ap (λ (l : List ℕ). l ++ more) b ∙ append_assoc a.barred rest more,
+  gone,
+  o,
+  outer,
+)
+
+-- more cells may be left out
+pub fits_less : (lists : LitLists) (chosen barred omitted more : List ℕ) (kept : List held.Frame)
+    (frames : List Frame) → Fits lists chosen barred omitted kept frames
+    → Fits lists chosen barred (omitted ++ more) kept frames
+fits_less lists chosen barred omitted more kept [] f = f
+fits_less lists chosen barred omitted more kept (a ∷ fs) (front, last, k, is, c, rest, b, gone, o, outer) = (
+  front,
+  last,
+  k,
+  is,
+  c,
+  rest,
+  b,
+  gone ++ more,
+  ap (λ (l : List ℕ). l ++ more) o ∙ append_assoc a.omitted gone more,
+  outer,
+)
 
 -- the next place of a frame
 next_later : (places : List ℕ) (index : ℕ) → index + 1 < length places
@@ -113,31 +146,36 @@ next_later places index h =
 -- after the next place of a branch the track is where the tree ends
 pub next_fits : (lists : LitLists) (last now : held.Frame) (frame : Frame) (frames : List Frame)
     (front : List held.Frame)
-    (chosen barred : List ℕ) (kept : List held.Frame)
-    → IsFrameOf lists last frame → Fits lists frame.chosen frame.barred front frames
+    (chosen barred omitted : List ℕ) (kept : List held.Frame)
+    → IsFrameOf lists last frame → Fits lists frame.chosen frame.barred frame.omitted front frames
     → last.index + 1 < length last.places.items
     → now.places.items ≡ last.places.items → now.index ≡ last.index + 1 → kept ≡ front ++ now ∷ []
     → chosen ≡ frame.chosen ++ slice_index last.places.items (last.index + 1) ∷ []
     → barred ≡ frame.barred ++ slice_index last.places.items last.index ∷ []
-    → now.bars ≡ length barred → IsAt lists (close (frame ∷ frames)) chosen barred kept
-next_fits lists last now frame frames front chosen barred kept is fits more same index at c b bars =
+    → omitted ≡ frame.omitted → now.bars ≡ length barred → now.omits ≡ length omitted
+    → IsAt lists (close (frame ∷ frames)) chosen barred omitted kept
+next_fits lists last now frame frames front chosen barred omitted kept is fits more same index at c b o bars omits =
     let later : frame.later ≡ slice_index last.places.items (last.index + 1) ∷ drop
     (last.index + 1 + 1) last.places.items = sym is.later ∙ next_later last.places.items last.index more in
     let next : ℕ = slice_index last.places.items (last.index + 1) in
     let barred_now : barred ≡ frame.barred ++ frame.place ∷ [] = b ∙ ap (λ (p : ℕ). frame.barred ++ p ∷ []) is.place in
-    let closed : close (frame ∷ frames) ≡ enter_or frame.chosen (frame.barred ++ frame.place ∷ [])
+    let closed : close (frame ∷ frames) ≡ enter_or frame.chosen (frame.barred ++ frame.place ∷ []) frame.omitted
     (slice_index last.places.items (last.index + 1) ∷ drop (last.index + 1 + 1) last.places.items) frames
     (close frames)
-    = ap (λ (l : List ℕ). enter_or frame.chosen (frame.barred ++ frame.place ∷ []) l frames (close frames)) later in
-    subst (λ (s : Spot). IsAt lists s chosen barred kept) (sym closed) (record {
+    = ap (λ (l : List ℕ). enter_or frame.chosen (frame.barred ++ frame.place ∷ []) frame.omitted l frames
+    (close frames))
+    later in
+    subst (λ (s : Spot). IsAt lists s chosen barred omitted kept) (sym closed) (record {
       chosen_is = c;
       barred_is = barred_now;
+      omitted_is = o;
       fits = (
         front,
         now,
         at,
         record {
           bars = bars ∙ ap length barred_now;
+          omits = omits ∙ ap length o;
           within = omega (arith, ap length same);
           place = ap (λ (l : List ℕ). slice_index l now.index) same ∙ ap (slice_index last.places.items) index;
           later = ap (λ (l : List ℕ). drop (now.index + 1) l) same
@@ -147,105 +185,119 @@ next_fits lists last now frame frames front chosen barred kept is fits more same
         c,
         [],
         barred_now ∙ sym (append-nil (frame.barred ++ frame.place ∷ [])),
-        fits_wider lists frame.chosen frame.barred (frame.place ∷ []) front frames fits,
+        [],
+        o ∙ sym (append-nil frame.omitted),
+        fits_wider lists frame.chosen frame.barred frame.omitted (frame.place ∷ []) front frames fits,
       );
     })
 
 -- ---- the loop
 
-pub record Closing (limit : ℕ) (chosen barred : List ℕ) (kept : List held.Frame) (new_chosen new_barred : List ℕ)
-    (new_kept : List held.Frame) : Type 0 where
+pub record Closing (limit : ℕ) (chosen barred omitted : List ℕ) (kept : List held.Frame)
+    (new_chosen new_barred new_omitted : List ℕ) (new_kept : List held.Frame) : Type 0 where
   pub each : (lists : LitLists) (frames : List Frame) → length lists.places ≡ limit
-      → Fits lists chosen barred kept frames
-      → (left : List Frame) × Fits lists new_chosen new_barred new_kept left × (close left ≡ close frames)
+      → Fits lists chosen barred omitted kept frames
+      → (left : List Frame) × Fits lists new_chosen new_barred new_omitted new_kept left
+      × (close left ≡ close frames)
 
 -- before the first frame is closed nothing has changed
-pub closing_start : (limit : ℕ) (chosen barred : List ℕ) (kept : List held.Frame)
-    → Closing limit chosen barred kept chosen barred kept
-closing_start limit chosen barred kept = record { each = λ lists frames e f. (frames, f, refl) }
+pub closing_start : (limit : ℕ) (chosen barred omitted : List ℕ) (kept : List held.Frame)
+    → Closing limit chosen barred omitted kept chosen barred omitted kept
+closing_start limit chosen barred omitted kept = record { each = λ lists frames e f. (frames, f, refl) }
 
--- a branch with no place left is closed, its chosen place and its barred ones taken back
-pub closing_next : (limit : ℕ) (c0 b0 : List ℕ) (k0 : List held.Frame) (chosen barred : List ℕ)
-    (kept front : List held.Frame) (last : held.Frame) (new_chosen new_barred : List ℕ)
-    → Closing limit c0 b0 k0 chosen barred kept → kept ≡ front ++ last ∷ [] → length last.places.items ≤ last.index + 1
+-- a branch with no place left is closed, its chosen place, its barred ones and the cells left out in it taken back
+pub closing_next : (limit : ℕ) (c0 b0 o0 : List ℕ) (k0 : List held.Frame) (chosen barred omitted : List ℕ)
+    (kept front : List held.Frame) (last : held.Frame) (new_chosen new_barred new_omitted : List ℕ)
+    → Closing limit c0 b0 o0 k0 chosen barred omitted kept → kept ≡ front ++ last ∷ []
+    → length last.places.items ≤ last.index + 1
     → new_chosen ≡ take (length chosen - 1) chosen → new_barred ≡ take last.bars barred
-    → Closing limit c0 b0 k0 new_chosen new_barred front
-closing_next limit c0 b0 k0 chosen barred kept front last new_chosen new_barred s e done c b = record {
-  each = λ lists frames el f.
-      (let g = s.each lists frames el f in
-      let p = popped lists chosen barred kept front last g.0 g.1 e in
-      let none : p.frame.later ≡ [] = sym p.is.later ∙ drop_all (last.index + 1) last.places.items done in (
-        p.outer,
-        subst (λ (l : List ℕ). Fits lists l new_barred front p.outer) (sym (c ∙ p.chosen_is))
-            (subst (λ (l : List ℕ). Fits lists p.frame.chosen l front p.outer) (sym (b ∙ p.barred_is)) p.fits),
-        sym (ended p.frame p.outer none) ∙ sym (ap close p.are) ∙ g.2,
-      ));
-}
+    → new_omitted ≡ take last.omits omitted
+    → Closing limit c0 b0 o0 k0 new_chosen new_barred new_omitted front
+closing_next limit c0 b0 o0 k0 chosen barred omitted kept front last new_chosen new_barred new_omitted s e done c b o =
+    record {
+      each = λ lists frames el f.
+          (let g = s.each lists frames el f in
+          let p = popped lists chosen barred omitted kept front last g.0 g.1 e in
+          let none : p.frame.later ≡ [] = sym p.is.later ∙ drop_all (last.index + 1) last.places.items done in (
+            p.outer,
+            subst (λ (l : List ℕ). Fits lists l new_barred new_omitted front p.outer) (sym (c ∙ p.chosen_is))
+                (subst (λ (l : List ℕ). Fits lists p.frame.chosen l new_omitted front p.outer) (sym (b ∙ p.barred_is))
+                (subst (λ (l : List ℕ). Fits lists p.frame.chosen p.frame.barred l front p.outer)
+                (sym (o ∙ p.omitted_is)) p.fits)),
+            sym (ended p.frame p.outer none) ∙ sym (ap close p.are) ∙ g.2,
+          ));
+    }
 
 -- with no frame left all is closed
-pub closing_end : (limit : ℕ) (c0 b0 : List ℕ) (k0 : List held.Frame) (chosen barred : List ℕ) (kept : List held.Frame)
-    (new_barred : List ℕ)
-    → Closing limit c0 b0 k0 chosen barred kept → kept ≡ [] → new_barred ≡ []
-    → ClosesFrames limit c0 b0 k0 chosen new_barred kept
-closing_end limit c0 b0 k0 chosen barred kept new_barred s e b = record {
+pub closing_end : (limit : ℕ) (c0 b0 o0 : List ℕ) (k0 : List held.Frame) (chosen barred omitted : List ℕ)
+    (kept : List held.Frame) (new_barred new_omitted : List ℕ)
+    → Closing limit c0 b0 o0 k0 chosen barred omitted kept → kept ≡ [] → new_barred ≡ [] → new_omitted ≡ []
+    → ClosesFrames limit c0 b0 o0 k0 chosen new_barred new_omitted kept
+closing_end limit c0 b0 o0 k0 chosen barred omitted kept new_barred new_omitted s e b o = record {
   each = λ lists frames el f.
       (let g = s.each lists frames el f in
-      let n = no_frames lists chosen barred kept g.0 g.1 e in
-      subst (λ (spot : Spot). IsAt lists spot chosen new_barred kept) (sym (ap close n.0) ∙ g.2)
-      (record { chosen_is = n.1; barred_is = b; fits = (e, n.1) }));
+      let n = no_frames lists chosen barred omitted kept g.0 g.1 e in
+      subst (λ (spot : Spot). IsAt lists spot chosen new_barred new_omitted kept) (sym (ap close n.0) ∙ g.2)
+      (record { chosen_is = n.1; barred_is = b; omitted_is = o; fits = (e, n.1) }));
 }
 
 -- a branch with a place left goes on to it
-pub closing_kid : (limit : ℕ) (c0 b0 : List ℕ) (k0 : List held.Frame) (chosen barred : List ℕ)
-    (kept front : List held.Frame) (last now : held.Frame) (cut_chosen cut_barred new_chosen new_barred : List ℕ)
-    (new_kept : List held.Frame)
-    → Closing limit c0 b0 k0 chosen barred kept → kept ≡ front ++ last ∷ [] → last.index + 1 < length last.places.items
+pub closing_kid : (limit : ℕ) (c0 b0 o0 : List ℕ) (k0 : List held.Frame) (chosen barred omitted : List ℕ)
+    (kept front : List held.Frame) (last now : held.Frame)
+    (cut_chosen cut_barred new_chosen new_barred new_omitted : List ℕ) (new_kept : List held.Frame)
+    → Closing limit c0 b0 o0 k0 chosen barred omitted kept → kept ≡ front ++ last ∷ []
+    → last.index + 1 < length last.places.items
     → cut_chosen ≡ take (length chosen - 1) chosen → cut_barred ≡ take last.bars barred
+    → new_omitted ≡ take last.omits omitted
     → (slice_index last.places.items last.index < limit
     → new_barred ≡ cut_barred ++ slice_index last.places.items last.index ∷ [])
     → (slice_index last.places.items (last.index + 1) < limit
     → new_chosen ≡ cut_chosen ++ slice_index last.places.items (last.index + 1) ∷ [])
     → new_kept ≡ front ++ now ∷ [] → now.places.items ≡ last.places.items → now.index ≡ last.index + 1
-    → now.bars ≡ length new_barred
-    → ClosesFrames limit c0 b0 k0 new_chosen new_barred new_kept
-closing_kid limit c0 b0 k0 chosen barred kept front last now cut_chosen cut_barred new_chosen new_barred new_kept s e
-    more c b place next k same index bars = record {
+    → now.bars ≡ length new_barred → now.omits ≡ length new_omitted
+    → ClosesFrames limit c0 b0 o0 k0 new_chosen new_barred new_omitted new_kept
+closing_kid limit c0 b0 o0 k0 chosen barred omitted kept front last now cut_chosen cut_barred new_chosen new_barred
+    new_omitted new_kept s e more c b o place next k same index bars omits = record {
       each = λ lists frames el f.
           (let g = s.each lists frames el f in
-          let p = popped lists chosen barred kept front last g.0 g.1 e in
+          let p = popped lists chosen barred omitted kept front last g.0 g.1 e in
           let low = place_below lists last p.frame limit last.index el p.is (omega arith) in
           let high = place_below lists last p.frame limit (last.index + 1) el p.is more in
           let chosen_now = next high ∙ ap (λ (l : List ℕ). l ++ slice_index last.places.items (last.index + 1) ∷ [])
           (c ∙ p.chosen_is) in
           let barred_now = place low ∙ ap (λ (l : List ℕ). l ++ slice_index last.places.items last.index ∷ [])
           (b ∙ p.barred_is) in
-          subst (λ (spot : Spot). IsAt lists spot new_chosen new_barred new_kept) (sym (ap close p.are) ∙ g.2)
-          (next_fits lists last now p.frame p.outer front new_chosen new_barred new_kept p.is p.fits more same index k
-          chosen_now barred_now bars));
+          subst (λ (spot : Spot). IsAt lists spot new_chosen new_barred new_omitted new_kept)
+          (sym (ap close p.are) ∙ g.2)
+          (next_fits lists last now p.frame p.outer front new_chosen new_barred new_omitted new_kept p.is p.fits more
+          same index k chosen_now barred_now (o ∙ p.omitted_is) bars omits));
     }
 
 -- ---- a branch begins
 
 -- a branch with places enters the first
-pub entered : (limit : ℕ) (places chosen barred : List ℕ) (kept : List held.Frame) (now : held.Frame)
+pub entered : (limit : ℕ) (places chosen barred omitted : List ℕ) (kept : List held.Frame) (now : held.Frame)
     (new_chosen : List ℕ) (new_kept : List held.Frame) → 0 < length places
     → (slice_index places 0 < limit → new_chosen ≡ chosen ++ slice_index places 0 ∷ []) → new_kept ≡ kept ++ now ∷ []
-    → now.places.items ≡ places → now.index ≡ 0 → now.bars ≡ length barred
-    → Enters limit places chosen barred kept new_chosen barred new_kept
-entered limit [] chosen barred kept now new_chosen new_kept some c k same index bars = absurd (omega arith)
-entered limit (p ∷ ps) chosen barred kept now new_chosen new_kept some c k same index bars = record {
+    → now.places.items ≡ places → now.index ≡ 0 → now.bars ≡ length barred → now.omits ≡ length omitted
+    → Enters limit places chosen barred omitted kept new_chosen barred omitted new_kept
+entered limit [] chosen barred omitted kept now new_chosen new_kept some c k same index bars omits =
+    absurd (omega arith)
+entered limit (p ∷ ps) chosen barred omitted kept now new_chosen new_kept some c k same index bars omits = record {
   each = λ lists frames el legal f.
       (let low : p < limit = marked_below lists.places p limit el (legal p (element_of (p ∷ ps) 0 some)) in
       let chosen_now = c low in
       record {
         chosen_is = chosen_now;
         barred_is = refl;
+        omitted_is = refl;
         fits = (
           kept,
           now,
           k,
           record {
             bars = bars;
+            omits = omits;
             within = omega (arith, ap length same);
             place = ap (λ (l : List ℕ). slice_index l now.index) same ∙ ap (slice_index (p ∷ ps)) index;
             later = ap (λ (l : List ℕ). drop (now.index + 1) l) same ∙ ap (λ (n : ℕ). drop (n + 1) (p ∷ ps)) index;
@@ -254,17 +306,18 @@ entered limit (p ∷ ps) chosen barred kept now new_chosen new_kept some c k sam
           chosen_now,
           [],
           sym (append-nil barred),
+          [],
+          sym (append-nil omitted),
           f,
         );
       });
 }
 
 -- a branch with none is closed at once
-pub entered_none : (limit : ℕ) (places chosen barred : List ℕ) (kept : List held.Frame) (new_chosen new_barred : List ℕ)
-    (new_kept : List held.Frame) → places ≡ []
-    → ClosesFrames limit chosen barred kept new_chosen new_barred new_kept
-    → Enters limit places chosen barred kept new_chosen new_barred new_kept
-entered_none limit places chosen barred kept new_chosen new_barred new_kept e s =
-    subst (λ (l : List ℕ). Enters limit l chosen barred kept new_chosen new_barred new_kept) (sym e) (record {
-      each = λ lists frames el legal f. s.each lists frames el f;
-    })
+pub entered_none : (limit : ℕ) (places chosen barred omitted : List ℕ) (kept : List held.Frame)
+    (new_chosen new_barred new_omitted : List ℕ) (new_kept : List held.Frame) → places ≡ []
+    → ClosesFrames limit chosen barred omitted kept new_chosen new_barred new_omitted new_kept
+    → Enters limit places chosen barred omitted kept new_chosen new_barred new_omitted new_kept
+entered_none limit places chosen barred omitted kept new_chosen new_barred new_omitted new_kept e s =
+    subst (λ (l : List ℕ). Enters limit l chosen barred omitted kept new_chosen new_barred new_omitted new_kept) (sym e)
+    (record { each = λ lists frames el legal f. s.each lists frames el f })

@@ -17,7 +17,8 @@ use Rattle.certificate_lines.proofs.SaidLemmas.{said_many}
 use Rattle.certificate_lines.specs.declared.kind.Kind.{Kind}
 use Rattle.certificate_lines.specs.declared.kind.Kind.TheVariants as kind
 use Rattle.proof_check.specs.Heard.{part_if, is_dark_line, is_torch_line, torch_parts, Hears}
-use Rattle.proof_check.specs.Kept.{AreAscending, IsWide}
+use Rattle.proof_check.specs.Kept.{IsWide}
+use Rattle.node_judges.specs.Tests.{AreAscending}
 use Rattle.proof_check.specs.Tried.{AgreesOn, AgreesWithSaid, Differs, IsHeard, Follows, Tried, HasRoom, IsBehind}
 use Rattle.proof_check.specs.Tried.{Catches}
 use Rattle.proof_check.specs.Tried.{HearsTo, HearsAll, torches_on}
@@ -105,6 +106,9 @@ on_length kind.Torches ns = ap length (append-nil ns)
 on_length kind.Leaf ns = refl
 on_length kind.Branch ns = refl
 on_length kind.Bar ns = refl
+on_length kind.Weighted ns = refl
+on_length kind.Group ns = refl
+on_length kind.Omit ns = refl
 on_length kind.End ns = refl
 
 -- a line more adds its torches to the number

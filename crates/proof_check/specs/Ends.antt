@@ -5,7 +5,7 @@ use Rattle.cave_base.specs.Box.{cell_count}
 use Rattle.cave_model.specs.Cave.{Cave}
 use Rattle.proof_check.specs.Refused.{LightsTwo, IsBadCell}
 use Rattle.lit_lists.specs.Lists.{LitLists, AreListsOf, is_marked}
-use Rattle.proof_check.specs.Tests.{lit_by}
+use Rattle.node_judges.specs.Tests.{lit_by}
 use Rattle.proof_check.specs.Homes.{Homes, AreHomesOf}
 use Rattle.proof_check.specs.declared.homes.Home.{Home}
 use Rattle.proof_check.specs.declared.homes.Home.TheVariants as home

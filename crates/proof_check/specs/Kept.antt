@@ -1,15 +1,19 @@
 -- What the judge of nodes keeps, and what it makes of a line. This is this project's own.
-use Rattle.std.specs.Prelude.{◌≡◌, ℕ, ◌<◌, List, [], length, Contains, Some, None}
+use Rattle.std.specs.Prelude.{◌≡◌, ℕ, ◌<◌, ◌≤◌, List, [], length, Contains, Some, None}
 use Rattle.cave_model.specs.Cave.{Cave}
 use Rattle.cave_model.specs.Spawn.{IsDark}
-use Rattle.std.specs.List.Sorted.{IsStrictlyIncreasing}
 use Rattle.lit_lists.specs.Lists.{LitLists, AreListsOf}
-use Rattle.proof_check.specs.Tests.{lit_by}
 use Rattle.certificate_lines.specs.declared.kind.Kind.{Kind}
 use Rattle.certificate_lines.specs.declared.kind.Kind.TheVariants as kind
-use Rattle.proof_check.specs.Judged.{JudgeState, Judged, at, stuck, LeafSteps, BranchSteps, BarSteps, NodeSteps}
-use Rattle.proof_check.specs.Track.{IsAt, AreInside}
+use Rattle.proof_rules.specs.declared.groups.Group.{Group}
+use Rattle.proof_rules.specs.Omitted.{left_without}
+use Rattle.proof_check.specs.Judged.{Weighing, idle, JudgeState, Judged, at, stuck, LeafSteps, WeightedSteps}
+use Rattle.proof_check.specs.Judged.{GroupSteps}
+use Rattle.proof_check.specs.Judged.{BranchSteps, BarSteps, OmitSteps, NodeSteps}
+use Rattle.proof_check.specs.Track.{IsAt}
+use Rattle.node_judges.specs.Tests.{AreInside}
 use Rattle.proof_check.specs.declared.nodes.NodeJudge.{NodeJudge}
+use Rattle.proof_check.specs.declared.weighing.Weighing as held
 
 -- the tallies are as wide as the box, and none is seen
 pub record IsWide (lists : LitLists) (nodes : NodeJudge) : Type 0 where
@@ -17,6 +21,8 @@ pub record IsWide (lists : LitLists) (nodes : NodeJudge) : Type 0 where
   pub seen : length nodes.seen.counts ≡ length lists.places
   pub chosen : length nodes.track.chosen.counts ≡ length lists.places
   pub barred : length nodes.track.barred.counts ≡ length lists.places
+  pub omitted : length nodes.track.omitted.counts ≡ length lists.places
+  pub few : length lists.places ≤ 4294967296
   pub none : nodes.seen.items ≡ []
   pub inside : AreInside lists (length lists.places)
 
@@ -26,14 +32,30 @@ pub record IsNew (count : ℕ) (nodes : NodeJudge) : Type 0 where
   pub seen : length nodes.seen.counts ≡ count
   pub chosen : length nodes.track.chosen.counts ≡ count
   pub barred : length nodes.track.barred.counts ≡ count
+  pub omitted : length nodes.track.omitted.counts ≡ count
+  pub few : count ≤ 4294967296
   pub no_region : nodes.region.items ≡ []
   pub no_seen : nodes.seen.items ≡ []
   pub no_chosen : nodes.track.chosen.items ≡ []
   pub no_barred : nodes.track.barred.items ≡ []
+  pub no_omitted : nodes.track.omitted.items ≡ []
   pub no_frames : nodes.track.frames.items ≡ []
   pub floor : nodes.floor ≡ 0
   pub weak : nodes.weak ≡ None
   pub bad : nodes.bad ≡ None
+  pub weighed_at : nodes.weighing.line ≡ 0
+  pub to_come : nodes.weighing.to_come ≡ 0
+  pub no_groups : nodes.weighing.groups.items ≡ []
+
+-- what is left of the region
+abbrev pub left_in : NodeJudge → List ℕ
+left_in nodes = left_without nodes.track.omitted.items nodes.region.items
+
+-- the weighted leaf as it is kept
+pub record IsWeighing (inner : held.Weighing) (weighing : Weighing) : Type 0 where
+  pub line : inner.line ≡ weighing.line
+  pub to_come : inner.to_come ≡ weighing.to_come
+  pub groups : inner.groups.items ≡ weighing.groups
 
 -- the judge is in this state
 pub record IsIn (cave : Cave) (lists : LitLists) (nodes : NodeJudge) (state : JudgeState) : Type 0 where
@@ -41,7 +63,9 @@ pub record IsIn (cave : Cave) (lists : LitLists) (nodes : NodeJudge) (state : Ju
   pub cells : nodes.region.items ≡ state.cells
   pub floor : nodes.floor ≡ state.floor
   pub weak : nodes.weak ≡ state.weak
-  pub spot : IsAt lists state.spot nodes.track.chosen.items nodes.track.barred.items nodes.track.frames.items
+  pub spot : IsAt lists state.spot nodes.track.chosen.items nodes.track.barred.items nodes.track.omitted.items
+      nodes.track.frames.items
+  pub weighing : IsWeighing nodes.weighing state.weighing
   pub dark : (cell : ℕ) → Contains state.cells cell → IsDark cave cell
 
 -- the judge of nodes keeps what judging has come to: its state, or the bad line
@@ -64,6 +88,23 @@ pub record JudgesBar (lists : LitLists) (place by line : ℕ) (old new : NodeJud
   pub each : (cave : Cave) (state : JudgeState) → AreListsOf cave lists → IsIn cave lists old state → line ≡ state.line
       → (next : Judged) × BarSteps cave place by state next × Keeps cave lists new next
 
+-- from any state in which no weighted leaf is told the judge takes the step of one with these groups, whose line was
+-- this one
+pub record JudgesWeighted (lists : LitLists) (groups : List Group) (line : ℕ) (old new : NodeJudge) : Type 0 where
+  pub each : (cave : Cave) (state : JudgeState) → AreListsOf cave lists → IsIn cave lists old state
+      → IsWeighing old.weighing idle → (next : Judged) × WeightedSteps cave groups line state next
+      × Keeps cave lists new next
+
+-- from any state the judge takes the step of this group
+pub record JudgesGroup (lists : LitLists) (group : Group) (old new : NodeJudge) : Type 0 where
+  pub each : (cave : Cave) (state : JudgeState) → AreListsOf cave lists → IsIn cave lists old state
+      → (next : Judged) × GroupSteps cave group state next × Keeps cave lists new next
+
+-- from any state on this line the judge takes the step of an omission of these cells
+pub record JudgesOmission (lists : LitLists) (these : List ℕ) (line : ℕ) (old new : NodeJudge) : Type 0 where
+  pub each : (cave : Cave) (state : JudgeState) → AreListsOf cave lists → IsIn cave lists old state → line ≡ state.line
+      → (next : Judged) × OmitSteps cave these state next × Keeps cave lists new next
+
 -- a line of the kind Dark has dark cells alone
 abbrev pub AreDarkAt : Cave → Kind → List ℕ → Type 0
 AreDarkAt cave k numbers = k ≡ kind.Dark → (cell : ℕ) → Contains numbers cell → IsDark cave cell
@@ -79,10 +120,6 @@ pub record Judges (lists : LitLists) (k : Kind) (numbers : List ℕ) (line : ℕ
   pub steps : old.bad ≡ None → StepsOn lists k numbers line old new
   pub still : (bad : ℕ) → old.bad ≡ Some bad → new.bad ≡ Some bad
 
--- the places of each cell ascend
-pub record AreAscending (lists : LitLists) : Type 0 where
-  pub each : (cell : ℕ) → IsStrictlyIncreasing (lit_by lists cell)
-
 -- the region has these cells, where all are of the box; all else stays
 pub record BeginsRegion (cells : List ℕ) (old new : NodeJudge) : Type 0 where
   pub region : ((cell : ℕ) → Contains cells cell → cell < length old.region.counts) → new.region.items ≡ cells
@@ -92,16 +129,20 @@ pub record BeginsRegion (cells : List ℕ) (old new : NodeJudge) : Type 0 where
   pub floor : new.floor ≡ old.floor
   pub weak : new.weak ≡ old.weak
   pub bad : new.bad ≡ old.bad
+  pub weighing : new.weighing ≡ old.weighing
 
 -- so many are to be proved, and no branch is open; all else stays
 pub record Expects (count : ℕ) (old new : NodeJudge) : Type 0 where
   pub floor : new.floor ≡ count
   pub chosen : new.track.chosen.items ≡ []
   pub barred : new.track.barred.items ≡ []
+  pub omitted : new.track.omitted.items ≡ []
   pub frames : new.track.frames.items ≡ []
   pub whole : length new.track.chosen.counts ≡ length old.track.chosen.counts
   pub wide : length new.track.barred.counts ≡ length old.track.barred.counts
+  pub long : length new.track.omitted.counts ≡ length old.track.omitted.counts
   pub region : new.region ≡ old.region
   pub seen : new.seen ≡ old.seen
   pub weak : new.weak ≡ old.weak
   pub bad : new.bad ≡ old.bad
+  pub weighing : new.weighing ≡ old.weighing

@@ -7,8 +7,6 @@ pub mod Texts
 pub mod Reading
 -- private
 pub mod Judged
-pub mod Tally
-pub mod Tests
 pub mod Track
 pub mod Kept
 pub mod Homes

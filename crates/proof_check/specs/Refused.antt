@@ -7,12 +7,14 @@ use Rattle.cave_model.specs.Least.{IsLeast}
 use Rattle.cave_model.specs.Spawn.{IsDark}
 use Rattle.cave_model.specs.Torches.{IsPlace, Lights}
 use Rattle.cave_model.specs.Regions.{AreRegions}
-use Rattle.proof_rules.specs.Tree.{Tree, Forest, leaf, branch, bar, none, more, tree_count, node_count}
+use Rattle.proof_rules.specs.Tree.{Tree, Forest, leaf, weighted, branch, bar, omit, none, more, tree_count, node_count}
+use Rattle.proof_rules.specs.Groups.{places_for_all}
+use Rattle.proof_rules.specs.Omitted.{left_without, MayBeOmitted}
 use Rattle.cave_model.specs.Coverage.{of_cave}
 use Rattle.cave_model.specs.Coverage.{IsLitBy}
-use Rattle.proof_rules.specs.Good.{Good, IsUnlit, AreScattered, AreOpen, IsDominated}
-use Rattle.proof_rules.specs.Certificate.{Section, Version, first, second, Certificate, regions_of, torch_lists}
-use Rattle.proof_rules.specs.Certificate.{torches_of}
+use Rattle.proof_rules.specs.Good.{Good, IsUnlit, AreScattered, AreWeighted, AreOpen, IsDominated}
+use Rattle.proof_rules.specs.Certificate.{Section, Version, first, second, third, Certificate, regions_of}
+use Rattle.proof_rules.specs.Certificate.{torch_lists, torches_of}
 use Rattle.proof_rules.specs.Text.{IsTextOf, IsFirstMisfit}
 use Rattle.proof_check.specs.Accepted.{IsOfCave, AreDistinctPlaces, LeaveNoneDark, AreProved}
 use Rattle.proof_check.specs.declared.reason.Reason.{Reason}
@@ -64,6 +66,8 @@ abbrev mutual
   pub IsBadAt : Cave → List ℕ → List ℕ → List ℕ → Tree → ℕ → ℕ → Type 0
   IsBadAt cave cells chosen barred (leaf these) line bad = (¬ AreScattered
       (of_cave cave) cells chosen barred these) × (bad ≡ line)
+  IsBadAt cave cells chosen barred (weighted groups) line bad = (¬ AreWeighted
+      (of_cave cave) cells chosen barred groups) × (bad ≡ line)
   IsBadAt cave cells chosen barred (branch cell kids) line bad =
       (((places : List ℕ) → ¬ IsBranching cave cells chosen barred cell places (tree_count kids)) × (bad ≡ line))
       ⊎ ((places : List ℕ) × IsBranching cave cells chosen barred cell places (tree_count kids)
@@ -72,6 +76,9 @@ abbrev mutual
       ((¬ IsDominated (of_cave cave) cells chosen barred place by) × (bad ≡ line))
       ⊎ (IsDominated (of_cave cave) cells chosen barred place by
       × IsBadAt cave cells chosen (barred ++ place ∷ []) kid (line + 1) bad)
+  IsBadAt cave cells chosen barred (omit these kid) line bad =
+      ((¬ MayBeOmitted cells these) × (bad ≡ line))
+      ⊎ (MayBeOmitted cells these × IsBadAt cave (left_without these cells) chosen barred kid (line + 1) bad)
 
   -- the same for trees of these places in turn, each chosen in its own tree and barred in those after it; the trees
   -- before that with the bad line are good
@@ -92,11 +99,15 @@ IsFirstBad cave (section ∷ sections) line bad =
     × IsFirstBad cave sections (line + 3 + node_count section.tree) bad)
 
 abbrev mutual
-  -- the line of the first leaf whose cells and so many chosen places are fewer than the floor
+  -- the line of the first leaf whose cells, or the places that its groups need, and so many chosen places are fewer
+  -- than the floor; of a weighted leaf the line before those of its groups
   pub weak_leaf : ℕ → ℕ → Tree → ℕ → Option ℕ
   weak_leaf floor chosen (leaf cells) line = if nat_lt (chosen + length cells) floor then Some line else None
+  weak_leaf floor chosen (weighted groups) line =
+      if nat_lt (chosen + places_for_all groups) floor then Some line else None
   weak_leaf floor chosen (branch cell kids) line = weak_leaf_of floor (chosen + 1) kids (line + 1)
   weak_leaf floor chosen (bar place by kid) line = weak_leaf floor chosen kid (line + 1)
+  weak_leaf floor chosen (omit these kid) line = weak_leaf floor chosen kid (line + 1)
 
   -- the same of trees, one after another
   pub weak_leaf_of : ℕ → ℕ → Forest → ℕ → Option ℕ
@@ -115,6 +126,7 @@ first_weak (section ∷ sections) line = option_or (weak_leaf (length section.to
 abbrev pub start_line : Version → ℕ
 start_line first = 5
 start_line (second need) = 6
+start_line (third need) = 6
 
 -- ---- the order
 

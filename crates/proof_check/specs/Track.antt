@@ -1,35 +1,39 @@
--- The open branches as they are kept: a list of chosen and one of barred places, cut back as branches end.
+-- The open branches as they are kept: lists of the chosen and the barred places and of the cells left out, cut back as
+-- branches end.
 -- This is this project's own.
-use Rattle.std.specs.Prelude.{◌≡◌, ℕ, ◌+◌, ◌<◌, Bool, List, [], ◌∷◌, ◌++◌, length, drop, Contains, IsTrue}
-use Rattle.std.specs.Prelude.{slice_index, MatchBool}
-use Rattle.cave_model.specs.Plan.{AreDistinct}
+use Rattle.std.specs.Prelude.{◌≡◌, ℕ, ◌+◌, ◌<◌, List, [], ◌∷◌, ◌++◌, length, drop, Contains, IsTrue}
+use Rattle.std.specs.Prelude.{slice_index}
 use Rattle.lit_lists.specs.Lists.{LitLists, is_marked}
 use Rattle.proof_check.specs.Judged.{Frame, Spot, close, enter}
-use Rattle.proof_check.specs.Tests.{AreApartIn, lit_by}
 use Rattle.proof_check.specs.declared.track.Frame as held
 use Rattle.proof_check.specs.declared.track.Track as kept
 
--- a frame as it is kept: its places, the index of the one that is chosen, how many places were barred before it
+-- a frame as it is kept: its places, the index of the one that is chosen, how many places were barred and how many
+-- cells left out before it
 pub record IsFrameOf (lists : LitLists) (inner : held.Frame) (frame : Frame) : Type 0 where
   pub bars : inner.bars ≡ length frame.barred
+  pub omits : inner.omits ≡ length frame.omitted
   pub within : inner.index < length inner.places.items
   pub place : slice_index inner.places.items inner.index ≡ frame.place
   pub later : drop (inner.index + 1) inner.places.items ≡ frame.later
   pub legal : (place : ℕ) → Contains inner.places.items place → IsTrue (is_marked lists.places place)
 
 -- the lists and the kept frames, the innermost last, are those of the frames, the innermost first
-abbrev pub Fits : LitLists → List ℕ → List ℕ → List held.Frame → List Frame → Type 0
-Fits lists chosen barred kept [] = (kept ≡ []) × (chosen ≡ [])
-Fits lists chosen barred kept (frame ∷ frames) = (front : List held.Frame) × (last : held.Frame)
+abbrev pub Fits : LitLists → List ℕ → List ℕ → List ℕ → List held.Frame → List Frame → Type 0
+Fits lists chosen barred omitted kept [] = (kept ≡ []) × (chosen ≡ [])
+Fits lists chosen barred omitted kept (frame ∷ frames) = (front : List held.Frame) × (last : held.Frame)
     × (kept ≡ front ++ last ∷ [])
     × IsFrameOf lists last frame × (chosen ≡ frame.chosen ++ frame.place ∷ [])
-    × (more : List ℕ) × (barred ≡ frame.barred ++ more) × Fits lists frame.chosen frame.barred front frames
+    × (more : List ℕ) × (barred ≡ frame.barred ++ more) × (gone : List ℕ) × (omitted ≡ frame.omitted ++ gone)
+    × Fits lists frame.chosen frame.barred frame.omitted front frames
 
 -- the kept lists and frames are those of the spot
-pub record IsAt (lists : LitLists) (spot : Spot) (chosen barred : List ℕ) (kept : List held.Frame) : Type 0 where
+pub record IsAt (lists : LitLists) (spot : Spot) (chosen barred omitted : List ℕ)
+    (kept : List held.Frame) : Type 0 where
   pub chosen_is : chosen ≡ spot.chosen
   pub barred_is : barred ≡ spot.barred
-  pub fits : Fits lists chosen barred kept spot.frames
+  pub omitted_is : omitted ≡ spot.omitted
+  pub fits : Fits lists chosen barred omitted kept spot.frames
 
 -- the frame has gone on to its next place
 pub record IsNextKid (limit bar_limit : ℕ) (frame : held.Frame) (old new : kept.Track) : Type 0 where
@@ -42,27 +46,20 @@ pub record IsNextKid (limit bar_limit : ℕ) (frame : held.Frame) (old new : kep
   pub same : last.places.items ≡ frame.places.items
   pub index : last.index ≡ frame.index + 1
   pub bars : last.bars ≡ length new.barred.items
+  pub omits : last.omits ≡ length old.omitted.items
+  pub still : new.omitted ≡ old.omitted
 
 -- where a tree ends, what comes after it
-pub record ClosesFrames (limit : ℕ) (chosen barred : List ℕ) (kept : List held.Frame) (new_chosen new_barred : List ℕ)
-    (new_kept : List held.Frame) : Type 0 where
+pub record ClosesFrames (limit : ℕ) (chosen barred omitted : List ℕ) (kept : List held.Frame)
+    (new_chosen new_barred new_omitted : List ℕ) (new_kept : List held.Frame) : Type 0 where
   pub each : (lists : LitLists) (frames : List Frame) → length lists.places ≡ limit
-      → Fits lists chosen barred kept frames
-      → IsAt lists (close frames) new_chosen new_barred new_kept
+      → Fits lists chosen barred omitted kept frames
+      → IsAt lists (close frames) new_chosen new_barred new_omitted new_kept
 
 -- a branch on these places
-pub record Enters (limit : ℕ) (places chosen barred : List ℕ) (kept : List held.Frame)
-    (new_chosen new_barred : List ℕ) (new_kept : List held.Frame) : Type 0 where
+pub record Enters (limit : ℕ) (places chosen barred omitted : List ℕ) (kept : List held.Frame)
+    (new_chosen new_barred new_omitted : List ℕ) (new_kept : List held.Frame) : Type 0 where
   pub each : (lists : LitLists) (frames : List Frame) → length lists.places ≡ limit → ((place : ℕ)
       → Contains places place → IsTrue (is_marked lists.places place))
-      → Fits lists chosen barred kept frames → IsAt lists
-      (enter chosen barred places frames) new_chosen new_barred new_kept
-
--- each place that lights a cell is below this number
-pub record AreInside (lists : LitLists) (limit : ℕ) : Type 0 where
-  pub each : (place cell : ℕ) → Contains (lit_by lists cell) place → place < limit
-
--- whether distinct cells may stand in a leaf
-abbrev pub DecidesApart : LitLists → List ℕ → List ℕ → List ℕ → List ℕ → Bool → Type 0
-DecidesApart lists cells chosen barred these result = MatchBool result
-    (AreApartIn lists cells chosen barred these) (AreDistinct these → ¬ AreApartIn lists cells chosen barred these)
+      → Fits lists chosen barred omitted kept frames → IsAt lists
+      (enter chosen barred omitted places frames) new_chosen new_barred new_omitted new_kept

@@ -1,6 +1,7 @@
 ghost use Rattle.std.specs.Prelude.{◌≡◌, ◌<◌, ◌+◌, ◌^◌, [], IfOk, OnOk};
 ghost use Rattle.proof_check.specs.Heard.{Hears, IsAfter};
-ghost use Rattle.proof_check.specs.Kept.{AreAscending, IsWide};
+ghost use Rattle.proof_check.specs.Kept.{IsWide};
+ghost use Rattle.node_judges.specs.Tests.{AreAscending};
 
 use crate::homes::Homes;
 use crate::nodes::NodeJudge;
@@ -10,7 +11,7 @@ use lit_lists::Lists;
 use std::alloc::{AllocError, Global};
 
 /// The judge of a certificate's lines.
-#[derive(Debug, Drop)]
+#[derive(Drop)]
 pub struct Judge {
     pub lists: Lists,
     pub nodes: NodeJudge,

@@ -9,16 +9,15 @@ mod fault;
 mod homes;
 mod judge;
 pub mod laws;
-mod leaf;
+mod node_lines;
 mod nodes;
 mod parts;
 mod reading;
 mod reason;
-mod tally;
-mod testing;
 mod track;
 mod trial;
 mod verdict;
+mod weighing;
 
 pub use checking::{check, check_from};
 pub use fault::CheckFault;

@@ -2,26 +2,27 @@ ghost use Rattle.std.specs.Prelude.{◌≡◌, ◌+◌, length, nat_lt, if◌the
 ghost use Rattle.std.specs.List.Sorted.{IsStrictlyIncreasing};
 ghost use Rattle.std.specs.Option.{option_or};
 ghost use Rattle.lit_lists.specs.Lists.{row_at};
-ghost use Rattle.proof_check.specs.Kept.{AreAscending, BeginsRegion, Expects, IsNew, IsWide, Judges, JudgesBar};
-ghost use Rattle.proof_check.specs.Kept.{JudgesBranch, JudgesLeaf, StepsOn};
-ghost use Rattle.certificate_lines.specs.declared.kind.Kind.TheVariants as kinds;
+ghost use Rattle.proof_check.specs.Kept.{BeginsRegion, Expects, IsNew, IsWide, JudgesBar};
+ghost use Rattle.node_judges.specs.Tests.{AreAscending};
+ghost use Rattle.proof_check.specs.Kept.{JudgesBranch, JudgesGroup, JudgesLeaf, JudgesOmission, JudgesWeighted};
 
-use crate::leaf::is_leaf;
-use crate::tally::Tally;
-use crate::testing::{is_dominated, is_free, left_of, mark};
 use crate::track::Track;
+use crate::weighing::Weighing;
 use cave_base::Cell;
-use certificate_lines::Kind;
 use lit_lists::Lists;
+use node_judges::{Tally, are_left, is_dominated, is_free, is_leaf, is_weighted, left_of, mark};
+use proof_rules::Group;
 use std::alloc::{AllocError, Global};
+use std::mem;
+use weight_judge::places_for_all;
 
 /// The judge of nodes.
-#[derive(Debug, Drop)]
+#[derive(Drop)]
 pub struct NodeJudge {
     pub alloc: Global,
     /// The cells of the region.
     pub region: Tally,
-    /// Scratch of the leaves: the places seen.
+    /// Scratch of the leaves: the places or the cells seen.
     pub seen: Tally,
     pub track: Track,
     /// The size that the region's tree is to prove.
@@ -30,6 +31,8 @@ pub struct NodeJudge {
     pub weak: Option<u64>,
     /// The first node against the rules.
     pub bad: Option<u64>,
+    /// The weighted leaf whose groups are told.
+    pub weighing: Weighing,
 }
 
 impl NodeJudge {
@@ -41,9 +44,11 @@ impl NodeJudge {
         let seen = Tally::new(alloc, count)?;
         let chosen = Tally::new(alloc, count)?;
         let barred = Tally::new(alloc, count)?;
+        let omitted = Tally::new(alloc, count)?;
         let track = Track {
             chosen,
             barred,
+            omitted,
             frames: Vec::new(alloc),
         };
         Ok(NodeJudge {
@@ -54,6 +59,7 @@ impl NodeJudge {
             floor: 0,
             weak: None,
             bad: None,
+            weighing: Weighing::new(alloc, 0, 0),
         })
     }
 
@@ -66,7 +72,7 @@ impl NodeJudge {
     }
 
     /// A leaf with these cells.
-    fn leaf(&mut self, lists: &Lists, these: &[Cell], line: u64) -> Result<(), AllocError>
+    pub fn leaf(&mut self, lists: &Lists, these: &[Cell], line: u64) -> Result<(), AllocError>
         requires wide { IsWide lists.now self.old }
         ensures leaf { OnOk result (JudgesLeaf lists.now these.now line self.old self.new) }
         ensures wide { OnOk result (IsWide lists.now self.new) }
@@ -74,6 +80,7 @@ impl NodeJudge {
         let fits = is_leaf(
             lists,
             &self.region,
+            &self.track.omitted,
             &self.track.chosen,
             &self.track.barred,
             &mut self.seen,
@@ -89,14 +96,67 @@ impl NodeJudge {
         Ok(())
     }
 
+    /// A weighted leaf with these groups.
+    fn weighted(&mut self, lists: &Lists, groups: &[Group], line: u64) -> Result<(), AllocError>
+        requires wide { IsWide lists.now self.old }
+        requires ascending { AreAscending lists.now }
+        ensures weighted { OnOk result (JudgesWeighted lists.now groups.now line self.old self.new) }
+        ensures wide { OnOk result (IsWide lists.now self.new) }
+    {
+        let fits = is_weighted(
+            self.alloc,
+            lists,
+            &self.region,
+            &self.track.omitted,
+            &self.track.chosen,
+            &self.track.barred,
+            &mut self.seen,
+            groups,
+        )?;
+        if !fits {
+            self.bad = Some(line);
+            return Ok(());
+        }
+        let weak = self.is_weak(places_for_all(groups) as usize);
+        self.weak = first_of(self.weak, weak, line);
+        self.track.close()?;
+        Ok(())
+    }
+
+    /// A group of a weighted leaf, which is judged at its last.
+    pub fn group(&mut self, lists: &Lists, group: Group) -> Result<(), AllocError>
+        requires wide { IsWide lists.now self.old }
+        requires ascending { AreAscending lists.now }
+        ensures group { OnOk result (JudgesGroup lists.now group self.old self.new) }
+        ensures wide { OnOk result (IsWide lists.now self.new) }
+    {
+        if self.weighing.to_come == 0 {
+            return Ok(());
+        }
+        self.weighing.groups.push(group)?;
+        self.weighing.to_come -= 1;
+        if self.weighing.to_come == 0 {
+            let told = mem::replace(&mut self.weighing, Weighing::new(self.alloc, 0, 0));
+            self.weighted(lists, &told.groups, told.line)?;
+        }
+        Ok(())
+    }
+
     /// A branch on the cell, with so many kids.
-    fn branch(&mut self, lists: &Lists, cell: Cell, count: u32, line: u64) -> Result<(), AllocError>
+    pub fn branch(
+        &mut self,
+        lists: &Lists,
+        cell: Cell,
+        count: u32,
+        line: u64,
+    ) -> Result<(), AllocError>
         requires wide { IsWide lists.now self.old }
         requires ascending { IsStrictlyIncreasing (row_at lists.now.pairs.lit_by cell) }
         ensures branch { OnOk result (JudgesBranch lists.now cell count line self.old self.new) }
         ensures wide { OnOk result (IsWide lists.now self.new) }
     {
-        if !is_free(lists, &self.region, &self.track.chosen, cell) {
+        let track = &self.track;
+        if !is_free(lists, &self.region, &track.omitted, &track.chosen, cell) {
             self.bad = Some(line);
             return Ok(());
         }
@@ -110,13 +170,21 @@ impl NodeJudge {
     }
 
     /// A place to leave out, for another.
-    fn bar(&mut self, lists: &Lists, place: Cell, by: Cell, line: u64) -> Result<(), AllocError>
+    pub fn bar(&mut self, lists: &Lists, place: Cell, by: Cell, line: u64) -> Result<(), AllocError>
         requires wide { IsWide lists.now self.old }
         ensures bar { OnOk result (JudgesBar lists.now place by line self.old self.new) }
         ensures wide { OnOk result (IsWide lists.now self.new) }
     {
         let track = &self.track;
-        if !is_dominated(lists, &self.region, &track.chosen, &track.barred, place, by) {
+        if !is_dominated(
+            lists,
+            &self.region,
+            &track.omitted,
+            &track.chosen,
+            &track.barred,
+            place,
+            by,
+        ) {
             self.bad = Some(line);
             return Ok(());
         }
@@ -124,45 +192,22 @@ impl NodeJudge {
         Ok(())
     }
 
-    /// A leaf's line: how many cells, and the cells.
-    fn leaf_line(&mut self, lists: &Lists, numbers: &[u32], line: u64) -> Result<(), AllocError>
+    /// Cells to leave out.
+    pub fn omit(&mut self, lists: &Lists, these: &[Cell], line: u64) -> Result<(), AllocError>
         requires wide { IsWide lists.now self.old }
-        ensures steps { OnOk result (StepsOn lists.now kinds.Leaf numbers.now line self.old self.new) }
+        ensures omission { OnOk result (JudgesOmission lists.now these.now line self.old self.new) }
         ensures wide { OnOk result (IsWide lists.now self.new) }
     {
-        if let [_, these @ ..] = numbers {
-            self.leaf(lists, these, line)?;
+        if !are_left(&self.region, &self.track.omitted, these) {
+            self.bad = Some(line);
+            return Ok(());
         }
-        Ok(())
-    }
-
-    /// A branch's line: its cell, and how many kids.
-    fn branch_line(&mut self, lists: &Lists, numbers: &[u32], line: u64) -> Result<(), AllocError>
-        requires wide { IsWide lists.now self.old }
-        requires ascending { AreAscending lists.now }
-        ensures steps { OnOk result (StepsOn lists.now kinds.Branch numbers.now line self.old self.new) }
-        ensures wide { OnOk result (IsWide lists.now self.new) }
-    {
-        if numbers.len() == 2 {
-            self.branch(lists, numbers[0], numbers[1], line)?;
-        }
-        Ok(())
-    }
-
-    /// A bar's line: the place, and the other.
-    fn bar_line(&mut self, lists: &Lists, numbers: &[u32], line: u64) -> Result<(), AllocError>
-        requires wide { IsWide lists.now self.old }
-        ensures steps { OnOk result (StepsOn lists.now kinds.Bar numbers.now line self.old self.new) }
-        ensures wide { OnOk result (IsWide lists.now self.new) }
-    {
-        if numbers.len() == 2 {
-            self.bar(lists, numbers[0], numbers[1], line)?;
-        }
+        mark(these, &mut self.track.omitted)?;
         Ok(())
     }
 
     /// The cells of the next region.
-    fn begin(&mut self, cells: &[Cell]) -> Result<(), AllocError>
+    pub fn begin(&mut self, cells: &[Cell]) -> Result<(), AllocError>
         ensures begins { OnOk result (BeginsRegion cells.now self.old self.new) }
     {
         self.region.cut(0);
@@ -171,54 +216,11 @@ impl NodeJudge {
     }
 
     /// Its torches: so many is its tree to prove.
-    fn expect(&mut self, count: usize)
+    pub fn expect(&mut self, count: usize)
         ensures { Expects count self.old self.new }
     {
         self.floor = count;
         self.track.clear();
-    }
-
-    /// Takes a step where no node was against the rules.
-    fn step(
-        &mut self,
-        lists: &Lists,
-        kind: Kind,
-        numbers: &[u32],
-        line: u64,
-    ) -> Result<(), AllocError>
-        requires wide { IsWide lists.now self.old }
-        requires ascending { AreAscending lists.now }
-        ensures steps { OnOk result (StepsOn lists.now kind numbers.now line self.old self.new) }
-        ensures wide { OnOk result (IsWide lists.now self.new) }
-    {
-        match kind {
-            Kind::Leaf => self.leaf_line(lists, numbers, line)?,
-            Kind::Branch => self.branch_line(lists, numbers, line)?,
-            Kind::Bar => self.bar_line(lists, numbers, line)?,
-            Kind::Dark => self.begin(numbers)?,
-            Kind::Torches => self.expect(numbers.len()),
-            _ => {}
-        }
-        Ok(())
-    }
-
-    /// Judges a line; stands still after one against the rules.
-    pub fn line(
-        &mut self,
-        lists: &Lists,
-        kind: Kind,
-        numbers: &[u32],
-        line: u64,
-    ) -> Result<(), AllocError>
-        requires wide { IsWide lists.now self.old }
-        requires ascending { AreAscending lists.now }
-        ensures judges { OnOk result (Judges lists.now kind numbers.now line self.old self.new) }
-        ensures wide { OnOk result (IsWide lists.now self.new) }
-    {
-        if self.bad.is_none() {
-            self.step(lists, kind, numbers, line)?;
-        }
-        Ok(())
     }
 }
 

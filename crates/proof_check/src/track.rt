@@ -1,8 +1,8 @@
 ghost use Rattle.std.specs.Prelude.{◌≡◌, ◌<◌, ◌+◌, [], length, IfOk, OnOk};
 ghost use Rattle.proof_check.specs.Track.{ClosesFrames, Enters, IsNextKid};
 
-use crate::tally::Tally;
 use cave_base::Cell;
+use node_judges::Tally;
 use std::alloc::{AllocError, Global};
 
 /// An open branch.
@@ -14,13 +14,16 @@ pub struct Frame {
     pub index: usize,
     /// How many places were barred before its kid began.
     pub bars: usize,
+    /// How many cells were left out before it began.
+    pub omits: usize,
 }
 
-/// The open branches, with the places that are chosen and barred on the way.
+/// The open branches, with the places that are chosen and barred and the cells that are left out on the way.
 #[derive(Debug, Drop)]
 pub struct Track {
     pub chosen: Tally,
     pub barred: Tally,
+    pub omitted: Tally,
     pub frames: Vec<Frame>,
 }
 
@@ -32,6 +35,7 @@ impl Track {
             frame self.old self.new) }
         ensures whole { length self.new.chosen.counts ≡ length self.old.chosen.counts }
         ensures wide { length self.new.barred.counts ≡ length self.old.barred.counts }
+        ensures long { length self.new.omitted.counts ≡ length self.old.omitted.counts }
     {
         let place = frame.places[frame.index];
         let next = frame.places[frame.index + 1];
@@ -41,6 +45,7 @@ impl Track {
             places: frame.places,
             index: frame.index + 1,
             bars: self.barred.len(),
+            omits: self.omitted.len(),
         };
         self.frames.push(frame)?;
         Ok(())
@@ -50,20 +55,23 @@ impl Track {
     pub fn close(&mut self) -> Result<(), AllocError>
         requires same { length self.old.barred.counts ≡ length self.old.chosen.counts }
         ensures closes { OnOk result (ClosesFrames (length self.old.chosen.counts)
-            self.old.chosen.items self.old.barred.items self.old.frames.items
-            self.new.chosen.items self.new.barred.items self.new.frames.items) }
+            self.old.chosen.items self.old.barred.items self.old.omitted.items self.old.frames.items
+            self.new.chosen.items self.new.barred.items self.new.omitted.items self.new.frames.items) }
         ensures whole { length self.new.chosen.counts ≡ length self.old.chosen.counts }
         ensures wide { length self.new.barred.counts ≡ length self.old.barred.counts }
+        ensures long { length self.new.omitted.counts ≡ length self.old.omitted.counts }
     {
         while let Some(frame) = self.frames.pop() {
             self.chosen.pop();
             self.barred.cut(frame.bars);
+            self.omitted.cut(frame.omits);
             if frame.index < frame.places.len().saturating_sub(1) {
                 self.next_kid(frame)?;
                 return Ok(());
             }
         }
         self.barred.cut(0);
+        self.omitted.cut(0);
         Ok(())
     }
 
@@ -71,10 +79,11 @@ impl Track {
     pub fn enter(&mut self, places: Vec<Cell>) -> Result<(), AllocError>
         requires same { length self.old.barred.counts ≡ length self.old.chosen.counts }
         ensures enters { OnOk result (Enters (length self.old.chosen.counts) places.items
-            self.old.chosen.items self.old.barred.items self.old.frames.items
-            self.new.chosen.items self.new.barred.items self.new.frames.items) }
+            self.old.chosen.items self.old.barred.items self.old.omitted.items self.old.frames.items
+            self.new.chosen.items self.new.barred.items self.new.omitted.items self.new.frames.items) }
         ensures whole { length self.new.chosen.counts ≡ length self.old.chosen.counts }
         ensures wide { length self.new.barred.counts ≡ length self.old.barred.counts }
+        ensures long { length self.new.omitted.counts ≡ length self.old.omitted.counts }
     {
         if places.is_empty() {
             self.close()?;
@@ -85,6 +94,7 @@ impl Track {
             places,
             index: 0,
             bars: self.barred.len(),
+            omits: self.omitted.len(),
         };
         self.frames.push(frame)?;
         Ok(())
@@ -94,12 +104,15 @@ impl Track {
     pub fn clear(&mut self)
         ensures chosen { self.new.chosen.items ≡ [] }
         ensures barred { self.new.barred.items ≡ [] }
+        ensures omitted { self.new.omitted.items ≡ [] }
         ensures frames { self.new.frames.items ≡ [] }
         ensures whole { length self.new.chosen.counts ≡ length self.old.chosen.counts }
         ensures wide { length self.new.barred.counts ≡ length self.old.barred.counts }
+        ensures long { length self.new.omitted.counts ≡ length self.old.omitted.counts }
     {
         self.chosen.cut(0);
         self.barred.cut(0);
+        self.omitted.cut(0);
         self.frames.clear();
     }
 }

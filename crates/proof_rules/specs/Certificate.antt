@@ -3,7 +3,9 @@ use Rattle.std.specs.Prelude.{◌≡◌, ℕ, ◌<◌, ◌≤◌, ◌⊎◌, Lis
 use Rattle.std.specs.List.Sorted.{IsStrictlyIncreasing}
 use Rattle.cave_base.specs.Box.{Point, cell_count, is_small}
 use Rattle.cave_model.specs.Regions.{all_cells}
-use Rattle.proof_rules.specs.Tree.{Tree, Forest, leaf, branch, bar, none, more, tree_count}
+use Rattle.proof_rules.specs.declared.groups.Group.{Group}
+use Rattle.proof_rules.specs.Groups.{all_cells_of, AreGroups}
+use Rattle.proof_rules.specs.Tree.{Tree, Forest, leaf, weighted, branch, bar, omit, none, more, tree_count}
 
 -- a region, its torches, and a tree that proves them the fewest
 pub record Section : Type 0 where
@@ -11,15 +13,24 @@ pub record Section : Type 0 where
   pub torches : List ℕ
   pub tree : Tree
 
--- which version of the text it has: the first speaks of no need and no place left out
+-- which version of the text it has: the first speaks of no need and no place left out, the second of no weights and no
+-- cells left out
 pub data Version : Type 0 where
   first : Version
   second : ℕ → Version
+  third : ℕ → Version
+
+-- its number
+abbrev pub rank_of : Version → ℕ
+rank_of first = 1
+rank_of (second need) = 2
+rank_of (third need) = 3
 
 -- the level that is needed
 abbrev pub need_of : Version → ℕ
 need_of first = 1
 need_of (second need) = need
+need_of (third need) = need
 
 -- the version of its text, the box and headroom of its cave, and a section for each region
 pub record Certificate : Type 0 where
@@ -47,12 +58,20 @@ pub record AreListed (count : ℕ) (cells : List ℕ) : Type 0 where
   pub ascending : IsStrictlyIncreasing cells
   pub below : All (λ cell. cell < count) cells
 
+-- groups of cells of a box of so many, in their one form
+pub record AreGroupsIn (count : ℕ) (groups : List Group) : Type 0 where
+  pub groups_are : AreGroups groups
+  pub below : All (λ cell. cell < count) (all_cells_of groups)
+
 abbrev mutual
-  -- all its numbers are cells of a box of so many, those of a leaf ascend, and no branch has more kids than that
+  -- all its numbers are cells of a box of so many, those of a leaf and those left out ascend, and no branch has more
+  -- kids than that
   pub IsTreeIn : ℕ → Tree → Type 0
   IsTreeIn count (leaf cells) = AreListed count cells
+  IsTreeIn count (weighted groups) = AreGroupsIn count groups
   IsTreeIn count (branch cell kids) = (cell < count) × (tree_count kids ≤ count) × AreTreesIn count kids
   IsTreeIn count (bar place by kid) = (place < count) × (by < count) × IsTreeIn count kid
+  IsTreeIn count (omit cells kid) = AreListed count cells × (0 < length cells) × IsTreeIn count kid
 
   -- each of the trees is such
   pub AreTreesIn : ℕ → Forest → Type 0
@@ -60,21 +79,24 @@ abbrev mutual
   AreTreesIn count (more tree trees) = IsTreeIn count tree × AreTreesIn count trees
 
 abbrev mutual
-  -- no place is left out in the tree
-  pub HasNoBar : Tree → Type 0
-  HasNoBar (leaf cells) = Unit {0}
-  HasNoBar (branch cell kids) = HaveNoBar kids
-  HasNoBar (bar place by kid) = ⊥
+  -- the version with this number knows each node of the tree: bars from the second on, weighted leaves and omissions
+  -- from the third on
+  pub IsKnownTo : ℕ → Tree → Type 0
+  IsKnownTo rank (leaf cells) = Unit {0}
+  IsKnownTo rank (weighted groups) = 3 ≤ rank
+  IsKnownTo rank (branch cell kids) = AreKnownTo rank kids
+  IsKnownTo rank (bar place by kid) = (2 ≤ rank) × IsKnownTo rank kid
+  IsKnownTo rank (omit cells kid) = (3 ≤ rank) × IsKnownTo rank kid
 
-  -- no place is left out in any of the trees
-  pub HaveNoBar : Forest → Type 0
-  HaveNoBar none = Unit {0}
-  HaveNoBar (more tree trees) = HasNoBar tree × HaveNoBar trees
+  -- it knows those of each of the trees
+  pub AreKnownTo : ℕ → Forest → Type 0
+  AreKnownTo rank none = Unit {0}
+  AreKnownTo rank (more tree trees) = IsKnownTo rank tree × AreKnownTo rank trees
 
--- the version can speak of these sections: the first of trees without a bar, the second of a need of 1 or 8
-abbrev pub IsVersionOf : List Section → Version → Type 0
-IsVersionOf sections first = All (λ section. HasNoBar section.tree) sections
-IsVersionOf sections (second need) = (need ≡ 1) ⊎ (need ≡ 8)
+-- the version can speak of these sections: it knows their nodes, and has a need of 1 or 8
+pub record IsVersionOf (sections : List Section) (version : Version) : Type 0 where
+  pub known : All (λ section. IsKnownTo (rank_of version) section.tree) sections
+  pub needed : (need_of version ≡ 1) ⊎ (need_of version ≡ 8)
 
 -- ascending cells and ascending torches of a box of so many cells, some of each, and a tree in it
 pub record IsSectionIn (count : ℕ) (section : Section) : Type 0 where

@@ -1,18 +1,28 @@
 -- The text of a certificate, line by line. This is this project's own.
-use Rattle.std.specs.Prelude.{◌≡◌, ℕ, ◌+◌, List, [], ◌∷◌, ◌++◌, length, codes, decimal, flat_map}
-use Rattle.proof_rules.specs.Tree.{Tree, Forest, leaf, branch, bar, none, more, tree_count}
-use Rattle.proof_rules.specs.Certificate.{Section, Version, first, second, Certificate, IsInRange}
+use Rattle.std.specs.Prelude.{◌≡◌, ℕ, ◌+◌, List, [], ◌∷◌, ◌++◌, length, codes, decimal, map}
+use Rattle.std.specs.Prelude.{flat_map}
+use Rattle.proof_rules.specs.declared.groups.Group.{Group}
+use Rattle.proof_rules.specs.Tree.{Tree, Forest, leaf, weighted, branch, bar, omit, none, more, tree_count}
+use Rattle.proof_rules.specs.Certificate.{Section, Version, first, second, third, Certificate, IsInRange}
 
 -- a word, and numbers, each after a space
 abbrev pub line : List ℕ → List ℕ → List ℕ
 line word numbers = word ++ flat_map (λ n. codes " " ++ decimal n) numbers
 
+-- the line of a group: its capacity, how many cells it has, and each cell with its weight
+abbrev pub group_line : Group → List ℕ
+group_line group = line (codes "G")
+    (group.capacity ∷ length group.shares ∷ flat_map (λ share. share.cell ∷ share.weight ∷ []) group.shares)
+
 abbrev mutual
-  -- a line for each node, a node before its kids, and the kids in order
+  -- a line for each node, a node before its kids, and the kids in order; after that of a weighted leaf one for each of
+  -- its groups
   pub tree_lines : Tree → List (List ℕ)
   tree_lines (leaf cells) = line (codes "L") (length cells ∷ cells) ∷ []
+  tree_lines (weighted groups) = line (codes "W") (length groups ∷ []) ∷ map group_line groups
   tree_lines (branch cell kids) = line (codes "B") (cell ∷ tree_count kids ∷ []) ∷ forest_lines kids
   tree_lines (bar place by kid) = line (codes "E") (place ∷ by ∷ []) ∷ tree_lines kid
+  tree_lines (omit cells kid) = line (codes "D") (length cells ∷ cells) ∷ tree_lines kid
 
   -- the lines of the trees, one tree after another
   pub forest_lines : Forest → List (List ℕ)
@@ -30,6 +40,7 @@ section_lines section = line (codes "region") (length section.cells ∷ length s
 abbrev pub head_lines : Version → List ℕ → List ℕ → List (List ℕ)
 head_lines first box headroom = codes "torchproof 1" ∷ box ∷ headroom ∷ []
 head_lines (second need) box headroom = codes "torchproof 2" ∷ box ∷ headroom ∷ line (codes "need") (need ∷ []) ∷ []
+head_lines (third need) box headroom = codes "torchproof 3" ∷ box ∷ headroom ∷ line (codes "need") (need ∷ []) ∷ []
 
 -- all lines of a certificate: the first ones, how many regions there are, those of each region, and `end`
 abbrev pub lines_of : Certificate → List (List ℕ)

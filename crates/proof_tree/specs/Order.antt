@@ -1,6 +1,6 @@
 -- A list of numbers in order, and a tree with the cells of each leaf in order. These are this project's own.
 use Rattle.std.specs.Prelude.{ℕ, List, [], ◌∷◌, nat_le, if◌then◌else◌}
-use Rattle.proof_rules.specs.Tree.{Tree, Forest, leaf, branch, bar, none, more}
+use Rattle.proof_rules.specs.Tree.{Tree, Forest, leaf, weighted, branch, bar, omit, none, more}
 
 -- the number among ascending ones
 abbrev pub placed : ℕ → List ℕ → List ℕ
@@ -13,11 +13,13 @@ in_order [] = []
 in_order (x ∷ xs) = placed x (in_order xs)
 
 abbrev mutual
-  -- the same tree with ascending leaves
+  -- the same tree with ascending leaves; weighted leaves and omissions stay, whose form is one already
   pub ordered_tree : Tree → Tree
   ordered_tree (leaf cells) = leaf (in_order cells)
+  ordered_tree (weighted groups) = weighted groups
   ordered_tree (branch cell kids) = branch cell (ordered_trees kids)
   ordered_tree (bar place by kid) = bar place by (ordered_tree kid)
+  ordered_tree (omit cells kid) = omit cells (ordered_tree kid)
 
   -- the same trees with ascending leaves
   pub ordered_trees : Forest → Forest

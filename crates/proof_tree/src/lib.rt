@@ -2,6 +2,7 @@
 #![tactic(auto)]
 
 mod closed;
+mod groups;
 mod kids;
 mod name;
 mod opened;
@@ -10,6 +11,7 @@ mod piece;
 mod proof;
 
 pub use closed::{Closed, floor_of};
+pub use groups::Groups;
 pub use name::Name;
 pub use opened::Opened;
 pub use opening::{is_unlit, kid_places};

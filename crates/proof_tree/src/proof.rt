@@ -1,8 +1,9 @@
 //! A tree of cases.
 ghost use Rattle.std.specs.Prelude.{◌≡◌, IfOk};
-ghost use Rattle.proof_rules.specs.Tree.{leaf, branch, bar};
+ghost use Rattle.proof_rules.specs.Tree.{leaf, weighted, branch, bar, omit};
 ghost use Rattle.proof_tree.specs.Shape.{tree_of, forest_of};
 
+use crate::groups::Groups;
 use std::alloc::{AllocError, Global};
 use std::marker::Model;
 
@@ -20,7 +21,7 @@ impl Model for Cells {
     ghost view = { λ c. c.items.items };
 }
 
-/// The tree below a place that is left out.
+/// The tree below a place or cells that are left out.
 #[cycle(proof)]
 #[derive(Drop)]
 pub struct Below {
@@ -39,8 +40,10 @@ pub struct Kids {
 #[derive(Drop)]
 pub enum Proof {
     Leaf(Cells),
+    Weighted(Groups),
     Branch { cell: u32, kids: Kids },
     Bar { place: u32, by: u32, kid: Below },
+    Omit { cells: Cells, kid: Below },
 }
 
 impl Model for Below {

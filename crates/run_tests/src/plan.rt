@@ -214,3 +214,45 @@ fn a_million_turns_plan_the_ring_and_one_turn_plans_one_leaf(rt: HostRuntime) ->
     }
     Ok(())
 }
+
+/// A ring of 68 cells round a square, two high.
+const LONG_RING: Structure<'static> = Structure {
+    size: [20, 4, 20],
+    palette: &[STONE, AIR],
+    fills: &[
+        Fill {
+            from: [0, 0, 0],
+            to: [19, 3, 19],
+            state: Some(0),
+        },
+        Fill {
+            from: [1, 1, 1],
+            to: [18, 2, 18],
+            state: Some(1),
+        },
+        Fill {
+            from: [2, 1, 2],
+            to: [17, 2, 17],
+            state: Some(0),
+        },
+    ],
+    more: &[],
+};
+
+// A torch lights 27 of the 68 cells, and any two of three cells are lit together somewhere: no packing shows that two
+// torches are too few, but weights do.
+#[test]
+fn a_long_ring_is_proved_by_weights(rt: HostRuntime) -> Result<(), Fail> {
+    let alloc = rt.alloc();
+    let bytes = LONG_RING.bytes(alloc)?;
+    let opts = freely(&rt);
+    let planned = plan_run(&rt, alloc, &bytes, None, &opts)?;
+    assert!(rt; planned.text.starts_with(b"torches 3\ndark 68\n"));
+    assert!(rt;
+        planned
+            .proof
+            .starts_with(b"torchproof 3\nbox 20 4 20\nheadroom 2\nneed 1\n")
+    );
+    is_accepted(&rt, alloc, &bytes, None, opts.rule, &planned)?;
+    Ok(())
+}

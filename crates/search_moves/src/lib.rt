@@ -6,6 +6,7 @@
 mod barring;
 mod branching;
 mod carrying;
+mod groups;
 mod moves;
 mod pruning;
 

@@ -43,12 +43,14 @@ fn fewest_of(
 fn kids_of(proof: &Proof) -> usize {
     match proof {
         Proof::Leaf(_) => 0,
+        Proof::Weighted(_) => 0,
         Proof::Branch { cell: _, kids } => kids.trees().len(),
         Proof::Bar {
             place: _,
             by: _,
             kid,
         } => kids_of(kid.tree()),
+        Proof::Omit { cells: _, kid } => kids_of(kid.tree()),
     }
 }
 

@@ -2,3 +2,6 @@
 pub mod Bars
 pub mod Kids
 pub mod Thinning
+-- private
+pub mod Weighted
+pub mod Lists

@@ -4,8 +4,10 @@
 
 mod bars;
 mod numbering;
+mod open_lists;
 mod thinning;
 mod tree_judge;
+mod weighted_leaf;
 
 pub use bars::{Bar, take_bars, wrap};
 pub use numbering::with_numbers;

@@ -1,16 +1,20 @@
 //! Numbers of cells and places in place of their indices.
-ghost use Rattle.std.specs.Prelude.{◌≡◌, IfOk};
-ghost use Rattle.proof_rules.specs.Tree.{leaf};
+ghost use Rattle.std.specs.Prelude.{◌≡◌, IfOk, map, slice_index};
+ghost use Rattle.proof_rules.specs.Tree.{leaf, weighted};
 ghost use Rattle.proof_tree.specs.Shape.{tree_of, forest_of};
-ghost use Rattle.pack_bound.specs.Naming.{cell_numbers, numbered, all_numbered};
+ghost use Rattle.pack_bound.specs.Naming.{cell_numbers, numbered_group, numbered, all_numbered};
 
 use crate::bars::{Bar, wrap};
+use cave_base::Cell;
 use cave_regions::Region;
 use pack_bound::{number_at, numbers_of_cells};
-use proof_tree::{Cells, Kids, Proof};
+use proof_rules::{Group, Share, Shares};
+use proof_tree::{Below, Cells, Groups, Kids, Proof};
 use std::alloc::{AllocError, Global};
+use std::mem;
 
-/// The tree with numbers in place of indices. It uses the tree's own memory, but for a box each place that is left out.
+/// The tree with numbers in place of indices. It uses the tree's own memory, but for a box at each node that leaves a
+/// place or cells out.
 #[cycle(numbering)]
 pub fn with_numbers(alloc: Global, region: &Region, tree: Proof) -> Result<Proof, AllocError>
     ensures { IfOk result (λ proof. tree_of proof ≡ numbered region.now (tree_of tree)) }
@@ -20,14 +24,16 @@ pub fn with_numbers(alloc: Global, region: &Region, tree: Proof) -> Result<Proof
     loop {
         match rest {
             Proof::Leaf(cells) => {
-                let leaf = leaf_with_numbers(region, cells);
-                let whole = wrap(alloc, bars, leaf)?;
+                let whole = wrap(alloc, bars, leaf_with_numbers(region, cells))?;
+                return Ok(whole);
+            }
+            Proof::Weighted(groups) => {
+                let whole = wrap(alloc, bars, weighted_with_numbers(alloc, region, groups))?;
                 return Ok(whole);
             }
             Proof::Branch { cell, kids } => {
                 let cell = number_at(region.cells(), cell);
-                let kids = all_with_numbers(alloc, region, kids.into_trees())?;
-                let kids = Kids::of(kids);
+                let kids = Kids::of(all_with_numbers(alloc, region, kids.into_trees())?);
                 let whole = wrap(alloc, bars, Proof::Branch { cell, kids })?;
                 return Ok(whole);
             }
@@ -36,6 +42,12 @@ pub fn with_numbers(alloc: Global, region: &Region, tree: Proof) -> Result<Proof
                 let by = number_at(region.places(), by);
                 bars.push(Bar { place, by })?;
                 rest = kid.into_tree();
+            }
+            Proof::Omit { cells, kid } => {
+                let cells = Cells::of(numbers_of_cells(region, cells.into_items()));
+                let kid = Below::of(alloc, with_numbers(alloc, region, kid.into_tree())?)?;
+                let whole = wrap(alloc, bars, Proof::Omit { cells, kid })?;
+                return Ok(whole);
             }
         }
     }
@@ -63,4 +75,55 @@ fn leaf_with_numbers(region: &Region, cells: Cells) -> Proof
 {
     let numbers = numbers_of_cells(region, cells.into_items());
     Proof::Leaf(Cells::of(numbers))
+}
+
+/// The weighted leaf with numbers in place of indices.
+fn weighted_with_numbers(alloc: Global, region: &Region, groups: Groups) -> Proof
+    ensures { tree_of result ≡ weighted (map (numbered_group region.now) groups) }
+{
+    let mut groups = groups.into_items();
+    put_group_numbers(alloc, region, groups.as_mut_slice());
+    Proof::Weighted(Groups::of(groups))
+}
+
+/// Writes the group with numbers over each group.
+fn put_group_numbers(alloc: Global, region: &Region, groups: &mut [Group])
+    ensures { groups.new ≡ map (numbered_group region.now) groups.old }
+{
+    for group in groups.iter_mut() {
+        let empty = Group {
+            capacity: 0,
+            shares: Shares::of(Vec::new(alloc)),
+        };
+        let old = mem::replace(group, empty);
+        *group = group_with_numbers(region, old);
+    }
+}
+
+/// The group with numbers in place of indices.
+fn group_with_numbers(region: &Region, group: Group) -> Group
+    ensures { result ≡ numbered_group region.now group }
+{
+    let Group { capacity, shares } = group;
+    let mut items = shares.into_items();
+    put_share_numbers(region.cells(), items.as_mut_slice());
+    Group {
+        capacity,
+        shares: Shares::of(items),
+    }
+}
+
+/// Writes its cell's number over the index of each share.
+fn put_share_numbers(numbers: &[Cell], shares: &mut [Share])
+    ensures { shares.new ≡ map (λ share. record {
+      cell = slice_index numbers.now share.cell;
+      weight = share.weight;
+    }) shares.old }
+{
+    for share in shares.iter_mut() {
+        *share = Share {
+            cell: number_at(numbers, share.cell),
+            weight: share.weight,
+        };
+    }
 }

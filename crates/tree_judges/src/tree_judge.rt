@@ -6,6 +6,7 @@ ghost use Rattle.pack_bound.specs.Nodes.{IsStateOf, Closes};
 ghost use Rattle.pack_bound.specs.Judged.{AreKidPlaces};
 ghost use Rattle.tree_judges.specs.Kids.{ClosesKids};
 
+use crate::weighted_leaf::is_weighted_leaf;
 use cave_regions::Region;
 use pack_bound::{Node, is_bar, is_leaf, open_places};
 use proof_tree::Proof;
@@ -32,6 +33,10 @@ pub fn is_good(
             }
             is_leaf(alloc, region, node, cells.as_slice())
         }
+        Proof::Weighted(groups) => {
+            let good = is_weighted_leaf(alloc, region, node, groups.as_slice(), floor)?;
+            Ok(good)
+        }
         Proof::Branch { cell, kids } => {
             if *cell as usize >= region.cells().len() || !has(node.unlit(), *cell as usize) {
                 return Ok(false);
@@ -47,6 +52,7 @@ pub fn is_good(
             let good = is_good(alloc, region, node, kid.tree(), floor)?;
             Ok(good)
         }
+        Proof::Omit { .. } => Ok(false),
     }
 }
 

@@ -17,8 +17,12 @@ pub returns-in-Regions : goal.returns-in-Regions
 returns-in-Regions c = subst (λ (s : Stage). Decides c.after_regions.result (MeansAt s c.args.kind c.args.numbers.now))
     (sym c.in-Regions.is) c.after_regions.ensures
 
+pub returns-in-Group : goal.returns-in-Group
+returns-in-Group c = subst (λ (s : Stage). Decides c.after_group.result (MeansAt s c.args.kind c.args.numbers.now))
+    (sym c.in-Group.is) c.after_group.ensures
+
 pub returns-in_default : goal.returns-in_default
 returns-in_default c = subst (λ (s : Stage). Decides c.after_region.result (MeansAt s c.args.kind c.args.numbers.now))
     (sym c.in-Region.is)
-    (region_means c.in-Region.second c.in-Region.count c.in-Region.to_come c.args.numbers.now c.after_region.result
+    (region_means c.in-Region.rank c.in-Region.count c.in-Region.to_come c.args.numbers.now c.after_region.result
     c.args.kind c.in_default.not-End c.after_region.ensures)

@@ -1,9 +1,9 @@
-use Rattle.std.proofs.Common.{◌++◌, ◌∙◌, ℕ, Bool, List, length, string_bytes, ap, sym}
+use Rattle.std.proofs.Common.{◌++◌, ◌∙◌, ℕ, List, length, string_bytes, ap, sym}
 use Rattle.std.proofs.lemmas.List.{length-map}
 use Rattle.std.proofs.lemmas.Result.{err_from_is_err_and}
 use Rattle.certificate_text.specs.Heading.{heading_text}
 use Rattle.certificate_text.specs.PlanOf.{plan_of, plans_of}
-use Rattle.certificate_text.specs.Planned.{is_second, certificate_text}
+use Rattle.certificate_text.specs.Planned.{version_at, version_of, certificate_text}
 use Rattle.certificate_text.specs.Sections.{body_text}
 use Rattle.certificate_text.proofs.NodeLemmas.{err_sent, then_sent}
 use Rattle.certificate_text.proofs.WholeLemmas.{certificate_is}
@@ -12,11 +12,12 @@ use Rattle.certificate_text.proofs.certificate.put_certificate.Goals as goal
 pub returns-in_err-put_text : goal.returns-in_err-put_text
 returns-in_err-put_text g c =
     let p = err_from_is_err_and c.from_residual-in_err-put_text.result c.from_residual-in_err-put_text.ensures.1 in
-    let plans = plans_of c.args.parts.now in
+    let plans = plans_of c.args.parts.now in let need = c.args.world.now.rule.need in
     let body = body_text plans in
     let text = ap (λ (l : List ℕ). l ++ body) (c.as_str.ensures.value ∙ c.in_ok-heading.ensures
-    ∙ ap (λ (b : Bool). heading_text c.args.world.now (length c.args.parts.now) b) c.is_second-second.ensures
-    ∙ ap (λ (n : ℕ). heading_text c.args.world.now n (is_second c.args.world.now.rule.need plans))
+    ∙ ap (λ (n : ℕ). heading_text c.args.world.now (length c.args.parts.now) (version_at need n))
+    c.rank_needed-version.ensures
+    ∙ ap (λ (n : ℕ). heading_text c.args.world.now n (version_of need plans))
     (sym (length-map c.args.parts.now plan_of)))
     ∙ certificate_is c.args.world.now plans in
     err_sent c.from_residual-in_err-put_text.result p.0 (g.W.Write.contents c.args.writer.now)
@@ -25,11 +26,12 @@ returns-in_err-put_text g c =
 
 pub returns : goal.returns
 returns g c =
-    let plans = plans_of c.args.parts.now in
+    let plans = plans_of c.args.parts.now in let need = c.args.world.now.rule.need in
     let body = body_text plans in
     let text = ap (λ (l : List ℕ). l ++ body) (c.as_str.ensures.value ∙ c.in_ok-heading.ensures
-    ∙ ap (λ (b : Bool). heading_text c.args.world.now (length c.args.parts.now) b) c.is_second-second.ensures
-    ∙ ap (λ (n : ℕ). heading_text c.args.world.now n (is_second c.args.world.now.rule.need plans))
+    ∙ ap (λ (n : ℕ). heading_text c.args.world.now (length c.args.parts.now) (version_at need n))
+    c.rank_needed-version.ensures
+    ∙ ap (λ (n : ℕ). heading_text c.args.world.now n (version_of need plans))
     (sym (length-map c.args.parts.now plan_of)))
     ∙ certificate_is c.args.world.now plans in
     then_sent c.put_body.result (g.W.Write.contents c.args.writer.now) (g.W.Write.contents c.put_text.new.writer)

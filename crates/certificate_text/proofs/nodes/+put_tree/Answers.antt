@@ -1,12 +1,14 @@
 use Rattle.std.proofs.Common.{◌∙◌, ◌∷◌, [], ◌++◌, List, ℕ, length, codes, string_bytes, subst, sym, ap, arith, rules}
 use Rattle.std.proofs.lemmas.Result.{err_from_is_err_and}
-use Rattle.proof_rules.specs.Tree.{Tree, Forest, leaf, branch, bar}
+use Rattle.proof_rules.specs.declared.groups.Group.{Group}
+use Rattle.proof_rules.specs.Tree.{Tree, Forest, leaf, weighted, branch, bar, omit}
 use Rattle.proof_rules.specs.Text.{line}
 use Rattle.certificate_text.specs.Lines.{tree_text, forest_text, HasDistinctCells}
+use Rattle.proof_tree.specs.Order.{in_order}
 use Rattle.proof_tree.specs.Shape.{tree_of, forest_of, tree_size}
 use Rattle.certificate_text.specs.Writing.{IsSent, AppendsPart, Passes}
 use Rattle.proof_tree.specs.declared.proof.Proof.{Proof}
-use Rattle.certificate_text.proofs.NodeLemmas.{leaf_text, branch_text, count_trees, err_sent, then_sent, none_sent}
+use Rattle.certificate_text.proofs.NodeLemmas.{one_line, branch_text, count_trees, err_sent, then_sent, none_sent}
 use Rattle.certificate_text.proofs.NodeLemmas.{next_distinct, one_sent, failed_sent, tree_below}
 use Rattle.certificate_text.proofs.nodes.+put_tree.Goals as goal
 
@@ -14,7 +16,8 @@ pub put_tree-returns-in_ok-numbers-in-Leaf : goal.put_tree-returns-in_ok-numbers
 put_tree-returns-in_ok-numbers-in-Leaf g t c =
     let cells = c.as_slice.result.now in
     let numbers = c.deref.ensures.value ∙ c.in_ok-numbers-in-Leaf.ensures in
-    let text = ap (λ (l : List ℕ). line (codes "L") l ++ 10 ∷ []) numbers ∙ leaf_text cells
+    let text = ap (λ (l : List ℕ). line (codes "L") l ++ 10 ∷ []) numbers
+    ∙ one_line (line (codes "L") (length (in_order cells) ∷ in_order cells))
     ∙ ap (λ (l : List ℕ). tree_text (leaf l)) c.as_slice.ensures
     ∙ ap (λ (p : Proof). tree_text (tree_of p)) (sym c.in-Leaf.is) in
     subst (IsSent c.put_line.result (g.W.Write.contents c.args.writer.now) (string_bytes c.args.buffer.now)
@@ -70,6 +73,41 @@ put_tree-returns-in_ok-put_line-in-Bar g t c =
     (string_bytes c.args.buffer.now) (string_bytes c.put_line-in-Bar.new.buffer) (string_bytes c.put_tree.new.buffer)
     (line (codes "E") (c.in-Bar.place ∷ c.in-Bar.by ∷ []) ++ 10 ∷ [])
     (tree_text below) _ whole c.in_ok-put_line-in-Bar.ensures c.put_tree.ensures
+
+pub put_tree-returns-in-Weighted : goal.put_tree-returns-in-Weighted
+put_tree-returns-in-Weighted g t c =
+    let text = ap (λ (l : List Group). tree_text (weighted l)) c.as_slice-in-Weighted.ensures
+    ∙ ap (λ (p : Proof). tree_text (tree_of p)) (sym c.in-Weighted.is) in
+    subst (IsSent c.put_weighted.result (g.W.Write.contents c.args.writer.now) (string_bytes c.args.buffer.now)
+    (g.W.Write.contents c.put_weighted.new.writer) (string_bytes c.put_weighted.new.buffer)) text
+    c.put_weighted.ensures
+
+pub put_tree-returns-in_err-put_line-in-Omit : goal.put_tree-returns-in_err-put_line-in-Omit
+put_tree-returns-in_err-put_line-in-Omit g t c =
+    let p = err_from_is_err_and c.from_residual-in_err-put_line-in-Omit.result
+    c.from_residual-in_err-put_line-in-Omit.ensures.1 in
+    let numbers = c.deref-in-Omit.ensures.value ∙ c.in_ok-numbers-in-Omit.ensures
+    ∙ ap (λ (l : List ℕ). length l ∷ l) c.as_slice-in-Omit.ensures in
+    let whole = ap (λ (l : List ℕ). (line (codes "D") l ++ 10 ∷ []) ++ tree_text c.in-Omit.kid) numbers
+    ∙ ap (λ (q : Proof). tree_text (tree_of q)) (sym c.in-Omit.is) in
+    err_sent c.from_residual-in_err-put_line-in-Omit.result p.0 (g.W.Write.contents c.args.writer.now)
+    (g.W.Write.contents c.put_line-in-Omit.new.writer) (string_bytes c.args.buffer.now)
+    (string_bytes c.put_line-in-Omit.new.buffer) (line (codes "D") c.deref-in-Omit.result.now ++ 10 ∷ [])
+    (tree_text c.in-Omit.kid) _ p.1 whole c.in_err-put_line-in-Omit.ensures
+
+pub put_tree-returns-in_ok-put_line-in-Omit : goal.put_tree-returns-in_ok-put_line-in-Omit
+put_tree-returns-in_ok-put_line-in-Omit g t c =
+    let below = tree_of c.tree-in-Omit.result.now in
+    let numbers = c.deref-in-Omit.ensures.value ∙ c.in_ok-numbers-in-Omit.ensures
+    ∙ ap (λ (l : List ℕ). length l ∷ l) c.as_slice-in-Omit.ensures in
+    let whole = ap (λ (l : List ℕ). (line (codes "D") l ++ 10 ∷ []) ++ tree_text below) numbers
+    ∙ ap (λ (k : Tree). tree_text (omit c.in-Omit.cells k)) c.tree-in-Omit.ensures
+    ∙ ap (λ (q : Proof). tree_text (tree_of q)) (sym c.in-Omit.is) in
+    then_sent c.put_tree-in-Omit.result (g.W.Write.contents c.args.writer.now)
+    (g.W.Write.contents c.put_line-in-Omit.new.writer) (g.W.Write.contents c.put_tree-in-Omit.new.writer)
+    (string_bytes c.args.buffer.now) (string_bytes c.put_line-in-Omit.new.buffer)
+    (string_bytes c.put_tree-in-Omit.new.buffer) (line (codes "D") c.deref-in-Omit.result.now ++ 10 ∷ [])
+    (tree_text below) _ whole c.in_ok-put_line-in-Omit.ensures c.put_tree-in-Omit.ensures
 
 pub put_trees-loop-tree-init : goal.put_trees-loop-tree-init
 put_trees-loop-tree-init g t c = none_sent (g.W.Write.contents c.args.writer.now)

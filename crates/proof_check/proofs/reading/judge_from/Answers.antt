@@ -1,6 +1,6 @@
-use Rattle.std.proofs.Common.{◌≡◌, ◌+◌, ◌-◌, take, refl, arith}
+use Rattle.std.proofs.Common.{◌≡◌, ◌+◌, ◌-◌, take, inl, inr, refl, arith}
 use Rattle.std.proofs.lemmas.Result.{err_from_is_err_and}
-use Rattle.proof_check.proofs.ReadingLemmas.{of_more, of_verdict, read_failed, read_too_long, read_within}
+use Rattle.proof_check.proofs.ReadingLemmas.{none_kinds, of_more, of_verdict, read_failed, read_too_long, read_within}
 use Rattle.proof_check.proofs.reading.judge_from.Goals as goal
 
 pub returns-in_err-count-clause-too_long : goal.returns-in_err-count-clause-too_long
@@ -33,3 +33,11 @@ loop-preserved g c =
     of_more c.args.world.now _ _ _ c.args.limit c.loop.room (c.loop.room - c.in_ok-count.count)
     c.loop.counter c.in_ok-count.count c.read_piece.new.buffer (take c.in_ok-count.count c.read_piece.new.buffer)
     c.loop.trial c.push.new.self c.loop.invariant c.in_ok-count.ensures (omega arith) e refl c.in_ok-push.ensures
+
+pub returns-in_err-count-clause-kinds : goal.returns-in_err-count-clause-kinds
+returns-in_err-count-clause-kinds g c =
+    let p = err_from_is_err_and c.from_residual-in_err-count.result c.from_residual-in_err-count.ensures.1 in
+    rw (p.1, p.2) (elim (none_kinds _ _ c.loop.room c.in_err-count.field-0.0 c.in_err-count.ensures) [
+      | inl failed ↦ inl failed
+      | inr long ↦ inr (inl long)
+    ])

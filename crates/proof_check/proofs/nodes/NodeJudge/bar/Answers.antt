@@ -1,5 +1,5 @@
 use Rattle.std.proofs.Common.{refl, length, arith}
-use Rattle.proof_check.proofs.TestLemmas.{off_true}
+use Rattle.node_judges.proofs.TestLemmas.{off_true}
 use Rattle.proof_check.proofs.NodeLemmas.{bar_bad, bar_good}
 use Rattle.proof_check.proofs.TrackLemmas.{marked_below}
 use Rattle.proof_check.proofs.nodes.NodeJudge.bar.Goals as goal
@@ -14,4 +14,5 @@ returns-clause-bar c =
     let d = c.is_dominated.ensures.0 c.if-not-is_dominated.false in
     let low = marked_below c.args.lists.now.places c.args.place (length c.args.lists.now.places) refl d.legal in
     bar_good c.args.lists.now c.args.self.now _ c.args.line c.args.place c.args.by d refl refl refl refl refl refl
+    refl refl
     (c.in_ok-push.ensures.items (omega (arith, c.requires.wide.barred)))

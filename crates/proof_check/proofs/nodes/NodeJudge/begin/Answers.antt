@@ -12,5 +12,6 @@ returns c = record {
     floor = refl;
     weak = refl;
     bad = refl;
+    weighing = refl;
   };
 }

@@ -20,6 +20,7 @@ returns-in-Torches-clause-steps c =
 pub returns-in_default : goal.returns-in_default
 returns-in_default c = record {
   steps = other_nothing c.args.lists.now c.args.kind c.args.numbers.now c.args.line c.args.self.now
-      c.in_default.not-Dark c.in_default.not-Torches c.in_default.not-Leaf c.in_default.not-Branch c.in_default.not-Bar;
+      c.in_default.not-Dark c.in_default.not-Torches c.in_default.not-Leaf c.in_default.not-Branch c.in_default.not-Bar
+      c.in_default.not-Weighted c.in_default.not-Group c.in_default.not-Omit;
   wide = c.requires.wide;
 }

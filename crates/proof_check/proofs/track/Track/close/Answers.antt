@@ -1,6 +1,7 @@
-use Rattle.std.proofs.Common.{◌≡◌, ◌<◌, ◌+◌, List, [], length, sym, subst, ◌∙◌, arith, inl, inr}
+use Rattle.std.proofs.Common.{◌≡◌, ◌<◌, ◌+◌, List, [], length, sym, ap, subst, ◌∙◌, arith, inl, inr}
 use Rattle.std.proofs.lemmas.Bool.{true≢false, cases_lt}
 use Rattle.std.proofs.lemmas.List.{append-nil, nil_from_length}
+use Rattle.node_judges.specs.Tally.{Tally}
 use Rattle.proof_check.specs.declared.track.Frame as held
 use Rattle.proof_check.proofs.TrackLemmas.{Closing, closing_next, closing_end, closing_kid}
 use Rattle.proof_check.proofs.track.Track.close.Goals as goal
@@ -17,26 +18,32 @@ returns-then-frame-saturating_sub-clause-closes c =
       c.in-Some.frame.places.ok.0,
     ) in
     closing_kid (length c.args.self.now.chosen.counts) c.args.self.now.chosen.items c.args.self.now.barred.items
-    c.args.self.now.frames.items c.loop-frame.self.chosen.items c.loop-frame.self.barred.items
-    c.loop-frame.self.frames.items
+    c.args.self.now.omitted.items c.args.self.now.frames.items c.loop-frame.self.chosen.items
+    c.loop-frame.self.barred.items c.loop-frame.self.omitted.items c.loop-frame.self.frames.items
     c.pop.new.self.items c.in-Some.frame k.last c.pop-in-Some.new.self.items c.cut.new.self.items
-    c.next_kid.new.self.chosen.items c.next_kid.new.self.barred.items c.next_kid.new.self.frames.items
+    c.next_kid.new.self.chosen.items c.next_kid.new.self.barred.items c.next_kid.new.self.omitted.items
+    c.next_kid.new.self.frames.items
     c.loop-frame.invariant.closing c.in-Some.ensures.items more c.pop-in-Some.ensures.items c.cut.ensures.items
+    (ap (λ (t : Tally). t.items) k.still ∙ c.cut-in-Some.ensures.items)
     (λ lt. k.place (let a = c.cut.ensures.whole in let b = c.loop-frame.invariant.wide in let d = c.requires.same in
     omega arith))
     (λ lt. k.next (let a = c.pop-in-Some.ensures.whole in let b = c.loop-frame.invariant.whole in omega arith))
-    k.frames k.same k.index k.bars
+    k.frames k.same k.index k.bars (k.omits ∙ ap (λ (t : Tally). length t.items) (sym k.still))
 
 pub loop-frame-preserved : goal.loop-frame-preserved
 loop-frame-preserved c = record {
   whole = c.pop-in-Some.ensures.whole ∙ c.loop-frame.invariant.whole;
   wide = c.cut.ensures.whole ∙ c.loop-frame.invariant.wide;
+  long = c.cut-in-Some.ensures.whole ∙ c.loop-frame.invariant.long;
   closing = closing_next (length c.args.self.now.chosen.counts)
-      c.args.self.now.chosen.items c.args.self.now.barred.items c.args.self.now.frames.items
-      c.loop-frame.self.chosen.items c.loop-frame.self.barred.items c.loop-frame.self.frames.items
+      c.args.self.now.chosen.items c.args.self.now.barred.items c.args.self.now.omitted.items
+      c.args.self.now.frames.items
+      c.loop-frame.self.chosen.items c.loop-frame.self.barred.items c.loop-frame.self.omitted.items
+      c.loop-frame.self.frames.items
       c.pop.new.self.items c.in-Some.frame c.pop-in-Some.new.self.items c.cut.new.self.items
+      c.cut-in-Some.new.self.items
       c.loop-frame.invariant.closing c.in-Some.ensures.items (omega arith)
-      c.pop-in-Some.ensures.items c.cut.ensures.items;
+      c.pop-in-Some.ensures.items c.cut.ensures.items c.cut-in-Some.ensures.items;
 }
 
 pub returns-clause-closes : goal.returns-clause-closes
@@ -50,8 +57,10 @@ returns-clause-closes c =
       | inr le ↦ omega arith
     ]) in
     let here = subst (λ (l : List held.Frame). Closing (length c.args.self.now.chosen.counts)
-    c.args.self.now.chosen.items c.args.self.now.barred.items c.args.self.now.frames.items
-    c.loop-frame.self.chosen.items c.loop-frame.self.barred.items l) same c.loop-frame.invariant.closing in
+    c.args.self.now.chosen.items c.args.self.now.barred.items c.args.self.now.omitted.items
+    c.args.self.now.frames.items c.loop-frame.self.chosen.items c.loop-frame.self.barred.items
+    c.loop-frame.self.omitted.items l) same c.loop-frame.invariant.closing in
     closing_end (length c.args.self.now.chosen.counts) c.args.self.now.chosen.items c.args.self.now.barred.items
-    c.args.self.now.frames.items c.loop-frame.self.chosen.items c.loop-frame.self.barred.items c.pop.new.self.items
-    c.cut-2.new.self.items here (sym same ∙ none) c.cut-2.ensures.items
+    c.args.self.now.omitted.items c.args.self.now.frames.items c.loop-frame.self.chosen.items
+    c.loop-frame.self.barred.items c.loop-frame.self.omitted.items c.pop.new.self.items
+    c.cut-2.new.self.items c.cut-3.new.self.items here (sym same ∙ none) c.cut-2.ensures.items c.cut-3.ensures.items

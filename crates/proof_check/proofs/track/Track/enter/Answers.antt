@@ -9,9 +9,10 @@ returns-clause-enters c =
     let first : c.index.result.now ≡ slice_index c.args.places.items 0 = c.index.ensures
     ∙ get_or_default_zero c.args.places.items 0 c.index.result.now some in
     entered (length c.args.self.now.chosen.counts)
-    c.args.places.items c.args.self.now.chosen.items c.args.self.now.barred.items c.args.self.now.frames.items
-    (record { places = c.args.places; index = 0; bars = c.len.result })
+    c.args.places.items c.args.self.now.chosen.items c.args.self.now.barred.items c.args.self.now.omitted.items
+    c.args.self.now.frames.items
+    (record { places = c.args.places; index = 0; bars = c.len.result; omits = c.len-2.result })
     c.push.new.self.items c.push-2.new.self.items some
     (λ lt. c.in_ok-push.ensures.items (omega (arith, first))
     ∙ ap (λ (p : ℕ). c.args.self.now.chosen.items ++ p ∷ []) first) c.in_ok-push-2.ensures.items refl refl
-    c.len.ensures
+    c.len.ensures c.len-2.ensures

@@ -16,9 +16,17 @@ returns-clause-kid c =
           ∙ ap (λ (p : ℕ). c.args.self.now.barred.items ++ p ∷ []) place;
       next = λ lt. c.in_ok-push-2.ensures.items (omega (arith, next))
           ∙ ap (λ (p : ℕ). c.args.self.now.chosen.items ++ p ∷ []) next;
-      last = record { places = c.args.frame.places; index = c.args.frame.index + 1; bars = c.len.result };
+      last = record {
+        places = c.args.frame.places;
+        index = c.args.frame.index + 1;
+        bars = c.len.result;
+        omits =
+            c.len-2.result;
+      };
       frames = c.in_ok-push-3.ensures.items;
       same = refl;
       index = refl;
       bars = c.len.ensures;
+      omits = c.len-2.ensures;
+      still = refl;
     }

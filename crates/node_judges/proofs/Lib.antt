@@ -1,0 +1,4 @@
+pub mod TallyLemmas
+pub mod TestLemmas
+pub mod LeafLemmas
+pub mod ClaimedLemmas

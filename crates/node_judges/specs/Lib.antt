@@ -1,0 +1,4 @@
+-- public clauses cite
+pub mod Tally
+pub mod Tests
+pub mod Weighed

@@ -1,0 +1,159 @@
+ghost use Rattle.std.specs.Prelude.{◌≡◌, ℕ, ◌⊎◌, ◌++◌, ◌↔◌, ◌<◌, length, All, Contains, IsTrue, IfOk, OnOk, MatchBool};
+ghost use Rattle.std.specs.List.Sorted.{IsStrictlyIncreasing};
+ghost use Rattle.cave_model.specs.Plan.{AreDistinct};
+ghost use Rattle.proof_rules.specs.Omitted.{left_without};
+ghost use Rattle.node_judges.specs.Tests as tests;
+ghost use Rattle.lit_lists.specs.Lists.{row_at};
+
+use crate::tally::Tally;
+use cave_base::Cell;
+use lit_lists::Lists;
+use std::alloc::{AllocError, Global};
+
+/// Whether one of the places is in the tally.
+fn meet(places: &[Cell], tally: &Tally) -> bool
+    ensures { IsTrue result ↔ tests.Meet places.now tally.now.items }
+{
+    for place in places {
+        if tally.has(*place) {
+            return true;
+        }
+    }
+    false
+}
+
+/// Whether one of the places that isn't barred is in the tally.
+pub fn meet_open(places: &[Cell], barred: &Tally, tally: &Tally) -> bool
+    ensures { IsTrue result ↔ tests.MeetOpen places.now barred.now.items tally.now.items }
+{
+    for place in places {
+        if tally.has(*place) && !barred.has(*place) {
+            return true;
+        }
+    }
+    false
+}
+
+/// Puts the places into the tally.
+pub fn mark(places: &[Cell], tally: &mut Tally) -> Result<(), AllocError>
+    ensures marked { OnOk result (((place : ℕ) → Contains places.now place → place < length tally.old.counts)
+        → tally.new.items ≡ tally.old.items ++ places.now) }
+    ensures whole { length tally.new.counts ≡ length tally.old.counts }
+{
+    for place in places {
+        tally.push(*place)?;
+    }
+    Ok(())
+}
+
+/// Whether the cell is of what is left of the region.
+fn is_left(region: &Tally, omitted: &Tally, cell: Cell) -> bool
+    ensures left { IsTrue result ↔ Contains (left_without omitted.now.items region.now.items) cell }
+    ensures inside { IsTrue result → cell < length region.now.counts }
+{
+    if omitted.has(cell) {
+        return false;
+    }
+    region.has(cell)
+}
+
+/// Whether all cells are of what is left of the region.
+pub fn are_left(region: &Tally, omitted: &Tally, cells: &[Cell]) -> bool
+    ensures left { IsTrue result ↔ All (Contains (left_without omitted.now.items region.now.items)) cells.now }
+    ensures inside { IsTrue result → All (λ cell. cell < length region.now.counts) cells.now }
+{
+    for cell in cells {
+        if !is_left(region, omitted, *cell) {
+            return false;
+        }
+    }
+    true
+}
+
+/// Whether the cell is of what is left of the region, and no chosen place lights it.
+pub fn is_free(lists: &Lists, region: &Tally, omitted: &Tally, chosen: &Tally, cell: Cell) -> bool
+    ensures free { IsTrue result
+        ↔ tests.IsFree lists.now (left_without omitted.now.items region.now.items) chosen.now.items cell }
+    ensures inside { IsTrue result → cell < length region.now.counts }
+{
+    if !is_left(region, omitted, cell) {
+        return false;
+    }
+    !meet(lists.lit_by(cell), chosen)
+}
+
+/// The places that aren't barred.
+pub fn left_of(alloc: Global, places: &[Cell], barred: &Tally) -> Result<Vec<Cell>, AllocError>
+    requires ascending { IsStrictlyIncreasing places.now }
+    ensures { IfOk result (λ v. tests.AreLeft places.now barred.now.items v.items) }
+{
+    let mut left = Vec::new(alloc);
+    for place in places {
+        if !barred.has(*place) {
+            left.push(*place)?;
+        }
+    }
+    Ok(left)
+}
+
+/// Whether each of the cells that is of what is left of the region is lit by a chosen place or by this one.
+fn are_served(
+    lists: &Lists,
+    region: &Tally,
+    omitted: &Tally,
+    chosen: &Tally,
+    by: Cell,
+    cells: &[Cell],
+) -> bool
+    ensures { IsTrue result ↔ tests.AreServed lists.now (left_without omitted.now.items region.now.items)
+        chosen.now.items by cells.now }
+{
+    for cell in cells {
+        if !is_served(lists, region, omitted, chosen, by, *cell) {
+            return false;
+        }
+    }
+    true
+}
+
+/// Whether the cell isn't of what is left of the region, or is lit by a chosen place or by this one.
+fn is_served(
+    lists: &Lists,
+    region: &Tally,
+    omitted: &Tally,
+    chosen: &Tally,
+    by: Cell,
+    cell: Cell,
+) -> bool
+    ensures { IsTrue result ↔ tests.IsServed lists.now (left_without omitted.now.items region.now.items)
+        chosen.now.items by cell }
+{
+    if !is_left(region, omitted, cell) {
+        return true;
+    }
+    let places = lists.lit_by(cell);
+    meet(places, chosen) || places.contains(&by)
+}
+
+/// Whether the place may be left out for the other.
+pub fn is_dominated(
+    lists: &Lists,
+    region: &Tally,
+    omitted: &Tally,
+    chosen: &Tally,
+    barred: &Tally,
+    place: Cell,
+    by: Cell,
+) -> bool
+    ensures { IsTrue result
+        ↔ tests.IsDominatedIn lists.now (left_without omitted.now.items region.now.items) chosen.now.items
+        barred.now.items place by }
+{
+    if !lists.is_place(place) || !lists.is_place(by) || place == by {
+        return false;
+    }
+    if barred.has(place) || barred.has(by) || chosen.has(place) {
+        return false;
+    }
+    are_served(lists, region, omitted, chosen, by, lists.lights(place))
+}

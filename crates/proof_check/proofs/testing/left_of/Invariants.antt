@@ -1,6 +1,0 @@
-use Rattle.std.proofs.Common.{take}
-use Rattle.proof_check.specs.Tests.{AreLeft}
-use Rattle.proof_check.proofs.testing.left_of.Given as goal
-
-abbrev pub invariant-loop-place : goal.invariant-loop-place
-invariant-loop-place l = AreLeft (take l.place-index l.places) l.barred.items l.left.items

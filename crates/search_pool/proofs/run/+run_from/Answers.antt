@@ -1,0 +1,51 @@
+use denote.RattleType.{RattleType}
+use denote.Param.Send.{IsSend, sendable}
+use Rattle.std.proofs.Crossing.{crosses}
+use Rattle.beacon.proofs.seat.Seat.TheSendSync as seat
+use Rattle.cave_regions.proofs.cover.Cover.TheSendSync as cover
+use Rattle.proof_tree.proofs.groups.Groups.TheSendSync as groups
+use Rattle.proof_tree.proofs.opened.Opened.TheSendSync as opened
+use Rattle.proof_tree.proofs.piece.Piece.TheSendSync as piece
+use Rattle.proof_tree.proofs.proof.Below.TheLaws.TheKnot as ring
+use Rattle.proof_tree.proofs.proof.Cells.TheSendSync as cells
+use Rattle.proof_tree.specs.contracts.closed.Closed as closed
+use Rattle.worker_results.specs.declared.naming.Naming.{Ghosts}
+use Rattle.worker_results.proofs.accesses.Accesses.TheSendSync as accesses
+use Rattle.worker_results.proofs.own.Own.TheSendSync as own
+use Rattle.worker_results.specs.contracts.done.Done as done
+use Rattle.worker_results.specs.contracts.share.Share as share
+use Rattle.search_pool.specs.contracts.ended.Ended as ended
+use Rattle.search_pool.proofs.run.+run_from.Goals as goal
+
+-- what a worker hands over may go to another thread; part by part, since it nests deeper than is searched at once
+closed_send : IsSend closed.the_row
+closed_send = search (
+  sendable,
+  crosses,
+  ring.send-Proof,
+  ring.send-Kids,
+  ring.send-Below,
+  cells.the_send,
+  groups.the_send,
+  piece.the_send,
+) depth 40 fits 100000
+
+share_send : (B : RattleType) (names : Ghosts B.Denot) → IsSend (share.the_row B names)
+share_send B names = search (
+  sendable,
+  crosses,
+  closed_send,
+  piece.the_send,
+  opened.the_send,
+  accesses.the_send,
+  own.the_send,
+) depth 40 fits 100000
+
+done_send : (B : RattleType) (names : Ghosts B.Denot) → IsSend (done.the_row B names)
+done_send B names = search (sendable, crosses, share_send, cover.the_send, seat.the_send) depth 40 fits 100000
+
+ended_send : (B : RattleType) (names : Ghosts B.Denot) → IsSend (ended.the_row B names)
+ended_send B names = search (sendable, crosses, done_send) depth 40
+
+pub spawn_with-requires-send-T : goal.spawn_with-requires-send-T
+spawn_with-requires-send-T g t c κs within = search (sendable, crosses, ended_send) depth 40

@@ -1,0 +1,6 @@
+-- public clauses cite
+pub mod Claims
+pub mod Held
+pub mod Rows
+-- private
+pub mod Rooms

@@ -1,0 +1,94 @@
+//! Numbers in fixed point, and lists of them. Sums wrap: nothing rests on them.
+
+/// One: so many bits stand behind the point.
+pub(crate) const BITS: u32 = 20;
+
+pub(crate) const ONE: i64 = 1 << 20;
+
+/// The number with this index, or 0 where there is none.
+pub(crate) fn at(numbers: &[i64], index: usize) -> i64 {
+    numbers.get(index).copied().unwrap_or(0)
+}
+
+/// The amount times the part with this index.
+pub(crate) fn part_of(amount: i64, parts: &[i64], index: usize) -> i64 {
+    amount.wrapping_mul(at(parts, index)) >> BITS
+}
+
+/// One number by another, neither of them negative; 0 where the other is 0.
+pub(crate) fn ratio(amount: i64, by: i64) -> i64 {
+    let amount = amount.max(0).unsigned_abs();
+    let by = by.max(0).unsigned_abs();
+    if by == 0 {
+        return 0;
+    }
+    let found = (amount << BITS) / by;
+    signed(found)
+}
+
+/// The number, or the greatest that there is.
+fn signed(number: u64) -> i64 {
+    match i64::try_from(number) {
+        Ok(number) => number,
+        Err(_) => i64::MAX,
+    }
+}
+
+/// The sum of the numbers at these indices.
+pub(crate) fn sum_at(numbers: &[i64], indices: &[u32]) -> i64 {
+    let mut sum: i64 = 0;
+    for index in indices {
+        sum = sum.wrapping_add(at(numbers, *index as usize));
+    }
+    sum
+}
+
+/// The greatest of the numbers at these indices.
+pub(crate) fn most_at(numbers: &[i64], indices: &[u32]) -> i64 {
+    let mut most: i64 = 0;
+    for index in indices {
+        most = most.max(at(numbers, *index as usize));
+    }
+    most
+}
+
+/// Adds an amount to the numbers at these indices.
+pub(crate) fn add_at(numbers: &mut [i64], indices: &[u32], amount: i64) {
+    for index in indices {
+        let index = *index as usize;
+        if index < numbers.len() {
+            numbers[index] = numbers[index].wrapping_add(amount);
+        }
+    }
+}
+
+/// The sum of all.
+pub(crate) fn sum(numbers: &[i64]) -> i64 {
+    let mut sum: i64 = 0;
+    for number in numbers {
+        sum = sum.wrapping_add(*number);
+    }
+    sum
+}
+
+/// Adds the others, each to the number in its place.
+pub(crate) fn add_all(numbers: &mut [i64], others: &[i64]) {
+    for index in 0..numbers.len() {
+        numbers[index] = numbers[index].wrapping_add(at(others, index));
+    }
+}
+
+/// Divides all, none of which is negative.
+pub(crate) fn divide_all(numbers: &mut [i64], by: u32) {
+    let by = u64::from(by.max(1));
+    for number in numbers.iter_mut() {
+        let amount = *number;
+        *number = signed(amount.max(0).unsigned_abs() / by);
+    }
+}
+
+pub(crate) fn clear(numbers: &mut [i64]) {
+    for number in numbers.iter_mut() {
+        *number = 0;
+    }
+}
