@@ -5,9 +5,12 @@
 
 mod branching;
 mod fixed_point;
+mod grouping;
+mod kernel;
 mod leaf;
 mod parts;
 mod relaxation;
 mod rounding;
+mod solving;
 
 pub use leaf::WeightedLeaves;
