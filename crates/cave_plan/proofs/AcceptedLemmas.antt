@@ -2,7 +2,7 @@
 use Rattle.std.proofs.Common.{◌≡◌, ℕ, zero, suc, ◌<◌, ◌≤◌, Bool, true, false, ◌||◌, ◌&&◌, nat_eq, nat_le, IsTrue, List}
 use Rattle.std.proofs.Common.{[], ◌∷◌, ◌++◌, length, get_or, All, Contains, map, refl, sym, ap, subst, ◌∙◌, arith}
 use Rattle.std.proofs.Common.{◌⊎◌, inl, inr, length-append}
-use Rattle.std.specs.Prelude.{if◌then◌else◌}
+use Rattle.std.specs.Prelude.{if◌then◌else◌, slice_index}
 use Rattle.std.proofs.lemmas.Bool.{cases_lt, true≢false}
 use Rattle.std.proofs.lemmas.Bool.Decides.{nat_tests}
 use Rattle.std.proofs.lemmas.List.{get_or_past, length-map}
@@ -16,12 +16,14 @@ use Rattle.cave_model.specs.Coverage.{of_cave, IsLitBy, IsPlaceOf}
 use Rattle.cave_model.specs.Rule.{is_need}
 use Rattle.cave_model.specs.Spawn.{IsDark}
 use Rattle.cave_model.specs.Torches.{IsPlace}
-use Rattle.cave_model.specs.Plan.{AreDistinct}
+use Rattle.cave_model.specs.Plan.{AreDistinct, hung}
 use Rattle.cave_model.specs.Listing.{ListsAll}
 use Rattle.cave_model.specs.Regions.{all_cells, AreRegions}
 use Rattle.proof_check.proofs.FewestLemmas.{length-cells}
 use Rattle.cave_model.proofs.TorchLemmas.{spawnable_inside}
+use Rattle.cover_rows.proofs.CoverLemmas.{cells_hung}
 use Rattle.set_cover.specs.Instance.{of_instance}
+use Rattle.cave_regions.specs.Splitting.{least_cell}
 use Rattle.proof_rules.specs.Tree.{Tree, Forest, leaf, weighted, branch, bar, omit, none, more}
 use Rattle.proof_rules.specs.Good.{Good}
 use Rattle.proof_rules.specs.Certificate.{Section, Version, first, second, third, need_of, IsKnownTo, AreKnownTo}
@@ -46,7 +48,12 @@ use Rattle.cave_plan.proofs.PartLemmas.{AreTorches, torches_are, are_apart, cell
 
 -- the same region with its torches in order
 abbrev pub part_of : Plan → Bounded
-part_of plan = record { region = plan.region; torches = in_order plan.torches; floor = length plan.torches }
+part_of plan = record {
+  region = plan.region;
+  torches = in_order plan.torches;
+  floor = length plan.torches;
+  spent = false;
+}
 
 -- the best plan of a region bounds it from both sides
 pub best_bounded : (cave : Cave) (plan : Plan) → IsBestOf cave plan → IsBoundedIn cave (part_of plan)
@@ -75,6 +82,12 @@ section_cells : (plans : List Plan)
     → map (λ (section : Section). section.cells) (map section_of plans) ≡ map (λ (plan : Plan). plan.region.cells) plans
 section_cells [] = refl
 section_cells (p ∷ ps) = ap (λ (l : List (List ℕ)). p.region.cells ∷ l) (section_cells ps)
+
+-- and the least cells of their regions
+pub section_leasts : (plans : List Plan) → map (λ (section : Section). slice_index section.cells 0)
+    (map section_of plans) ≡ map (λ (plan : Plan). least_cell plan.region) plans
+section_leasts [] = refl
+section_leasts (p ∷ ps) = ap (λ (l : List ℕ). least_cell p.region ∷ l) (section_leasts ps)
 
 -- the sections of plans have the torches of the parts
 pub section_torches : (plans : List Plan) → all_torches (map part_of plans) ≡ torches_of (map section_of plans)
@@ -337,9 +350,13 @@ module _ (cave : Cave) (plans : List Plan) (world : IsWorld cave) (best : AreBes
       let within = plan_within cave (map part_of plans) cells world.sound bounded in_parts in
       let number = same_number cave (map part_of plans) cells bounded in_parts in
       record {
-        hung = within.hung;
+        hung = (hung cave cells, cells_hung cave cells, within.safe);
         fewest = record {
-          enough = (within.hung.0, within.hung.2, sym (length-cells within.hung.0) ∙ ap length within.hung.1);
+          enough = (
+            hung cave cells,
+            within.safe,
+            sym (length-cells (hung cave cells)) ∙ ap length (cells_hung cave cells),
+          );
           least = λ others safe. (let le = within.floored others safe in omega (arith, le, floors_are, number));
         };
       }

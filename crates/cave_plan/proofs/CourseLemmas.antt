@@ -1,10 +1,11 @@
 -- Regions planned one after another.
-use Rattle.std.proofs.Common.{◌≡◌, ℕ, ◌+◌, ◌≤◌, Bool, true, false, List, [], ◌∷◌, ◌++◌, length, map, All, refl, sym}
-use Rattle.std.proofs.Common.{ap, subst, ◌∙◌, arith, Option, append_assoc, length-append}
-use Rattle.std.specs.Prelude.{flat_map, IsSome}
+use Rattle.std.proofs.Common.{◌≡◌, ℕ, ◌+◌, ◌≤◌, Bool, true, false, List, [], ◌∷◌, ◌++◌, length, map, All, Contains}
+use Rattle.std.proofs.Common.{refl, sym, ap, subst, ◌∙◌, arith, Option, append_assoc, length-append}
+use Rattle.std.specs.Prelude.{flat_map, IsSome, if◌then◌else◌}
 use Rattle.std.proofs.lemmas.Bool.{true≢false}
 use Rattle.std.proofs.lemmas.List.{map-append, append-nil}
-use Rattle.std.proofs.lemmas.List.Elements.{All-append, All-cons, All-nil, All-head, All-tail}
+use Rattle.std.proofs.lemmas.List.Elements.{All-append, All-cons, All-nil, All-head, All-tail, Contains-append_left}
+use Rattle.std.proofs.lemmas.List.Elements.{Contains-push}
 use Rattle.std.proofs.lemmas.Grind.{flat_map-append}
 use Rattle.set_cover.specs.Instance.{Instance, of_instance}
 use Rattle.cave_model.specs.Coverage.{IsPlaceOf}
@@ -15,8 +16,8 @@ use Rattle.proof_rules.proofs.BoundLemmas.{bounds, piece_serves}
 use Rattle.cave_regions.specs.Cover.{Covering, IsCover, IsCoverOfRegion}
 use Rattle.certificate_text.specs.Planned.{Plan}
 use Rattle.search_core.specs.Planned.{IsBest, IsStopped}
-use Rattle.cave_plan.specs.Bounded.{Bounded, all_torches, total_floor}
-use Rattle.cave_plan.specs.Course.{Course, course, IsBounded, IsProved, AreProvedPlans, IsCourse, GoesOn}
+use Rattle.cave_plan.specs.Bounded.{Bounded, all_torches, finished, total_floor}
+use Rattle.cave_plan.specs.Course.{Course, course, IsBounded, IsProved, AreFinished, AreProvedPlans, IsCourse, GoesOn}
 
 -- what holds of a value holds of all of a list of it alone
 one : {X : Type 0} (P : X → Type 0) (x : X) → P x → All P (x ∷ [])
@@ -60,17 +61,69 @@ total_within (p ∷ ps) all =
     (All-tail IsBounded p ps all) in
     omega (arith, first, rest, length-append p.torches (all_torches ps))
 
+-- ---- finished parts
+
+-- a choice in front of both parts of a list is one in front of the whole
+choice-append : (b : Bool) (part : Bounded) (these those : List Bounded)
+    → (if b then these ++ those else part ∷ (these ++ those)) ≡ (if b then these else part ∷ these) ++ those
+choice-append true part these those = refl
+choice-append false part these those = refl
+
+-- the finished parts of two lists are theirs one after the other
+finished-append : (these those : List Bounded) → finished (these ++ those) ≡ finished these ++ finished those
+finished-append [] those = refl
+finished-append (p ∷ ps) those =
+    ap (λ (l : List Bounded). if p.spent then l else p ∷ l) (finished-append ps those)
+    ∙ choice-append p.spent p (finished ps) (finished those)
+
+-- where both have the same of two lists of plans, they have it of both together
+both_have : {X : Type 0} (f : Bounded → X) (g : Plan → X) (parts more : List Bounded) (plans others : List Plan)
+    → map f (finished parts) ≡ map g plans → map f (finished more) ≡ map g others
+    → map f (finished (parts ++ more)) ≡ map g (plans ++ others)
+both_have f g parts more plans others these those =
+    ap (map f) (finished-append parts more) ∙ map-append f (finished parts) (finished more)
+    ∙ ap (λ l. l ++ map f (finished more)) these ∙ ap (λ l. map g plans ++ l) those
+    ∙ sym (map-append g plans others)
+
+-- more parts, with plans of those of them that are finished
+finished_more : (parts more : List Bounded) (plans others : List Plan) → AreFinished parts plans
+    → AreFinished more others → AreFinished (parts ++ more) (plans ++ others)
+finished_more parts more plans others these those = record {
+  regions = both_have (λ (part : Bounded). part.region) (λ (plan : Plan). plan.region) parts more plans others
+      these.regions those.regions;
+  torches = both_have (λ (part : Bounded). part.torches) (λ (plan : Plan). plan.torches) parts more plans others
+      these.torches those.torches;
+}
+
+-- a spent part is one among more
+abbrev HasSpent : List Bounded → Type 0
+HasSpent parts = Contains (map (λ part. part.spent) parts) true
+
+spent_before : (parts more : List Bounded) → HasSpent parts → HasSpent (parts ++ more)
+spent_before parts more has = subst (λ (l : List Bool). Contains l true)
+    (sym (map-append (λ (part : Bounded). part.spent) parts more))
+    (Contains-append_left (map (λ (part : Bounded). part.spent) parts) (map (λ (part : Bounded). part.spent) more)
+    true has)
+
+spent_last : (parts : List Bounded) (part : Bounded) → part.spent ≡ true → HasSpent (parts ++ part ∷ [])
+spent_last parts part is = subst (λ (l : List Bool). Contains l true)
+    (sym (map-append (λ (p : Bounded). p.spent) parts (part ∷ [])))
+    (subst (λ (b : Bool). Contains (map (λ (p : Bounded). p.spent) parts ++ part.spent ∷ []) b) is
+    (Contains-push (map (λ (p : Bounded). p.spent) parts) part.spent))
+
 -- ---- one region more
 
 -- a part more, where a plan is added with it or the turns were spent
 pub part_more : (regions : List Instance) (turns : Option ℕ) (old : Course) (part : Bounded) (floor : ℕ)
-    (stopped : Bool) (plans : List Plan)
-    → IsCourse regions turns old → IsBounded part
+    (stopped : Bool) (more : List Plan)
+    → (c : IsCourse regions turns old) → IsBounded part
     → (old.floor + part.floor ≤ length (old.torches ++ part.torches) → floor ≡ old.floor + part.floor)
-    → (stopped ≡ false → AreProvedPlans (regions ++ part.region ∷ []) (old.torches ++ part.torches) plans)
+    → (stopped ≡ false → AreProvedPlans (regions ++ part.region ∷ []) (old.torches ++ part.torches) (old.plans ++ more))
     → (stopped ≡ true → IsSome turns)
-    → IsCourse (regions ++ part.region ∷ []) turns (course (old.torches ++ part.torches) floor stopped plans)
-part_more regions turns old part floor stopped plans c is sum proved limited =
+    → AreFinished (part ∷ []) more → (stopped ≡ true → HasSpent (c.parts ++ part ∷ []))
+    → IsCourse (regions ++ part.region ∷ []) turns
+    (course (old.torches ++ part.torches) floor stopped (old.plans ++ more))
+part_more regions turns old part floor stopped more c is sum proved limited finished_is spent =
     let parts = c.parts ++ part ∷ [] in
     let all : All IsBounded parts = All-append IsBounded c.parts (part ∷ []) c.each (one IsBounded part is) in
     let torches : all_torches parts ≡ old.torches ++ part.torches =
@@ -91,16 +144,25 @@ part_more regions turns old part floor stopped plans c is sum proved limited =
       total = total ∙ sym (sum within);
       proved = proved;
       limited = limited;
+      finished_are = finished_more c.parts (part ∷ []) old.plans more c.finished_are finished_is;
+      spent = spent;
     }
 
 -- the number that was added up
 abbrev pub AddsUp : List ℕ → ℕ → ℕ → ℕ → Type 0
 AddsUp torches a b sum = a + b ≤ length torches → sum ≡ a + b
 
+-- a region that was planned to the end
+abbrev best_part : Instance → Covering → Bounded
+best_part region cover =
+    record { region = region; torches = cover.places; floor = length cover.places; spent = false }
+
 -- a best cover's size is a floor
 pub best_bounded : (region : Instance) (cover : Covering) (tree : Tree) → IsBest region cover tree → IsCover cover
-    → IsBounded (record { region = region; torches = cover.places; floor = length cover.places })
+    → IsBounded (best_part region cover)
 best_bounded region cover tree best kept = record {
+  whole = λ e. refl;
+  some = λ e. absurd (true≢false (sym e));
   cover = subst (λ (r : Instance). IsCoverOfRegion r cover.places) best.of_it kept;
   none_below = λ places is. bounds (of_instance region) region.cells [] [] tree (length cover.places) places
       distinct_nil best.proved
@@ -127,13 +189,15 @@ pub best_more : (turns : Option ℕ) (region : Instance) (cover : Covering) (tre
     → GoesOn turns region old (course (old.torches ++ cover.places) floor old.stopped
     (old.plans ++ record { region = region; torches = cover.places; tree = tree } ∷ []))
 best_more turns region cover tree old floor best kept sum =
-    let part : Bounded = record { region = region; torches = cover.places; floor = length cover.places } in
+    let part : Bounded = best_part region cover in
     let plan : Plan = record { region = region; torches = cover.places; tree = tree } in
     let bounded : IsBounded part = best_bounded region cover tree best kept in
     record {
-      each = λ regions c. part_more regions turns old part floor old.stopped (old.plans ++ plan ∷ []) c bounded sum
+      each = λ regions c. part_more regions turns old part floor old.stopped (plan ∷ []) c bounded sum
           (λ e. proved_more regions old.torches old.plans plan (c.proved e)
-          (record { cover = bounded.cover; good = best.proved })) c.limited;
+          (record { cover = bounded.cover; good = best.proved })) c.limited
+          (record { regions = refl; torches = refl })
+          (λ e. spent_before c.parts (part ∷ []) (c.spent e));
     }
 
 -- one more region, whose turns were spent
@@ -142,11 +206,19 @@ pub stopped_more : (turns : Option ℕ) (cover : Covering) (least : ℕ) (old : 
     → AddsUp (old.torches ++ cover.places) old.floor least floor
     → GoesOn turns cover.region old (course (old.torches ++ cover.places) floor true old.plans)
 stopped_more turns cover least old floor stops kept sum =
-    let part : Bounded = record { region = cover.region; torches = cover.places; floor = least } in
+    let part : Bounded = record { region = cover.region; torches = cover.places; floor = least; spent = true } in
     record {
-      each = λ regions c. part_more regions turns old part floor true old.plans c
-          (record { cover = kept; none_below = stops.none_below }) sum
-          (λ e. absurd (true≢false e)) (λ e. stops.limited);
+      each = λ regions c. subst (λ (l : List Plan). IsCourse (regions ++ cover.region ∷ []) turns
+          (course (old.torches ++ cover.places) floor true l)) (append-nil old.plans)
+          (part_more regions turns old part floor true [] c
+          (record {
+            cover = kept;
+            none_below = stops.none_below;
+            whole = λ e. absurd (true≢false e);
+            some = λ e. stops.some;
+          }) sum
+          (λ e. absurd (true≢false e)) (λ e. stops.limited)
+          (record { regions = refl; torches = refl }) (λ e. spent_last c.parts part refl));
     }
 
 -- before the first region nothing is planned
@@ -164,6 +236,11 @@ none_planned turns c t f s p = record {
     whole = ap (flat_map (λ (plan : Plan). plan.torches)) p ∙ sym t;
   };
   limited = λ e. absurd (true≢false (sym e ∙ s));
+  finished_are = record {
+    regions = ap (map (λ (plan : Plan). plan.region)) (sym p);
+    torches = ap (map (λ (plan : Plan). plan.torches)) (sym p);
+  };
+  spent = λ e. absurd (true≢false (sym e ∙ s));
 }
 
 -- ---- the same of what the code has

@@ -1,6 +1,7 @@
 pub mod PartLemmas
 pub mod OrderedLemmas
 pub mod AcceptedLemmas
+pub mod VersionLemmas
 mod NumberLemmas
 mod GroupTextLemmas
 mod TreeLemmas
@@ -9,3 +10,4 @@ pub mod UpToLemmas
 pub mod CourseLemmas
 pub mod OutlineLemmas
 pub mod FaultLemmas
+pub mod RestLemmas

@@ -1,7 +1,8 @@
 -- The plan of a cave, from those of its regions.
-use Rattle.std.proofs.Common.{◌≡◌, ℕ, ◌<◌, Bool, true, false, List, [], ◌∷◌, map, All, Contains}
+use Rattle.std.proofs.Common.{◌≡◌, ℕ, ◌<◌, ◌≤◌, Bool, true, false, List, [], ◌∷◌, length, map, All, Contains, arith}
 use Rattle.std.proofs.Common.{refl, sym, ap, subst, Option, Some, None, inl, inr}
 use Rattle.std.specs.Prelude.{flat_map}
+use Rattle.std.specs.List.Sorted.{IsStrictlyIncreasing}
 use Rattle.std.proofs.lemmas.List.Elements.{All-head, All-tail, All-cons, All-nil, Contains-append_cases}
 use Rattle.std.proofs.lemmas.List.Elements.{Contains-append_left, Contains-append_right}
 use Rattle.cave_base.specs.Box.{cell_count}
@@ -14,14 +15,16 @@ use Rattle.cave_model.specs.Listing.{ListsAll}
 use Rattle.cave_model.specs.Regions.{AreRegions}
 use Rattle.set_cover.specs.Instance.{Instance, of_instance}
 use Rattle.cave_regions.specs.Region.{IsRegion}
-use Rattle.cave_regions.specs.Splitting.{cells_of_each}
+use Rattle.cave_regions.specs.Splitting.{cells_of_each, least_cell}
 use Rattle.proof_rules.specs.Certificate.{torches_of}
-use Rattle.proof_rules.proofs.ListLemmas.{all_members}
+use Rattle.proof_rules.proofs.ListLemmas.{all_members, here}
+use Rattle.proof_rules.proofs.OmitLemmas.{bool_cases}
 use Rattle.proof_tree.specs.Order.{in_order}
 use Rattle.certificate_text.specs.Planned.{Plan, section_of, IsBestOf, AreBestOf}
 use Rattle.proof_tree.proofs.OrderLemmas.{has_ordered, ordered_has}
 use Rattle.cave_plan.specs.Best.{AreTorchesOf}
-use Rattle.cave_plan.specs.Bounded.{Bounded, IsBoundedIn, AreBoundedIn, AreInOrder, IsPlanWithin}
+use Rattle.cave_plan.specs.Bounded.{Bounded, IsBoundedIn, AreBoundedIn, AreInOrder, IsPlanWithin, IsEnded, IsSumOf}
+use Rattle.cave_plan.specs.Bounded.{total_floor}
 use Rattle.cave_plan.proofs.PartLemmas.{torches_are, are_apart, plan_within, legal_places}
 use Rattle.cave_plan.proofs.AcceptedLemmas.{fewest, place_inside}
 use Rattle.cave_plan.specs.Course.{Course, IsBounded, IsProved, IsCourse, floor_if}
@@ -44,6 +47,17 @@ regions_by : {X : Type 0} (cave : Cave) (regions : List Instance) (f : X → Ins
 regions_by cave regions f xs e are = subst (AreRegions cave) (cells_by f xs)
     (subst (λ (l : List Instance). AreRegions cave (cells_of_each l)) (sym e) are)
 
+-- the least cells of regions that are parts of something
+leasts_by : {X : Type 0} (f : X → Instance) (xs : List X) → map least_cell (map f xs) ≡ map (λ x. least_cell (f x)) xs
+leasts_by f [] = refl
+leasts_by f (x ∷ xs) = ap (λ (l : List ℕ). least_cell (f x) ∷ l) (leasts_by f xs)
+
+-- where those of the regions of a cave ascend, those of their parts do
+ordered_by : {X : Type 0} (regions : List Instance) (f : X → Instance) (xs : List X) → map f xs ≡ regions
+    → IsStrictlyIncreasing (map least_cell regions) → IsStrictlyIncreasing (map (λ x. least_cell (f x)) xs)
+ordered_by regions f xs e up = subst IsStrictlyIncreasing (leasts_by f xs)
+    (subst (λ (l : List Instance). IsStrictlyIncreasing (map least_cell l)) (sym e) up)
+
 -- bounds of regions that agree with the cave are bounds in it
 each_bounded : (cave : Cave) (parts : List Bounded) → All IsBounded parts
     → All (AgreesIn cave) (map (λ part. part.region) parts) → All (IsBoundedIn cave) parts
@@ -58,6 +72,37 @@ each_bounded cave (p ∷ ps) all agree =
       none_below = is.none_below;
     })
     (each_bounded cave ps (All-tail IsBounded p ps all) (All-tail (AgreesIn cave) p.region rest agree))
+
+-- where there is some number there is a first one
+first_of : (cells : List ℕ) → 0 < length cells → (c : ℕ) × Contains cells c
+first_of [] lt = absurd (omega arith)
+first_of (c ∷ cs) lt = (c, here c cs)
+
+-- the floor of a region's part is at least 1
+ended : (part : Bounded) → IsBounded part → IsRegion part.region → IsEnded part
+ended part is region = record {
+  whole = is.whole;
+  some = elim (bool_cases part.spent) [
+    | inl t ↦ is.some t
+    | inr f ↦ (let cell = first_of part.region.cells region.filled in
+        let by = is.cover.covers cell.0 cell.1 in let size = is.whole f in omega (arith, by.1.1, size))
+  ];
+}
+
+-- and so is that of each
+each_ended : (parts : List Bounded) → All IsBounded parts → All IsRegion (map (λ part. part.region) parts)
+    → All IsEnded parts
+each_ended [] all kept = All-nil IsEnded
+each_ended (p ∷ ps) all kept =
+    let rest = map (λ (part : Bounded). part.region) ps in
+    All-cons IsEnded p ps (ended p (All-head IsBounded p ps all) (All-head IsRegion p.region rest kept))
+    (each_ended ps (All-tail IsBounded p ps all) (All-tail IsRegion p.region rest kept))
+
+-- and their sum, where there is some part
+some_sum : (parts : List Bounded) → All IsEnded parts → Contains (map (λ part. part.spent) parts) true
+    → 1 ≤ total_floor parts
+some_sum [] all has = absurd (omega (arith, has.1))
+some_sum (p ∷ ps) all has = (let one = (All-head IsEnded p ps all).some in omega (arith, one))
 
 -- proved plans of regions that agree with the cave are best in it
 each_best : (cave : Cave) (plans : List Plan) → All IsProved plans → All IsRegion (map (λ plan. plan.region) plans)
@@ -131,12 +176,32 @@ module _ (cave : Cave) (turns : Option ℕ) (regions : List Instance) (c : Cours
       all_members (λ cell. cell < cell_count cave.size) cells
       (λ p h. place_inside cave p world.sound (torches.legal p ((in_parts.exact p).0 h)))
 
-  stopped_at : (text : List ℕ) → c.stopped ≡ true → Prints cave cells (Some c.floor) text → IsStoppedAt cave turns text
+  summed : c.stopped ≡ true → IsSumOf cave is.parts cells c.floor
+  summed e =
+      let all = each_ended is.parts is.each (subst (All IsRegion) (sym is.of_them) are.each) in
+      record {
+        bounded = bounded;
+        ordered = ordered_by regions (λ (part : Bounded). part.region) is.parts is.of_them are.ordered;
+        of_them = in_parts;
+        ended = all;
+        sum = sym is.total;
+        some = subst (λ (n : ℕ). 1 ≤ n) is.total (some_sum is.parts all (is.spent e));
+        spent = is.spent e;
+      }
+
+  within : IsPlanWithin cave cells (total_floor is.parts)
+  within = plan_within cave is.parts cells world.sound bounded in_parts
+
+  stopped_at : (text : List ℕ) → c.stopped ≡ true → Prints cave cells (Some c.floor) text
+      → IsStoppedAt cave turns text c.plans
   stopped_at text e prints = record {
     limited = is.limited e;
     torches = cells;
     floor = c.floor;
-    within = subst (IsPlanWithin cave cells) is.total (plan_within cave is.parts cells world.sound bounded in_parts);
+    within = subst (IsPlanWithin cave cells) is.total within;
+    parts = is.parts;
+    summed = summed e;
+    finished_are = is.finished_are;
     prints = prints;
   }
 
@@ -152,9 +217,11 @@ module _ (cave : Cave) (turns : Option ℕ) (regions : List Instance) (c : Cours
       record {
         world = world;
         torches = cells;
+        safe = within.safe;
         best = fewest cave c.plans world best cells of_them;
         prints = prints;
         plans_are = best;
+        ordered = ordered_by regions (λ (plan : Plan). plan.region) c.plans proved.of_them are.ordered;
         of_plans = of_them;
       }
 

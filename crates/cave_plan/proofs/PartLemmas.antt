@@ -1,21 +1,25 @@
 -- Covers of all regions together, and what bounds them.
-use Rattle.std.proofs.Common.{◌≡◌, ℕ, suc, ◌≤◌, IsTrue, List, [], ◌∷◌, ◌++◌, length, All, Contains, map, sym, subst}
-use Rattle.std.proofs.Common.{arith, inl, inr, length-append}
-use Rattle.std.specs.Prelude.{slice_index_or}
+use Rattle.std.proofs.Common.{◌≡◌, ℕ, suc, ◌≤◌, IsTrue, List, [], ◌∷◌, ◌++◌, length, get_or, All, Contains, map, sym}
+use Rattle.std.proofs.Common.{subst, arith, inl, inr, length-append}
+use Rattle.std.specs.Prelude.{slice_index_or, unwrap_or}
 use Rattle.std.specs.List.Sorted.{IsStrictlyIncreasing}
-use Rattle.std.proofs.lemmas.List.Elements.{All-head, All-tail, Contains-append_cases, Contains-append_left}
-use Rattle.std.proofs.lemmas.List.Elements.{Contains-append_right}
+use Rattle.std.proofs.lemmas.List.Elements.{All-head, All-tail, All-map, Contains-append_cases}
+use Rattle.std.proofs.lemmas.List.Elements.{Contains-append_left, Contains-append_right}
 use Rattle.std.proofs.lemmas.List.Kept.{AllPairs-from_increasing}
 use Rattle.cave_model.specs.Cave.{Cave, IsSound}
 use Rattle.cave_model.specs.Coverage.{of_cave, IsLitBy, IsPlaceOf}
-use Rattle.cave_model.specs.Torches.{is_legal, IsPlace, Lights}
-use Rattle.cave_model.specs.Plan.{Torch, cells_of, AreDistinct, AreLegal}
+use Rattle.cave_model.specs.Torches.{is_legal, hang_of, IsPlace, Lights}
+use Rattle.cave_model.specs.Plan.{Torch, cells_of, hung, AreDistinct, AreLegal, IsSafe}
+use Rattle.cave_model.specs.declared.hang.Hang.TheVariants.{Floor}
 use Rattle.cave_model.specs.Regions.{all_cells}
+use Rattle.cave_model.specs.Spawn.{IsDark}
+use Rattle.cave_model.proofs.PlaceLemmas.{legal_hang}
 use Rattle.cave_model.proofs.TorchLemmas.{safe_covers, cover_is_safe}
+use Rattle.cover_rows.proofs.CoverLemmas.{cells_hung}
 use Rattle.set_cover.specs.Instance.{of_instance}
 use Rattle.proof_rules.proofs.ListLemmas.{no_member, cons_cases, all_members, at_member, distinct_nil}
 use Rattle.proof_rules.proofs.ListLemmas.{distinct_append, no_more}
-use Rattle.proof_check.proofs.FewestLemmas.{hung, pick, length-cells}
+use Rattle.proof_check.proofs.FewestLemmas.{pick, length-cells}
 use Rattle.cave_plan.specs.Bounded.{Bounded, IsBoundedIn, AreBoundedIn, AreInOrder, IsPlanWithin, all_torches}
 use Rattle.cave_plan.specs.Bounded.{total_floor}
 
@@ -175,24 +179,33 @@ rising_distinct : (cells : List ℕ) → IsStrictlyIncreasing cells → AreDisti
 rising_distinct cells up = λ i j d lt h e.
     (let less = AllPairs-from_increasing cells up i j d lt h in omega (arith, less, e))
 
+-- hung each by its first legal hang, torches at places are legal
+pub hung_legal : (cave : Cave) (cells : List ℕ) → All (IsPlace cave) cells → AreLegal cave (hung cave cells)
+hung_legal cave cells places = All-map (λ (torch : Torch). IsTrue (is_legal cave torch.cell torch.hang))
+    (λ place. record { cell = place; hang = unwrap_or (hang_of cave place) Floor }) cells
+    (λ i d lt. legal_hang cave (get_or cells i d) (places i d lt))
+
+-- hung so, distinct places that light each dark cell are safe torches
+pub hung_safe : (cave : Cave) (cells : List ℕ) → IsSound cave → All (IsPlace cave) cells → AreDistinct cells
+    → ((cell : ℕ) → IsDark cave cell → IsLitBy (of_cave cave) cells cell) → IsSafe cave (hung cave cells)
+hung_safe cave cells sound places distinct lit = cover_is_safe cave (hung cave cells) sound (record {
+  legal = hung_legal cave cells places;
+  distinct = subst AreDistinct (sym (cells_hung cave cells)) distinct;
+  covered = λ c dark. subst (λ (l : List ℕ). IsLitBy (of_cave cave) l c) (sym (cells_hung cave cells)) (lit c dark);
+})
+
 -- the torches of all parts are safe, and no safe torches are fewer than the floors together
 pub plan_within : (cave : Cave) (parts : List Bounded) (cells : List ℕ) → IsSound cave → AreBoundedIn cave parts
     → AreInOrder parts cells → IsPlanWithin cave cells (total_floor parts)
 plan_within cave parts cells sound are order =
     let apart = are_apart cave parts are.regions.apart in
     let torches = torches_are cave parts are.each apart in
-    let t = hung cave cells (all_members (IsPlace cave) cells (λ p h. torches.legal p ((order.exact p).0 h))) in
     record {
-      hung = (
-        t.0,
-        t.1,
-        cover_is_safe cave t.0 sound (record {
-          legal = t.2;
-          distinct = subst AreDistinct (sym t.1) (rising_distinct cells order.ascending);
-          covered = λ c dark. subst (λ (places : List ℕ). IsLitBy (of_cave cave) places c) (sym t.1)
-              (let by = torches.covers c ((are.regions.exact c).1 dark) in (by.0, (order.exact by.0).1 by.1, by.2));
-        }),
-      );
+      safe = hung_safe cave cells sound
+          (all_members (IsPlace cave) cells (λ p h. torches.legal p ((order.exact p).0 h)))
+          (rising_distinct cells order.ascending)
+          (λ c dark. (let by = torches.covers c ((are.regions.exact c).1 dark) in
+          (by.0, (order.exact by.0).1 by.1, by.2)));
       floored = λ others safe. (let cover = safe_covers cave others sound safe in
           let picked = pick_all cave (cells_of others) parts (legal_places cave others cover.legal)
           (λ c h. cover.covered c ((are.regions.exact c).0 h)) apart are.each in

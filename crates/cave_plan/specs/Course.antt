@@ -1,12 +1,12 @@
 -- The plans of regions, as far as they go. This is this project's own.
-use Rattle.std.specs.Prelude.{◌≡◌, ℕ, Bool, true, false, List, [], ◌∷◌, ◌++◌, length, map, flat_map, All, Option}
-use Rattle.std.specs.Prelude.{Some, None, IsSome, if◌then◌else◌}
+use Rattle.std.specs.Prelude.{◌≡◌, ℕ, ◌≤◌, Bool, true, false, List, [], ◌∷◌, ◌++◌, length, map, flat_map, All}
+use Rattle.std.specs.Prelude.{Contains, Option, Some, None, IsSome, if◌then◌else◌}
 use Rattle.set_cover.specs.Instance.{Instance, of_instance}
 use Rattle.proof_rules.specs.Good.{Good}
 use Rattle.cave_regions.specs.Cover.{IsCoverOfRegion}
 use Rattle.certificate_text.specs.Planned.{Plan}
 use Rattle.search_core.specs.Planned.{NoneBelow}
-use Rattle.cave_plan.specs.Bounded.{Bounded, all_torches, total_floor}
+use Rattle.cave_plan.specs.Bounded.{Bounded, all_torches, finished, total_floor}
 
 -- what is kept: the torches of all regions, a number that no torches are fewer than, whether the turns of a region
 -- were spent, and the regions that have a tree
@@ -20,10 +20,17 @@ pub record Course : Type 0 where
 abbrev pub course : List ℕ → ℕ → Bool → List Plan → Course
 course torches floor stopped plans = record { torches = torches; floor = floor; stopped = stopped; plans = plans }
 
--- a cover of the region, and a number that no cover is below
+-- a cover of the region, and a number that no cover is below: its size, or where turns were spent at least 1
 pub record IsBounded (part : Bounded) : Type 0 where
   pub cover : IsCoverOfRegion part.region part.torches
   pub none_below : NoneBelow part.region part.floor
+  pub whole : part.spent ≡ false → part.floor ≡ length part.torches
+  pub some : part.spent ≡ true → 1 ≤ part.floor
+
+-- the plans are those of the finished parts: their regions with their torches
+pub record AreFinished (parts : List Bounded) (plans : List Plan) : Type 0 where
+  pub regions : map (λ part. part.region) (finished parts) ≡ map (λ plan. plan.region) plans
+  pub torches : map (λ part. part.torches) (finished parts) ≡ map (λ plan. plan.torches) plans
 
 -- a cover of the region, and a tree which proves that none is smaller
 pub record IsProved (plan : Plan) : Type 0 where
@@ -36,7 +43,8 @@ pub record AreProvedPlans (regions : List Instance) (torches : List ℕ) (plans 
   pub each : All IsProved plans
   pub whole : flat_map (λ plan. plan.torches) plans ≡ torches
 
--- a cover and such a number for each of the regions; and a tree, unless some turns were spent, which were limited
+-- a cover and such a number for each of the regions; and a tree of each finished one, which are all unless some turns
+-- were spent, which were limited
 pub record IsCourse (regions : List Instance) (turns : Option ℕ) (c : Course) : Type 0 where
   pub parts : List Bounded
   pub of_them : map (λ part. part.region) parts ≡ regions
@@ -45,6 +53,8 @@ pub record IsCourse (regions : List Instance) (turns : Option ℕ) (c : Course) 
   pub total : total_floor parts ≡ c.floor
   pub proved : c.stopped ≡ false → AreProvedPlans regions c.torches c.plans
   pub limited : c.stopped ≡ true → IsSome turns
+  pub finished_are : AreFinished parts c.plans
+  pub spent : c.stopped ≡ true → Contains (map (λ part. part.spent) parts) true
 
 -- one region more is planned
 pub record GoesOn (turns : Option ℕ) (region : Instance) (old new : Course) : Type 0 where

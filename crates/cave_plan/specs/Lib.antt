@@ -5,3 +5,5 @@ pub mod Outline
 pub mod Bounded
 pub mod Best
 pub mod Faults
+-- private
+pub mod Turns

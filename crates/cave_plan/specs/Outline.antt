@@ -1,17 +1,19 @@
 -- What a plan of a cave shows: its text, and where no turns were spent the regions' trees. This is this project's own.
-use Rattle.std.specs.Prelude.{◌≡◌, ℕ, Bool, List, length, All, Option, Some, None, IsSome, MatchBool}
+use Rattle.std.specs.Prelude.{◌≡◌, ℕ, Bool, List, length, map, All, Option, Some, None, IsSome, MatchBool}
+use Rattle.std.specs.List.Sorted.{IsStrictlyIncreasing}
 use Rattle.cave_model.specs.Cave.{Cave, IsWorld}
 use Rattle.cave_model.specs.Coverage.{of_cave, Agrees}
+use Rattle.cave_model.specs.Plan.{hung, IsSafe}
 use Rattle.cave_model.specs.Regions.{AreRegions}
 use Rattle.cave_model.specs.Spawn.{AreDarkCells}
 use Rattle.set_cover.specs.Instance.{Instance, of_instance}
 use Rattle.cave_regions.specs.Region.{IsRegion}
-use Rattle.cave_regions.specs.Splitting.{cells_of_each}
+use Rattle.cave_regions.specs.Splitting.{cells_of_each, least_cell}
 use Rattle.certificate_text.specs.Planned.{Plan, AreBestOf}
 use Rattle.proof_check.specs.Accepted.{IsBestPlan}
 use Rattle.cave_plan.specs.Best.{AreTorchesOf}
-use Rattle.cave_plan.specs.Bounded.{IsPlanWithin}
-use Rattle.cave_plan.specs.Course.{Course, IsCourse}
+use Rattle.cave_plan.specs.Bounded.{Bounded, IsPlanWithin, IsSumOf}
+use Rattle.cave_plan.specs.Course.{Course, AreFinished, IsCourse}
 use Rattle.cave_plan.specs.PlanText.{plan_text}
 
 -- the number of dark cells
@@ -20,15 +22,17 @@ pub record CountsDark (cave : Cave) (count : ℕ) : Type 0 where
   pub dark : AreDarkCells cave cells
   pub number : length cells ≡ count
 
--- the text of these torches
+-- the text of these torches, which ascend: so torches have one text
 pub record Prints (cave : Cave) (torches : List ℕ) (floor : Option ℕ) (text : List ℕ) : Type 0 where
+  pub ascending : IsStrictlyIncreasing torches
   pub dark : ℕ
   pub counts : CountsDark cave dark
   pub is : text ≡ plan_text cave torches dark floor
 
--- the regions of the cave, each with what its places light there
+-- the regions of the cave, by their least cells, each with what its places light there
 pub record AreRegionsIn (cave : Cave) (regions : List Instance) : Type 0 where
   pub parts : AreRegions cave (cells_of_each regions)
+  pub ordered : IsStrictlyIncreasing (map least_cell regions)
   pub each : All IsRegion regions
   pub agree : All (λ region. Agrees (of_instance region) (of_cave cave) region.cells) regions
 
@@ -38,23 +42,31 @@ pub record IsCourseIn (cave : Cave) (turns : Option ℕ) (c : Course) : Type 0 w
   pub are : AreRegionsIn cave regions
   pub is : IsCourse regions turns c
 
--- the fewest torches, their text, and best plans of all regions with just these torches
+-- the fewest torches, each by its first legal hang, their text, and best plans of all regions with just these torches,
+-- by their least cells
 pub record IsPlanned (cave : Cave) (text : List ℕ) (plans : List Plan) : Type 0 where
   pub world : IsWorld cave
   pub torches : List ℕ
+  pub safe : IsSafe cave (hung cave torches)
   pub best : IsBestPlan cave torches
   pub prints : Prints cave torches None text
   pub plans_are : AreBestOf cave plans
+  pub ordered : IsStrictlyIncreasing (map (λ plan. least_cell plan.region) plans)
   pub of_plans : AreTorchesOf plans torches
 
--- turns were limited: safe torches, a number that no safe torches are fewer than, and their text
-pub record IsStoppedAt (cave : Cave) (turns : Option ℕ) (text : List ℕ) : Type 0 where
+-- turns were limited: safe torches, a number that no safe torches are fewer than, their text, and parts that they are
+-- the sum of, of which those with plans are finished
+pub record IsStoppedAt (cave : Cave) (turns : Option ℕ) (text : List ℕ) (plans : List Plan) : Type 0 where
   pub limited : IsSome turns
   pub torches : List ℕ
   pub floor : ℕ
   pub within : IsPlanWithin cave torches floor
+  pub parts : List Bounded
+  pub summed : IsSumOf cave parts torches floor
+  pub finished_are : AreFinished parts plans
   pub prints : Prints cave torches (Some floor) text
 
 -- what a plan shows: where it stopped safe torches and what none are fewer than, else the fewest torches, with plans
 abbrev pub IsOutlineOf : Cave → Option ℕ → List ℕ → Bool → List Plan → Type 0
-IsOutlineOf cave turns text stopped plans = MatchBool stopped (IsStoppedAt cave turns text) (IsPlanned cave text plans)
+IsOutlineOf cave turns text stopped plans =
+    MatchBool stopped (IsStoppedAt cave turns text plans) (IsPlanned cave text plans)

@@ -111,7 +111,7 @@ impl Course {
         ensures threads { IfErr result (λ e. e ≡ PlanFault.NoThread → 1 < crew.now.workers.number) }
     {
         match crew.plan_region(alloc, &region, turns) {
-            Ok((cover, proof)) => Ok(self.add_best(turns, region, cover, proof)?),
+            Ok(plan) => Ok(self.add_best(turns, region, plan.cover, plan.proof)?),
             Err(RegionFault::Stopped { cover, floor }) => {
                 Ok(self.add_stopped(turns, &cover, floor)?)
             }

@@ -11,7 +11,7 @@ ghost use Rattle.proof_rules.specs.Text.{IsTextOf};
 ghost use Rattle.proof_rules.specs.Tree.{Tree};
 ghost use Rattle.proof_check.specs.Accepted.{Accepts, IsBestPlan};
 ghost use Rattle.certificate_text.specs.Planned.{AreBestOf, Plan, certificate_of, certificate_text};
-ghost use Rattle.cave_plan.specs.Best.{AreTorchesOf};
+ghost use Rattle.cave_plan.specs.Best.{AreTorchesOf, IsInLeastVersion};
 ghost use Rattle.cave_plan.specs.Bounded.{AreBoundedIn, AreInOrder, Bounded, IsPlanWithin, all_torches, total_floor};
 
 /// A tree that is good over an instance is good over a cave whose places light the same of these cells.
@@ -55,6 +55,11 @@ pub fn best_plans_are_accepted()
 pub fn best_plans_are_fewest()
     ensures { (cave : Cave) → (plans : List Plan) → (cells : List ℕ) → IsWorld cave → AreBestOf cave plans
         → AreTorchesOf plans cells → IsBestPlan cave cells }
+{}
+
+/// No version with a lesser number can speak of its sections under its need.
+pub fn version_is_least()
+    ensures { (cave : Cave) → (plans : List Plan) → IsInLeastVersion (certificate_of cave plans) }
 {}
 
 /// Where no place lights some dark cell, no torches are safe.

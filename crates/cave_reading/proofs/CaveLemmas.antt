@@ -95,7 +95,7 @@ by_sound states None all = void_sound
 by_sound states (Some index) all = at_sound states index all
 
 -- a rule needs some light
-needs_light : (need : ℕ) → IsTrue (is_need need) → 0 < need
+pub needs_light : (need : ℕ) → IsTrue (is_need need) → 0 < need
 needs_light zero is = absurd (cc)
 needs_light (suc n) is = omega arith
 

@@ -1,3 +1,4 @@
 pub mod StateLemmas
 pub mod CaveLemmas
 pub mod ReadLemmas
+pub mod ToldLemmas

@@ -4,6 +4,7 @@
 mod building;
 mod cave_fault;
 mod fault;
+pub mod laws;
 mod reading;
 
 pub use building::build;

@@ -1,17 +1,25 @@
 -- What a check answers, from what its parts do.
-use Rattle.std.proofs.Common.{◌≡◌, ℕ, ◌<◌, ◌≤◌, List, length, Option, Some, None, Result, Err, refl, sym, ap}
-use Rattle.std.proofs.Common.{subst, ◌∙◌, ◌⊎◌, inl, inr}
-use Rattle.std.specs.Prelude.{IfSome}
-use Rattle.cave_model.specs.Rule.{Rule}
+use Rattle.std.proofs.Common.{◌≡◌, ℕ, ◌<◌, ◌≤◌, List, [], length, Option, Some, None, Result, Ok, Err, refl, sym, ap}
+use Rattle.std.proofs.Common.{subst, ◌∙◌, ◌⊎◌, inl, inr, arith}
+use Rattle.std.specs.Prelude.{IfSome, MatchResult}
+use Rattle.std.proofs.KnownBytes.{Consumes-nil}
+use Rattle.cave_model.specs.Cave.{Cave, IsSound}
+use Rattle.cave_model.specs.Plan.{IsFewest}
+use Rattle.cave_model.specs.Rule.{Rule, IsRule}
+use Rattle.cave_reading.specs.Bytes.{IsCaveOfBytes}
+use Rattle.cave_reading.proofs.ToldLemmas.{told_sound}
 use Rattle.cave_reading.specs.declared.cave_fault.CaveFault.{CaveFault}
 use Rattle.cave_reading.specs.declared.cave_fault.CaveFault.TheVariants as cave
 use Rattle.proof_check.specs.Faults as check_faults
 use Rattle.proof_check.specs.Verdict as verdicts
-use Rattle.proof_check.specs.Verdict.{IsJudged, IsOfReading, IsReadAnswer}
+use Rattle.proof_check.proofs.FewestLemmas.{best_plan}
+use Rattle.proof_check.specs.Reading.{GivesAtMost}
+use Rattle.proof_check.specs.Verdict.{IsJudged, IsOfReading, IsReadAnswer, IsVerdictOf}
 use Rattle.proof_check.specs.declared.fault.CheckFault.{CheckFault}
 use Rattle.proof_check.specs.declared.fault.CheckFault.TheVariants as check
 use Rattle.proof_check.specs.declared.verdict.Verdict.{Verdict}
-use Rattle.cave_runs.specs.CheckRuns.{IsExcuse, IsSaid, SaysIt, IsNoVerdict}
+use Rattle.proof_check.specs.declared.verdict.Verdict.TheVariants.{Accepted}
+use Rattle.cave_runs.specs.CheckRuns.{IsExcuse, IsSaid, SaysIt, IsNoVerdict, IsTrusted, IsUnread, IsWhole}
 use Rattle.cave_runs.specs.Faults.{run_fault_of, of_check}
 use Rattle.cave_runs.specs.Limits.{structure_limit, proof_limit}
 use Rattle.cave_runs.specs.Runs.{IsFaultOfBytes, IsOfInput}
@@ -116,3 +124,75 @@ pub none_due : (bytes : List ℕ) (table : Option (List ℕ))
     → ((f : CheckFault) → verdicts.IsFaultOfBytes bytes table f → ⊥) → (due : RunFault)
     → IsFaultOfBytes bytes table due → ⊥
 none_due bytes table clean due (inner, is, same) = clean (check_faults.check_fault_of inner) (inner, is, refl)
+
+-- ---- what an accepted certificate tells
+
+-- the torches of a certificate that was accepted are the fewest
+accepted_fewest : (world : Cave) (text : List ℕ) (verdict : Verdict) (torches : ℕ) → IsSound world
+    → verdict ≡ Accepted torches → IsVerdictOf world text verdict → IsFewest world torches
+accepted_fewest world text verdict torches sound is of_it =
+    let told = subst (IsVerdictOf world text) is of_it in
+    subst (IsFewest world) told.2 (best_plan world text told.0 sound told.1).fewest
+
+-- and so are those of one of what both readers had
+pub trusted : (structure : Option (List ℕ)) (bytes : List ℕ) (table : Option (List ℕ)) (rule : Rule)
+    (certificate : Option (List ℕ)) (verdict : Verdict) → IsRule rule → IfSome structure (λ b. bytes ≡ b)
+    → IfSome certificate (λ text. IsJudged bytes table rule text verdict)
+    → IsTrusted structure table rule certificate verdict
+trusted None bytes table rule certificate verdict rules same judged = tt
+trusted (Some b) bytes table rule None verdict rules same judged = tt
+trusted (Some b) bytes table rule (Some text) verdict rules same judged = λ torches is. (
+  judged.cave,
+  subst (λ (x : List ℕ). IsCaveOfBytes x table rule judged.cave) same judged.told,
+  accepted_fewest judged.cave text verdict torches (told_sound bytes table rule judged.cave rules judged.told).sound is
+      judged.verdict,
+)
+
+-- ---- limits
+
+pub reading_unread : (e : RunFault) (input : Input) → (e ≡ faults.ReadFailed) ⊎ (e ≡ faults.TooLong input)
+    ⊎ (e ≡ faults.OutOfMemory) → IsUnread e
+reading_unread e input (inl failed) = inl failed
+reading_unread e input (inr (inl long)) = inr (inr (input, long))
+reading_unread e input (inr (inr none)) = inr (inl none)
+
+check_unread : (e : CheckFault) → IsOfReading e → IsUnread (of_check e)
+check_unread e (inl failed) = inl (ap of_check failed)
+check_unread e (inr (inl long)) = inr (inr (ProofInput, ap of_check long))
+check_unread e (inr (inr none)) = inr (inl (ap of_check none))
+
+-- what wasn't read has no verdict
+pub whole_unread : (certificate : Option (List ℕ)) (r : Result Verdict RunFault) (e : RunFault) → r ≡ Err e
+    → IsUnread e → IsWhole certificate r
+whole_unread None r e is unread = tt
+whole_unread (Some text) r e is unread = λ long. rw is unread
+
+-- what a check answers of a certificate that is too long
+abbrev pub WholeChecked : Option (List ℕ) → Result Verdict CheckFault → Type 0
+WholeChecked certificate inner =
+    IfSome certificate (λ text. proof_limit < length text → MatchResult inner (λ _. ⊥) IsOfReading)
+
+-- a fault of the check is that of the run
+pub whole_fault : (certificate : Option (List ℕ)) (e : CheckFault) (r : Result Verdict RunFault) (f : RunFault)
+    → r ≡ Err f → f ≡ of_check e → WholeChecked certificate (Err e) → IsWhole certificate r
+whole_fault None e r f is same whole = tt
+whole_fault (Some text) e r f is same whole = λ long. rw is (subst IsUnread (sym same) (check_unread e (whole long)))
+
+-- where there is a verdict, the certificate isn't too long
+pub whole_judged : (certificate : Option (List ℕ)) (verdict : Verdict) (r : Result Verdict RunFault)
+    → WholeChecked certificate (Ok verdict) → IsWhole certificate r
+whole_judged None verdict r whole = tt
+whole_judged (Some text) verdict r whole = λ long. absurd (whole long)
+
+-- what wasn't touched gave nothing
+pub gives_none : (most : ℕ) (known : Option (List ℕ)) → GivesAtMost most known known
+gives_none most known = ([], omega arith, Consumes-nil known)
+
+-- a failed read of the check is one of the run
+pub read_failed : (e : CheckFault) → of_check e ≡ faults.ReadFailed → e ≡ check.ReadFailed
+read_failed (check.Scan f) is = absurd (cc)
+read_failed (check.Table f) is = absurd (cc)
+read_failed (check.Build f) is = absurd (cc)
+read_failed check.ReadFailed is = refl
+read_failed check.TooLong is = absurd (cc)
+read_failed check.OutOfMemory is = absurd (cc)

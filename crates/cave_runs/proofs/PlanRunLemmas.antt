@@ -3,6 +3,7 @@ use Rattle.std.proofs.Common.{◌≡◌, ◌≢◌, ℕ, ◌≤◌, List, [], le
 use Rattle.std.proofs.Common.{Some, None, Result, Ok, Err, refl, sym, ap, subst, ◌∙◌, ◌⊎◌, inl, inr, arith}
 use Rattle.std.specs.Prelude.{IfErr, IfSome, OnErr, OnOk}
 use Rattle.std.specs.Io.KnownBytes.{Appends}
+use Rattle.std.specs.List.Sorted.{IsStrictlyIncreasing}
 use Rattle.std.proofs.KnownBytes.{Keeps-refl}
 use Rattle.std.proofs.lemmas.List.{append-nil}
 use Rattle.cave_base.specs.Box.{Point, point, coordinates}
@@ -18,8 +19,9 @@ use Rattle.certificate_text.specs.Writing.{AppendsFront, AppendsPart}
 use Rattle.certificate_text.specs.declared.fault.WriteFault.{WriteFault}
 use Rattle.certificate_text.specs.declared.fault.WriteFault.TheVariants as writing
 use Rattle.certificate_text.proofs.SentLemmas.{part_none}
-use Rattle.cave_plan.proofs.AcceptedLemmas.{accepted, best_are_bounded, part_of, section_torches}
+use Rattle.cave_plan.proofs.AcceptedLemmas.{accepted, best_are_bounded, part_of, section_leasts, section_torches}
 use Rattle.cave_plan.proofs.PartLemmas.{same_number}
+use Rattle.cave_plan.proofs.VersionLemmas.{in_least_version}
 use Rattle.cave_plan.specs.Faults.{NamesUnlightable}
 use Rattle.cave_plan.specs.Outline.{IsPlanned, IsStoppedAt}
 use Rattle.cave_plan.specs.declared.fault.PlanFault.{PlanFault}
@@ -41,6 +43,7 @@ pub writes_best : (cave : Cave) (text : List ℕ) (plans : List Plan) (old new p
     → WritesBest cave old new proof_old proof_new
 writes_best cave text plans old new proof_old proof_new is written proved = record {
   torches = is.torches;
+  safe = is.safe;
   best = is.best;
   text = text;
   prints = is.prints;
@@ -48,6 +51,8 @@ writes_best cave text plans old new proof_old proof_new is written proved = reco
   proof = certificate_text cave plans;
   certificate = certificate_of cave plans;
   accepted = accepted cave plans is.world is.plans_are;
+  ordered = subst IsStrictlyIncreasing (sym (section_leasts plans)) is.ordered;
+  versioned = in_least_version cave plans;
   same = is.of_plans.exact;
   number = same_number cave (map part_of plans) is.torches (best_are_bounded cave plans is.plans_are)
       (subst (λ (l : List ℕ). ListsAll (Contains l) is.torches) (sym (section_torches plans)) is.of_plans) ∙ ap length
@@ -55,14 +60,16 @@ writes_best cave text plans old new proof_old proof_new is written proved = reco
   proved = proved;
 }
 
-pub writes_floor : (cave : Cave) (turns : Option ℕ) (text : List ℕ) (old new proof : Option (List ℕ))
-    → IsStoppedAt cave turns text → Appends old new text
+pub writes_floor : (cave : Cave) (turns : Option ℕ) (text : List ℕ) (plans : List Plan)
+    (old new proof : Option (List ℕ)) → IsStoppedAt cave turns text plans → Appends old new text
     → WritesFloor cave turns old new proof proof
-writes_floor cave turns text old new proof is written = record {
+writes_floor cave turns text plans old new proof is written = record {
   limited = is.limited;
   torches = is.torches;
   floor = is.floor;
   within = is.within;
+  parts = is.parts;
+  summed = is.summed;
   text = text;
   prints = is.prints;
   written = written;
@@ -118,15 +125,15 @@ text_failed fault cave text plans old new proof_old proof_new failed is front pr
       });
 }
 
-pub stop_failed : (fault : RunFault) (cave : Cave) (turns : Option ℕ) (text : List ℕ)
-    (old new proof : Option (List ℕ)) → fault ≡ faults.WriteFailed → IsStoppedAt cave turns text
+pub stop_failed : (fault : RunFault) (cave : Cave) (turns : Option ℕ) (text : List ℕ) (plans : List Plan)
+    (old new proof : Option (List ℕ)) → fault ≡ faults.WriteFailed → IsStoppedAt cave turns text plans
     → AppendsFront old new text → LeavesIn fault cave turns old new proof proof
-stop_failed fault cave turns text old new proof failed is front =
+stop_failed fault cave turns text plans old new proof failed is front =
     subst (λ (f : RunFault). LeavesIn f cave turns old new proof proof) (sym failed)
     (record {
       text = text;
       proof = [];
-      are = inr (is, refl);
+      are = inr (plans, is, refl);
       written = front_is_part old new text front;
       proved =
           part_none proof [];
@@ -311,8 +318,8 @@ text_failed_in (Err e) cave text plans old new proof_old proof_new is kind front
     plans old new proof_old proof_new kind is front proved
 
 pub ended_in : {X : Type 0} (fault : RunFault) (r : Result X RunFault) (cave : Cave) (turns : Option ℕ)
-    (text : List ℕ) (old new proof : Option (List ℕ)) → r ≡ Err fault → fault ≡ faults.WriteFailed
-    → IsStoppedAt cave turns text
+    (text : List ℕ) (plans : List Plan) (old new proof : Option (List ℕ)) → r ≡ Err fault
+    → fault ≡ faults.WriteFailed → IsStoppedAt cave turns text plans
     → AppendsFront old new text → IfErr r (λ e. LeavesIn e cave turns old new proof proof)
-ended_in fault r cave turns text old new proof is failed stopped front = rw is
-    (stop_failed fault cave turns text old new proof failed stopped front)
+ended_in fault r cave turns text plans old new proof is failed stopped front = rw is
+    (stop_failed fault cave turns text plans old new proof failed stopped front)

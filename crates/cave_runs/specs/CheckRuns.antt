@@ -1,12 +1,17 @@
 -- What a check writes of the bytes that are read, or why there is no verdict. This is this project's own.
 use Rattle.std.specs.Prelude.{◌≡◌, ◌<◌, ◌⊎◌, ◌++◌, ℕ, List, length, codes, Option, Result, MatchResult, IfSome}
 use Rattle.std.specs.Io.KnownBytes.{Appends, Keeps}
+use Rattle.cave_model.specs.Cave.{Cave}
+use Rattle.cave_model.specs.Plan.{IsFewest}
 use Rattle.cave_model.specs.Rule.{Rule}
+use Rattle.cave_reading.specs.Bytes.{IsCaveOfBytes}
 use Rattle.certificate_text.specs.Writing.{AppendsFront}
 use Rattle.proof_check.specs.Texts.{verdict_text}
 use Rattle.proof_check.specs.Verdict.{IsJudged}
+use Rattle.proof_check.specs.Reading.{GivesAtMost}
 use Rattle.proof_check.specs.declared.verdict.Verdict.{Verdict}
-use Rattle.cave_runs.specs.Limits.{proof_limit}
+use Rattle.proof_check.specs.declared.verdict.Verdict.TheVariants.{Accepted}
+use Rattle.cave_runs.specs.Limits.{proof_limit, structure_limit}
 use Rattle.cave_runs.specs.Runs.{IsFaultOfInput}
 use Rattle.cave_runs.specs.declared.fault.Input.{Input}
 use Rattle.cave_runs.specs.declared.fault.Input.TheVariants.{ProofInput}
@@ -27,6 +32,15 @@ pub record WritesVerdict (structure table : Option (List ℕ)) (rule : Rule) (ce
     (verdict : Verdict) : Type 0 where
   pub judges : Judges structure table rule certificate verdict
   pub written : Appends old new (verdict_line verdict)
+
+-- so many torches are enough for the cave that the bytes tell, and no fewer
+abbrev pub AreFewestOfBytes : List ℕ → Option (List ℕ) → Rule → ℕ → Type 0
+AreFewestOfBytes bytes table rule torches = (cave : Cave) × IsCaveOfBytes bytes table rule cave × IsFewest cave torches
+
+-- where the certificate is accepted, its torches are the fewest of the cave that the structure tells
+abbrev pub IsTrusted : Option (List ℕ) → Option (List ℕ) → Rule → Option (List ℕ) → Verdict → Type 0
+IsTrusted structure table rule certificate verdict = IfSome structure (λ bytes. IfSome certificate (λ text.
+    (torches : ℕ) → verdict ≡ Accepted torches → AreFewestOfBytes bytes table rule torches))
 
 -- a failed write leaves a beginning of the line, any other fault nothing
 abbrev pub LeavesLine : RunFault → Option (List ℕ) → Option (List ℕ) → Rule → Option (List ℕ) → Option (List ℕ)
@@ -58,3 +72,17 @@ SaysIt structure table rule certificate r = IfSome structure (λ bytes. IfSome c
 abbrev pub IsUnsaid : Result Verdict RunFault → RunFault → Type 0
 IsUnsaid r fault = MatchResult r (λ _. ⊥) (λ e. (e ≡ fault) ⊎ (e ≡ faults.ReadFailed)
     ⊎ (e ≡ faults.TooLong ProofInput) ⊎ (e ≡ faults.OutOfMemory))
+
+-- a read failed, an input is too long, or memory ran out
+abbrev pub IsUnread : RunFault → Type 0
+IsUnread fault = (fault ≡ faults.ReadFailed) ⊎ (fault ≡ faults.OutOfMemory)
+    ⊎ ((input : Input) × (fault ≡ faults.TooLong input))
+
+-- a certificate above the limit has no verdict
+abbrev pub IsWhole : Option (List ℕ) → Result Verdict RunFault → Type 0
+IsWhole certificate r = IfSome certificate (λ text. proof_limit < length text → MatchResult r (λ _. ⊥) IsUnread)
+
+-- of a structure and a certificate no more was read than their limits
+abbrev pub GiveAtMost : Option (List ℕ) → Option (List ℕ) → Option (List ℕ) → Option (List ℕ) → Type 0
+GiveAtMost structure_old structure_new certificate_old certificate_new =
+    GivesAtMost structure_limit structure_old structure_new × GivesAtMost proof_limit certificate_old certificate_new

@@ -5,13 +5,15 @@ use Rattle.std.specs.Io.KnownBytes.{Appends, Keeps}
 use Rattle.cave_base.specs.Box.{coordinates}
 use Rattle.cave_reading.specs.Bytes.{IsCaveOfBytes}
 use Rattle.cave_model.specs.Cave.{Cave}
+use Rattle.cave_model.specs.Plan.{hung, IsSafe}
 use Rattle.cave_model.specs.Rule.{Rule}
 use Rattle.cover_rows.specs.Coverage.{IsUnlightable}
 use Rattle.proof_rules.specs.Certificate.{Certificate, torches_of}
 use Rattle.certificate_text.specs.Planned.{Plan, certificate_text}
 use Rattle.certificate_text.specs.Writing.{AppendsPart}
 use Rattle.proof_check.specs.Accepted.{Accepts, IsBestPlan}
-use Rattle.cave_plan.specs.Bounded.{IsPlanWithin}
+use Rattle.cave_plan.specs.Best.{AreByLeastCell, IsInLeastVersion}
+use Rattle.cave_plan.specs.Bounded.{Bounded, IsPlanWithin, IsSumOf}
 use Rattle.cave_plan.specs.Outline.{Prints, IsPlanned, IsStoppedAt, IsOutlineOf}
 use Rattle.cave_runs.specs.Limits.{structure_limit}
 use Rattle.cave_runs.specs.Runs.{IsFaultOfBytes}
@@ -23,9 +25,11 @@ use Rattle.cave_runs.specs.declared.plan.Outcome.TheVariants.{Done, Stopped}
 
 -- ---- what is written
 
--- safe torches were printed, with no safe ones fewer; and a certificate that the checker accepts, of just these torches
+-- safe torches were printed, each by its first legal hang, with no safe ones fewer; and a certificate that the checker
+-- accepts, of just these torches, its regions by their least cells, in the least version that can speak of them
 pub record WritesBest (cave : Cave) (old new proof_old proof_new : Option (List ℕ)) : Type 0 where
   pub torches : List ℕ
+  pub safe : IsSafe cave (hung cave torches)
   pub best : IsBestPlan cave torches
   pub text : List ℕ
   pub prints : Prints cave torches None text
@@ -33,16 +37,21 @@ pub record WritesBest (cave : Cave) (old new proof_old proof_new : Option (List 
   pub proof : List ℕ
   pub certificate : Certificate
   pub accepted : Accepts cave proof certificate
+  pub ordered : AreByLeastCell certificate.sections
+  pub versioned : IsInLeastVersion certificate
   pub same : (cell : ℕ) → Contains torches cell ↔ Contains (torches_of certificate.sections) cell
   pub number : length torches ≡ length (torches_of certificate.sections)
   pub proved : Appends proof_old proof_new proof
 
--- turns were limited: safe torches were printed, with a number that no safe ones are fewer than, and no certificate
+-- turns were limited: safe torches were printed, with a number that no safe ones are fewer than, the sum of what parts
+-- for the cave's regions have, and no certificate
 pub record WritesFloor (cave : Cave) (turns : Option ℕ) (old new proof_old proof_new : Option (List ℕ)) : Type 0 where
   pub limited : IsSome turns
   pub torches : List ℕ
   pub floor : ℕ
   pub within : IsPlanWithin cave torches floor
+  pub parts : List Bounded
+  pub summed : IsSumOf cave parts torches floor
   pub text : List ℕ
   pub prints : Prints cave torches (Some floor) text
   pub written : Appends old new text
@@ -67,7 +76,7 @@ pub record Plans (bytes : List ℕ) (table : Option (List ℕ)) (rule : Rule) (t
 abbrev pub AreTextsOf : Cave → Option ℕ → List ℕ → List ℕ → Type 0
 AreTextsOf cave turns text proof = ((plans : List Plan) × IsPlanned cave text plans
     × (proof ≡ certificate_text cave plans))
-    ⊎ (IsStoppedAt cave turns text × (proof ≡ []))
+    ⊎ ((plans : List Plan) × IsStoppedAt cave turns text plans × (proof ≡ []))
 
 -- of each a beginning was written, or all of it
 pub record BeginsTexts (cave : Cave) (turns : Option ℕ) (old new proof_old proof_new : Option (List ℕ)) : Type 0 where

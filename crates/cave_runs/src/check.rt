@@ -1,8 +1,8 @@
 //! The judging of a certificate, from the bytes read to the bytes written.
 ghost use Rattle.std.specs.Prelude.{◌≡◌, IfOk, IfErr, IfSome, option_copied, string_bytes};
 ghost use Rattle.cave_model.specs.RuleOf.{rule_of};
-ghost use Rattle.cave_runs.specs.CheckRuns.{IsNoVerdict, IsUnsaid, LeavesLine, SaysIt, WritesVerdict};
-ghost use Rattle.cave_runs.specs.CheckRuns.{verdict_line};
+ghost use Rattle.cave_runs.specs.CheckRuns.{GiveAtMost, IsNoVerdict, IsTrusted, IsUnsaid, IsWhole, LeavesLine};
+ghost use Rattle.cave_runs.specs.CheckRuns.{SaysIt, WritesVerdict, verdict_line};
 ghost use Rattle.cave_runs.specs.Runs.{IsFaultOfInput, IsOfInput};
 ghost use Rattle.cave_runs.specs.declared.fault.RunFault.{RunFault};
 
@@ -39,6 +39,11 @@ pub fn run_check<R: Read, C: Read, W: Write>(
     // Such a verdict is answered, unless a stream failed.
     ensures only { SaysIt (R.remaining reader.old) (option_copied table.entry) (rule_of rule)
         (C.remaining certificate.old) result }
+    // An accepted certificate has the fewest torches of the cave that the structure tells.
+    ensures fewest { IfOk result (IsTrusted (R.remaining reader.old) (option_copied table.entry) (rule_of rule)
+        (C.remaining certificate.old)) }
+    // Of a certificate above the limit no verdict is answered.
+    ensures whole { IsWhole (C.remaining certificate.old) result }
     // A failed write leaves a beginning of the line, any other fault nothing.
     ensures left { IfErr result (λ e. LeavesLine e (R.remaining reader.old) (option_copied table.entry)
         (rule_of rule) (C.remaining certificate.old) (W.contents writer.old) (W.contents writer.new)) }
@@ -48,6 +53,9 @@ pub fn run_check<R: Read, C: Read, W: Write>(
     // Such a fault of the structure or the table is answered, unless a read failed or the certificate is too long.
     ensures refused { IfSome (R.remaining reader.old) (λ bytes. (e : RunFault)
         → IsFaultOfInput bytes (option_copied table.entry) e → IsUnsaid result e) }
+    // A failed read comes before more than the limits was read.
+    ensures before { IfErr result (λ e. e ≡ RunFault.ReadFailed → GiveAtMost (R.remaining reader.old)
+        (R.remaining reader.new) (C.remaining certificate.old) (C.remaining certificate.new)) }
 {
     let bytes = read_all(alloc, reader, STRUCTURE_LIMIT, Input::StructureInput)?;
     let verdict = check_from(alloc, &bytes, table, rule, certificate, PROOF_LIMIT)?;

@@ -22,9 +22,10 @@ pub fn read_all<R: Read>(
         → IfSome (R.remaining reader.old) (λ bytes. limit < length bytes)) }
     ensures kinds { IfErr result (λ e. (e ≡ RunFault.ReadFailed) ⊎ (e ≡ RunFault.TooLong input)
         ⊎ (e ≡ RunFault.OutOfMemory)) }
-    // A failed read comes before more than the limit was read.
+    // A failed read comes before more than the limit was read, and so does the end.
     ensures before { IfErr result (λ e. e ≡ RunFault.ReadFailed
         → GivesAtMost limit (R.remaining reader.old) (R.remaining reader.new)) }
+    ensures ended { IfOk result (λ _. GivesAtMost limit (R.remaining reader.old) (R.remaining reader.new)) }
 {
     let mut bytes = Vec::new(alloc);
     let mut buffer = [0; 8192];

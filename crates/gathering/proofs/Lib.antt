@@ -1,4 +1,5 @@
 pub mod PlayLemmas
+pub mod TookLemmas
 pub mod CountLemmas
 pub mod HoldLemmas
 pub mod LikeLemmas

@@ -1,10 +1,11 @@
 -- What gathering the results of workers answers. This is this project's own.
-use Rattle.std.specs.Prelude.{◌≡◌, ◌≤◌, ℕ, ◌+◌, true, List, [], ◌∷◌, length, Option, IfSome}
+use Rattle.std.specs.Prelude.{◌≡◌, ◌≤◌, ℕ, ◌+◌, true, List, [], ◌∷◌, length, Option, Some, None}
 use Rattle.set_cover.specs.Instance.{Instance}
 use Rattle.cave_regions.specs.Cover.{Covering}
 use Rattle.proof_rules.specs.Tree.{Tree}
 use Rattle.proof_tree.specs.Piece.{Fathomed}
 use Rattle.search_core.specs.Planned.{IsStopped}
+use Rattle.search_core.specs.Turns.{AreSpent}
 use Rattle.event_core.specs.State.{State, Begins, IsDone}
 use Rattle.event_core.specs.Plays.{Steps, Plays}
 use Rattle.event_core.specs.Assembled.{IsAssembled}
@@ -57,9 +58,14 @@ pub record IsGathered (region : Instance) (first : List ℕ) (root : ℕ) (works
   pub best : gathered.cover ≡ record { region = region; places = final.best }
   pub assembled : IsAssembled final [] gathered.tree
 
--- turns ran out, of which at most those that were given were granted; and a thread is never asked for
+-- where turns are limited, each of so many pieces took one of them at least
+abbrev pub EachTook : Option ℕ → ℕ → ℕ → ℕ → Type 0
+EachTook None pieces old new = old ≤ new
+EachTook (Some limit) pieces old new = old + pieces ≤ new
+
+-- all turns that were given were granted; and a thread is never asked for
 abbrev pub StopsGathering : Instance → Option ℕ → PoolFault → Type 0
 StopsGathering region turns (Stopped cover floor granted) =
-    IsStopped region turns cover floor × IfSome turns (λ limit. granted ≤ limit)
+    IsStopped region turns cover floor × AreSpent turns granted
 StopsGathering region turns NoThread = ⊥
 StopsGathering region turns OutOfMemory = Unit {0}

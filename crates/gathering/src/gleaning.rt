@@ -4,7 +4,8 @@ ghost use Rattle.event_core.specs.State.{IsDone};
 ghost use Rattle.event_core.specs.Events.{IsWorker};
 ghost use Rattle.event_core.specs.Kept.{state_of};
 ghost use Rattle.search_core.specs.declared.halt.Halt.TheVariants.{TurnsSpent};
-ghost use Rattle.gathering.specs.Gathered.{Gleans};
+ghost use Rattle.search_core.specs.Turns.{AreSpent, Works};
+ghost use Rattle.gathering.specs.Gathered.{EachTook, Gleans};
 ghost use Rattle.gathering.specs.Gleaning.{Finishes, GleansWhere, MayFinish, NoneHeld};
 
 use cave_regions::Cover;
@@ -25,8 +26,10 @@ pub(crate) fn glean<S: Strategy>(
     requires of_it { desk.old.cover.region ≡ core.old.region }
     ensures gleans { IfOk result (λ names. Gleans (state_of core.old) caller names.items (state_of core.new)) }
     ensures done { IfOk result (λ _. IsDone (state_of core.new)) }
-    ensures spent { IfErr result (λ halt. halt ≡ TurnsSpent → IsTrue desk.old.limited) }
-    ensures same { desk.new.cover.region ≡ desk.old.cover.region }
+    ensures spent { IfErr result (λ halt. halt ≡ TurnsSpent → AreSpent desk.new.limit desk.new.granted) }
+    ensures worked { IfOk result (λ names. EachTook desk.old.limit (length names.items) desk.old.granted
+        desk.new.granted) }
+    ensures same { (desk.new.cover.region ≡ desk.old.cover.region) × (desk.new.limit ≡ desk.old.limit) }
 {
     let mut gleaned = Vec::new(alloc);
     for name in core.waiting_names()? {
@@ -48,8 +51,11 @@ fn glean_one<S: Strategy>(
     requires known { IsWorker (state_of core.old) caller }
     requires of_it { desk.old.cover.region ≡ core.old.region }
     ensures gleans { IfOk result (GleansWhere (state_of core.old) caller name.now (state_of core.new)) }
-    ensures spent { IfErr result (λ halt. halt ≡ TurnsSpent → IsTrue desk.old.limited) }
-    ensures same { (desk.new.cover.region ≡ desk.old.cover.region) × (desk.new.limited ≡ desk.old.limited) }
+    ensures spent { IfErr result (λ halt. halt ≡ TurnsSpent → AreSpent desk.new.limit desk.new.granted) }
+    ensures worked { IfOk result (λ is_closed. IsTrue is_closed
+        → Works desk.old.limit desk.old.granted desk.new.granted) }
+    ensures more { desk.old.granted ≤ desk.new.granted }
+    ensures same { (desk.new.cover.region ≡ desk.old.cover.region) × (desk.new.limit ≡ desk.old.limit) }
 {
     let Some(piece) = core.waiting_piece(name)? else {
         return Ok(false);

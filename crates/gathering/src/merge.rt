@@ -1,9 +1,10 @@
 //! Gathering the results of workers.
-ghost use Rattle.std.specs.Prelude.{◌≡◌, ◌≤◌, ◌<◌, ◌+◌, ◌^◌, length, Contains, IfErr, IfOk, IfSome, IsSome};
+ghost use Rattle.std.specs.Prelude.{◌≡◌, ◌<◌, ◌+◌, ◌^◌, length, Contains, IfErr, IfOk, IfSome};
 ghost use Rattle.std.specs.Arc.{arc_value};
 ghost use Rattle.proof_tree.specs.Shape.{tree_of};
 ghost use Rattle.search_core.specs.Planned.{IsBest};
-ghost use Rattle.gathering.specs.Gathered.{IsGathered, StopsGathering};
+ghost use Rattle.search_core.specs.Turns.{AreSpent, IsWithin};
+ghost use Rattle.gathering.specs.Gathered.{EachTook, IsGathered, StopsGathering};
 
 use crate::fault::PoolFault;
 use crate::gleaning::glean;
@@ -51,7 +52,8 @@ pub fn gather<S: Strategy>(
       gleaned = g.gleaned.items;
     })) }
     ensures best { IfOk result (λ g. IsBest (arc_value region.now) g.cover (tree_of g.proof)) }
-    ensures granted { IfOk result (λ g. IfSome turns (λ limit. g.turns ≤ limit)) }
+    ensures granted { IfOk result (λ g. IsWithin turns g.turns) }
+    ensures worked { IfOk result (λ g. EachTook turns (length g.gleaned.items) 0 g.turns) }
     ensures stopped { IfErr result (StopsGathering (arc_value region.now) turns) }
 {
     let Some(caller) = count_of(&works) else {
@@ -68,11 +70,11 @@ pub fn gather<S: Strategy>(
                 proof,
                 closed_by,
                 gleaned,
-                turns: granted(&desk, turns),
+                turns: desk.granted(),
             }),
             Err(_) => unreachable!(),
         },
-        Err(Halt::TurnsSpent) => Err(stopped(alloc, region, root, desk, turns)?),
+        Err(Halt::TurnsSpent) => Err(stopped(alloc, region, root, desk)?),
         Err(Halt::OutOfMemory) => Err(PoolFault::OutOfMemory),
     }
 }
@@ -93,31 +95,18 @@ fn stopped(
     region: &Arc<Region>,
     root: Cell,
     desk: AloneDesk,
-    turns: Option<u64>,
 ) -> Result<PoolFault, AllocError>
     requires of_it { desk.cover.region ≡ arc_value region.now }
     requires root { Contains (arc_value region.now).cells root }
-    requires limited { IsSome turns }
-    ensures { IfOk result (StopsGathering (arc_value region.now) turns) }
+    requires spent { AreSpent desk.limit desk.granted }
+    ensures { IfOk result (StopsGathering (arc_value region.now) desk.limit) }
 {
     let piece = Piece::root(alloc, region)?;
     let floor = scattered(alloc, &piece)?.len() as u64;
-    let turns = granted(&desk, turns);
+    let turns = desk.granted();
     Ok(PoolFault::Stopped {
         cover: desk.into_cover(),
         floor,
         turns,
     })
-}
-
-/// How many turns the desk granted, at most as many as were given.
-fn granted(desk: &AloneDesk, turns: Option<u64>) -> u64
-    ensures { IfSome turns (λ limit. result ≤ limit) }
-{
-    let granted = desk.granted();
-    match turns {
-        None => granted,
-        Some(limit) if limit < granted => limit,
-        Some(_) => granted,
-    }
 }

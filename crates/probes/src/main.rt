@@ -3,13 +3,14 @@
 //! `PART FILE [TIMES]`, where PART is `cave`, `light`, `reach`, `places`, `cells`, `coverage` or `split`, prints what
 //! the part counts, after doing it so many times; `plan FILE TURNS [RULE]` plans each region alone and prints for each
 //! its cells, its places, the size of the plan (or the range in which it lies) and the lines of its tree. `calls` makes
-//! each call that takes memory on the pillar from standard input. `stored FILE` reads the table of the examples from
-//! the file, takes the largest box through each step, and makes the calls.
+//! each call that takes memory on the pillar from standard input. `stored FILE LIST` reads the table of the examples
+//! from the file and tries each name of the list, takes the largest box through each step, and makes the calls.
 #![tactic(auto)]
 
 mod calls;
 mod facts;
 mod full;
+mod names;
 mod parts;
 mod regions;
 mod table;
@@ -59,8 +60,8 @@ fn run(rt: &HostRuntime, part: &str, path: &str, number: u64, rule: &str) -> Res
 }
 
 /// What the gate compares.
-fn stored(rt: &HostRuntime, path: &str) -> Result<(), Fail> {
-    table::run(rt, path)?;
+fn stored(rt: &HostRuntime, path: &str, list: &str) -> Result<(), Fail> {
+    table::run(rt, path, list)?;
     full::run(rt)?;
     calls::run(rt)
 }
@@ -74,17 +75,18 @@ fn main(rt: HostRuntime) -> Result<(), Fail> {
         Some(path) => path.as_str(),
         None => "",
     };
-    let number = match words.get(3) {
-        Some(word) => word.as_str().parse::<u64>().unwrap_or(1),
-        None => 1,
+    let third = match words.get(3) {
+        Some(word) => word.as_str(),
+        None => "",
     };
+    let number = third.parse::<u64>().unwrap_or(1);
     let rule = match words.get(4) {
         Some(rule) => rule.as_str(),
         None => "",
     };
     match part.as_str() {
         "calls" => calls::run(&rt),
-        "stored" => stored(&rt, path),
+        "stored" => stored(&rt, path, third),
         part => run(&rt, part, path, number, rule),
     }
 }

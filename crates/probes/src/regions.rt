@@ -31,9 +31,9 @@ pub fn found_line(alloc: Global, region: &Arc<Region>, turns: u64) -> Result<Str
     let cells = region.cells().len();
     let places = region.places().len();
     match plan_alone::<Moves>(alloc, region, Some(turns)) {
-        Ok((cover, proof)) => {
-            let lines = lines(alloc, &proof)?;
-            let size = cover.size();
+        Ok(plan) => {
+            let lines = lines(alloc, &plan.proof)?;
+            let size = plan.cover.size();
             format!(in alloc; "{cells} cells, {places} places: {size}, {lines} lines")
         }
         Err(AloneFault::Stopped { cover, floor }) => {

@@ -1,6 +1,6 @@
-//! Reads a table of blocks whole, looks up the states of which the game's facts are known, and looks for a free row
-//! that is dark.
-use crate::facts;
+//! Reads a table of blocks whole, looks up the states of which the game's facts are known and each name of the game's
+//! list, and looks for a free row that is dark.
+use crate::{facts, names};
 use block_rows::Rows;
 use std::alloc::Global;
 use std::fs;
@@ -49,11 +49,12 @@ fn count(rt: &HostRuntime, text: &[u8]) -> Result<(), Fail> {
     Ok(())
 }
 
-/// Prints what was found in the table of the file.
-pub fn run(rt: &HostRuntime, path: &str) -> Result<(), Fail> {
+/// Prints what was found in the table of the file, the names by the list in the other.
+pub fn run(rt: &HostRuntime, path: &str, list: &str) -> Result<(), Fail> {
     let text = fs::read(rt, path)?;
     let rows = Rows::with_table(rt.alloc(), &text)?;
     println!(rt; "read whole")?;
     look_up(rt, &rows)?;
+    names::run(rt, &rows, list)?;
     count(rt, &text)
 }

@@ -132,9 +132,13 @@ const USAGE: [Row; 2] = [
         said: [1, 0, 0, 0],
         is_done: false,
     },
-    // Help.
+    // Help, and the version.
     Row {
-        lines: &["torchplan --help", "torchplan plan --help"],
+        lines: &[
+            "torchplan --help",
+            "torchplan plan --help",
+            "torchplan --version",
+        ],
         status: 0,
         said: [1, 0, 0, 0],
         is_done: false,

@@ -2,6 +2,7 @@
 
 use clap::Error;
 use std::alloc::Global;
+use std::io::{self, Read};
 use std::sync::atomic::{AtomicU64, Ordering};
 use torch_plan::{RunFault, System};
 
@@ -45,24 +46,40 @@ impl<'a> Shelf<'a> {
     }
 }
 
-impl<'a> System for Shelf<'a> {
-    type File = &'a [u8];
+/// A file in memory, of whose bytes nothing is known to contracts, as of those of a host.
+#[derive(Drop)]
+pub struct MemoryFile<'a> {
+    bytes: &'a [u8],
+}
 
-    type Standard = &'a [u8];
+impl Read for MemoryFile<'_> {
+    fn read(&mut self, buffer: &mut [u8]) -> io::Result<usize> {
+        self.bytes.read(buffer)
+    }
+}
+
+impl<'a> System for Shelf<'a> {
+    ghost use Rattle.std.specs.Prelude.{None};
+
+    ghost sources = { λ _. record { files = λ _. None; input = None } };
+
+    type File = MemoryFile<'a>;
+
+    type Standard = MemoryFile<'a>;
 
     type Kept = Vec<u8>;
 
-    fn open(&self, path: &str) -> Option<&'a [u8]> {
+    fn open(&self, path: &str) -> Option<MemoryFile<'a>> {
         for (name, bytes) in self.files {
             if *name == path {
-                return Some(*bytes);
+                return Some(MemoryFile { bytes: *bytes });
             }
         }
         None
     }
 
-    fn standard(&self) -> &'a [u8] {
-        self.input
+    fn standard(&self) -> MemoryFile<'a> {
+        MemoryFile { bytes: self.input }
     }
 
     fn create(&self, path: &str) -> Option<Vec<u8>> {

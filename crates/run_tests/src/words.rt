@@ -106,7 +106,7 @@ fn headroom_1_and_a_table_are_both_kept(rt: HostRuntime) -> Result<(), Fail> {
     Ok(())
 }
 
-const MISTAKES: [&str; 22] = [
+const MISTAKES: [&str; 21] = [
     "torchplan dark --headroom 3 -",
     "torchplan dark --headroom 0 -",
     "torchplan dark - --headroom 0 --table t",
@@ -126,7 +126,6 @@ const MISTAKES: [&str; 22] = [
     "torchplan check --headroom 0 - out.proof",
     "torchplan check - out.proof --headroom 0 --table t",
     "torchplan check - out --turns 1",
-    "torchplan --version",
     "torchplan draw -",
     "torchplan",
 ];
@@ -145,5 +144,23 @@ fn other_words_are_mistakes_in_usage(rt: HostRuntime) -> Result<(), Fail> {
     }
     let words = words_of(alloc, "torchplan --help")?;
     assert!(rt; matches!(request_of(alloc, &words), Err(error) if !error.use_stderr()));
+    Ok(())
+}
+
+#[test]
+fn version_names_the_toolchain_that_it_was_proved_with(rt: HostRuntime) -> Result<(), Fail> {
+    let alloc = rt.alloc();
+    let words = words_of(alloc, "torchplan --version")?;
+    match request_of(alloc, &words) {
+        Ok(_) => assert!(rt; false, "it asks for a run"),
+        Err(error) => {
+            assert!(rt; !error.use_stderr());
+            let said = format!(in alloc; "{error}")?;
+            assert_eq!(rt;
+                said.as_str(),
+                "torchplan 0.5.0 (proved with rattle-kit-13f)\n"
+            );
+        }
+    }
     Ok(())
 }

@@ -1,2 +1,3 @@
 pub mod AloneLemmas
 pub mod PieceLemmas
+pub mod TurnLemmas

@@ -72,9 +72,9 @@ impl Desk for AimedDesk {
 
     ghost accepted = { λ d. d.desk.accepted };
 
-    ghost refused = { λ d. d.desk.refused };
+    ghost granted = { λ d. d.desk.granted };
 
-    ghost limited = { λ d. d.desk.limited };
+    ghost limit = { λ d. d.desk.limit };
 
     ghost region = { λ d. d.desk.cover.region };
 

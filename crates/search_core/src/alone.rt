@@ -1,11 +1,21 @@
 //! The desk of a search alone.
-ghost use Rattle.std.specs.Prelude.{◌≡◌, is_some, length};
+ghost use Rattle.std.specs.Prelude.{◌≡◌, length};
 ghost use Rattle.search_core.specs.Alone.{IsKept};
+ghost use Rattle.search_core.specs.Turns.{IsWithin};
 
 use crate::desk::Desk;
 use cave_model::OutOfMemory;
 use cave_regions::Cover;
+use proof_tree::Proof;
 use std::marker::Model;
+
+/// A cover, a tree, and how many turns were granted.
+#[derive(Drop)]
+pub struct BestPlan {
+    pub cover: Cover,
+    pub proof: Proof,
+    pub turns: u64,
+}
 
 /// It keeps the smallest cover that it was offered, and counts turns.
 #[derive(Drop)]
@@ -13,14 +23,12 @@ pub struct AloneDesk {
     cover: Cover,
     shown: u64,
     accepted: Option<u64>,
-    turns: Option<u64>,
-    /// How many turns were granted.
+    /// How many turns are granted, or any number of them.
+    limit: Option<u64>,
     granted: u64,
-    refused: bool,
 }
 
 impl Model for AloneDesk {
-    ghost use Rattle.std.specs.Prelude.{is_some};
     ghost use Rattle.search_core.specs.Alone.{Alone, alone_coded, IsKept};
 
     ghost Value = { Alone };
@@ -31,16 +39,16 @@ impl Model for AloneDesk {
       cover = d.cover;
       shown = d.shown;
       accepted = d.accepted;
-      refused = d.refused;
-      limited = is_some d.turns;
+      limit = d.limit;
+      granted = d.granted;
     } };
 
     ghost invariant = { λ d. IsKept (record {
       cover = d.cover;
       shown = d.shown;
       accepted = d.accepted;
-      refused = d.refused;
-      limited = is_some d.turns;
+      limit = d.limit;
+      granted = d.granted;
     }) };
 }
 
@@ -48,16 +56,15 @@ impl AloneDesk {
     /// A desk that begins with a cover, and grants so many turns, or any number of them.
     pub fn new(cover: Cover, turns: Option<u64>) -> AloneDesk
         ensures cover { result.cover ≡ cover }
-        ensures limited { result.limited ≡ is_some turns }
+        ensures turns { (result.limit ≡ turns) × (result.granted ≡ 0) }
     {
         let shown = cover.size();
         AloneDesk {
             cover,
             shown,
             accepted: None,
-            turns,
+            limit: turns,
             granted: 0,
-            refused: false,
         }
     }
 
@@ -70,7 +77,10 @@ impl AloneDesk {
     }
 
     /// How many turns were granted. The count stops at the greatest number that it holds.
-    pub fn granted(&self) -> u64 {
+    pub fn granted(&self) -> u64
+        ensures count { result ≡ self.now.granted }
+        ensures within { IsWithin self.now.limit result }
+    {
         self.granted
     }
 
@@ -79,6 +89,19 @@ impl AloneDesk {
         ensures { result ≡ length self.now.cover.places }
     {
         self.cover.size()
+    }
+
+    /// The smallest cover with this tree, and how many turns were granted.
+    pub(crate) fn into_plan(self, proof: Proof) -> BestPlan
+        ensures plan { (result.cover ≡ self.cover) × (result.proof ≡ proof) × (result.turns ≡ self.granted) }
+        ensures kept { IsKept self }
+    {
+        let turns = self.granted;
+        BestPlan {
+            cover: self.into_cover(),
+            proof,
+            turns,
+        }
     }
 
     /// The smallest cover.
@@ -90,9 +113,8 @@ impl AloneDesk {
             cover,
             shown: _,
             accepted: _,
-            turns: _,
+            limit: _,
             granted: _,
-            refused: _,
         } = self;
         cover
     }
@@ -103,9 +125,9 @@ impl Desk for AloneDesk {
 
     ghost accepted = { λ d. d.accepted };
 
-    ghost refused = { λ d. d.refused };
+    ghost granted = { λ d. d.granted };
 
-    ghost limited = { λ d. d.limited };
+    ghost limit = { λ d. d.limit };
 
     ghost region = { λ d. d.cover.region };
 
@@ -127,16 +149,12 @@ impl Desk for AloneDesk {
     }
 
     fn enter(&mut self) -> bool {
-        match self.turns {
-            None => {}
-            Some(0) => {
-                self.refused = true;
-                return false;
+        match self.limit {
+            Some(limit) if self.granted >= limit => false,
+            _ => {
+                self.granted = self.granted.saturating_add(1);
+                true
             }
-            Some(turns) => self.turns = Some(turns - 1),
         }
-        self.granted = self.granted.saturating_add(1);
-        self.refused = false;
-        true
     }
 }

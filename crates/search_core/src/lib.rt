@@ -19,7 +19,7 @@ mod proposer;
 mod rounds;
 mod steps;
 
-pub use alone::AloneDesk;
+pub use alone::{AloneDesk, BestPlan};
 pub use beginning::{Beginning, begin};
 pub use carrying::{carried_cover, carried_plan, core_region};
 pub use desk::Desk;

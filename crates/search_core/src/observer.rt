@@ -1,4 +1,5 @@
 //! Who is told how a search gets on.
+ghost use Rattle.std.specs.Prelude.{◌≤◌};
 
 use proof_tree::Name;
 use std::marker::{Send, Sync};
@@ -7,7 +8,9 @@ use std::marker::{Send, Sync};
 /// back in it.
 pub trait Observer: Sync {
     /// The region with this number, from 1, of so many is planned next.
-    fn region(&self, _number: usize, _count: usize) {}
+    fn region(&self, _number: usize, _count: usize)
+        requires { (1 ≤ _number) × (_number ≤ _count) }
+    {}
 
     /// A node is worked on. The smallest cover had so many places as the round began, and it is proved, if the round
     /// comes to its end, that no cover has fewer than these.

@@ -2,3 +2,4 @@ pub mod CrewLemmas
 pub mod ReportLemmas
 pub mod SlotLemmas
 pub mod StartLemmas
+pub mod TurnLemmas

@@ -1,11 +1,12 @@
 -- What a report of many workers tells. This is this project's own.
-use Rattle.std.specs.Prelude.{◌≡◌, ◌≤◌, ◌⊎◌, ℕ, ◌+◌, List, [], ◌∷◌, length, replicate, Option, IfSome}
+use Rattle.std.specs.Prelude.{◌≡◌, ◌≤◌, ◌⊎◌, ℕ, ◌+◌, List, [], ◌∷◌, length, replicate, Option}
 use Rattle.set_cover.specs.Instance.{Instance}
 use Rattle.cave_regions.specs.Cover.{Covering}
 use Rattle.proof_tree.specs.Shape.{tree_of}
 use Rattle.proof_tree.specs.Opened.{Split}
 use Rattle.proof_tree.specs.Piece.{Subproblem}
-use Rattle.search_core.specs.Planned.{IsStopped}
+use Rattle.search_core.specs.Planned.{IsLeaf, IsStopped}
+use Rattle.search_core.specs.Turns.{IsWithin}
 use Rattle.schedule_law.specs.Joined.{all_back, all_kids, all_opened}
 use Rattle.schedule_law.specs.Worked.{IsCoverFor, Worked}
 use Rattle.gathering.specs.Gathered.{IsGathered}
@@ -27,10 +28,16 @@ pub record AddsUp (report : Report) : Type 0 where
   pub whole : sum_of report.closed_by.items + report.gleaned + report.opened ≡ report.pushed
   pub gleaned_few : report.gleaned ≤ report.left + report.handed_back
 
--- no worker closed a piece, none was pushed, and no turns were granted, as where one leaf closes the root
+-- one leaf closes the root: no worker closed a piece, none was pushed, opened, gleaned, left or handed back, and no
+-- turns were granted
 pub record IsOneLeaf (workers : ℕ) (report : Report) : Type 0 where
+  pub is_leaf : IsLeaf (tree_of report.proof)
   pub none_closed : report.closed_by.items ≡ replicate workers 0
   pub none_pushed : report.pushed ≡ 0
+  pub none_opened : report.opened ≡ 0
+  pub none_gleaned : report.gleaned ≡ 0
+  pub none_left : report.left ≡ 0
+  pub none_back : report.handed_back ≡ 0
   pub no_turns : report.turns ≡ 0
 
 -- the numbers are those of what workers handed over; the names are those of the pieces that the caller closed
@@ -67,6 +74,6 @@ IsReport region workers report = IsOneLeaf workers report ⊎ IsMerged region wo
 -- turns ran out, of which at most those that were given were granted
 abbrev pub StopsPool : Instance → Option ℕ → PoolFault → Type 0
 StopsPool region turns (Stopped cover floor granted) =
-    IsStopped region turns cover floor × IfSome turns (λ limit. granted ≤ limit)
+    IsStopped region turns cover floor × IsWithin turns granted
 StopsPool region turns NoThread = Unit {0}
 StopsPool region turns OutOfMemory = Unit {0}

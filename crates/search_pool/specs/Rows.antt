@@ -1,8 +1,50 @@
--- The results of workers in a row. This is this project's own.
-use Rattle.std.specs.Prelude.{◌≡◌, ℕ, ◌+◌, List, [], ◌∷◌}
+-- The results of workers in a row, and the turns that they share. This is this project's own.
+use Rattle.std.specs.Prelude.{◌≡◌, ◌≤◌, ℕ, ◌+◌, ◌-◌, ◌*◌, ◌^◌, Bool, false, ◌||◌, min, List, [], ◌∷◌, length, All}
+use Rattle.std.specs.Prelude.{Option, Some, None}
 use Rattle.worker_results.specs.Results.{Handed}
+use Rattle.worker_results.specs.Spendings.{IsSpending}
 
--- they are of the workers from this number on
-abbrev pub AreFrom : ℕ → List Handed → Type 0
-AreFrom first [] = Unit {0}
-AreFrom first (handed ∷ rest) = (handed.share.worker ≡ first) × AreFrom (first + 1) rest
+-- they are of the workers from this number on; the first one had these turns, each other one those
+abbrev pub AreFrom : ℕ → Option ℕ → Option ℕ → List Handed → Type 0
+AreFrom first own each [] = Unit {0}
+AreFrom first own each (handed ∷ rest) = (handed.share.worker ≡ first) × (handed.turns.limit ≡ own)
+    × AreFrom (first + 1) each each rest
+
+-- the turns of the first of so many workers and of each other one add up to all turns, as even as can be but for what
+-- is left over, which the first one has
+abbrev pub AreShares : Option ℕ → ℕ → Option ℕ → Option ℕ → Type 0
+AreShares None workers own each = (own ≡ None) × (each ≡ None)
+AreShares (Some limit) workers None each = ⊥
+AreShares (Some limit) workers (Some own) None = ⊥
+AreShares (Some limit) workers (Some own) (Some each) = (own + (workers - 1) * each ≡ limit) × (each ≤ own)
+    × (own ≤ each + (workers - 1))
+
+-- results of workers in order, whose limits are shares of these turns
+pub record AreOfShares (turns : Option ℕ) (results : List Handed) : Type 0 where
+  pub own : Option ℕ
+  pub each : Option ℕ
+  pub shares : AreShares turns (length results) own each
+  pub row : AreFrom 0 own each results
+
+-- each granted no more than its limit, and all of it where more were asked for
+abbrev pub AreSpendings : List Handed → Type 0
+AreSpendings results = All (λ handed. IsSpending handed.turns) results
+
+-- how many turns workers were granted together
+abbrev pub all_granted : List Handed → ℕ
+all_granted [] = 0
+all_granted (handed ∷ rest) = handed.turns.granted + all_granted rest
+
+-- whether one of them asked for more
+abbrev pub is_spent : List Handed → Bool
+is_spent [] = false
+is_spent (handed ∷ rest) = handed.turns.is_spent || is_spent rest
+
+-- whether one of them was started
+abbrev pub is_started : List Handed → Bool
+is_started [] = false
+is_started (handed ∷ rest) = handed.turns.was_started || is_started rest
+
+-- a sum as far as 64 bits count
+abbrev pub counted : ℕ → ℕ
+counted sum = min sum (2 ^ 64 - 1)

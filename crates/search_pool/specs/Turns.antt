@@ -1,9 +1,8 @@
 -- The turns that are left after workers ran. This is this project's own.
-use Rattle.std.specs.Prelude.{◌≤◌, ℕ, ◌+◌, Option, Some, None}
+use Rattle.std.specs.Prelude.{ℕ, ◌-◌, Bool, true, false, Option, Some, None}
 
--- no limit where there was none, else at most what these turns leave of it
-abbrev pub AreLeft : Option ℕ → ℕ → Option ℕ → Type 0
-AreLeft None granted None = Unit {0}
-AreLeft None granted (Some rest) = ⊥
-AreLeft (Some limit) granted None = ⊥
-AreLeft (Some limit) granted (Some rest) = granted + rest ≤ limit
+-- no limit where there was none, else what these turns leave of it, and nothing where a worker asked for more
+abbrev pub left : Option ℕ → ℕ → Bool → Option ℕ
+left None granted spent = None
+left (Some limit) granted true = Some 0
+left (Some limit) granted false = Some (limit - granted)

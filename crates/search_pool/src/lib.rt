@@ -2,17 +2,16 @@
 #![tactic(auto)]
 
 mod deques;
-mod ended;
 mod merging;
 mod piece_counts;
 mod planning;
 mod pool;
 mod report;
 mod run;
-mod separating;
 mod slots;
 mod starting;
 mod stock;
+mod turns;
 mod unrun;
 mod worker;
 mod workers;

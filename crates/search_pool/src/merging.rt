@@ -1,5 +1,5 @@
 //! What the results of workers merge to, with the caller's own work.
-ghost use Rattle.std.specs.Prelude.{◌≡◌, ◌≤◌, ◌<◌, ◌+◌, ◌^◌, IfErr, IfOk, IfSome, length};
+ghost use Rattle.std.specs.Prelude.{◌≡◌, ◌≤◌, ◌<◌, ◌+◌, ◌^◌, IfErr, IfOk, length};
 ghost use Rattle.std.specs.Arc.{arc_value};
 ghost use Rattle.worker_results.specs.Joining.{IsRootSplit};
 ghost use Rattle.proof_tree.specs.Shape.{tree_of};
@@ -7,11 +7,13 @@ ghost use Rattle.schedule_law.specs.Worked.{IsCoverFor};
 ghost use Rattle.search_core.specs.Planned.{IsBest, IsFloor};
 ghost use Rattle.search_pool.specs.Reports.{AddsUp, IsMerged, StopsPool};
 ghost use Rattle.search_pool.specs.Runs.{IsRun};
-ghost use Rattle.search_pool.specs.Turns.{AreLeft};
+ghost use Rattle.search_core.specs.Turns.{IsWithin};
+ghost use Rattle.search_pool.specs.Rows.{counted};
 
-use crate::piece_counts::{PieceCounts, counted};
+use crate::piece_counts::{PieceCounts, count_pieces};
 use crate::pool::Ran;
 use crate::report::Report;
+use crate::turns::left_of;
 use crate::workers::Workers;
 use cave_regions::{Cover, Region};
 use gathering::{Gathered, PoolFault, gather};
@@ -38,21 +40,21 @@ pub(crate) fn merged<S: Strategy>(
     requires root { IsRootSplit (arc_value region.now) root.now }
     requires run { IsRun (arc_value region.now) first.places root.now workers.number
         ran.joined.works.items ran.joined.left.items }
+    requires turns { IsWithin turns ran.turns }
     ensures best { IfOk result (λ report. IsBest (arc_value region.now) report.cover (tree_of report.proof)) }
     ensures counts { IfOk result AddsUp }
     ensures report { IfOk result (IsMerged (arc_value region.now) workers.number) }
-    ensures granted { IfOk result (λ report. IfSome turns (λ limit. report.turns ≤ limit)) }
+    ensures granted { IfOk result (λ report. IsWithin turns report.turns) }
     ensures stopped { IfErr result (StopsPool (arc_value region.now) turns) }
 {
     let Ran {
         joined,
-        turns: taken,
+        turns: granted,
         spent,
     } = ran;
     let Joined { works, left } = joined;
-    let counts = counted(&works);
+    let counts = count_pieces(&works);
     let left = left.len() as u128;
-    let granted = within(turns, taken);
     let rest = left_of(turns, granted, spent);
     match gather::<S>(alloc, region, first, root.cell(), works, rest) {
         Ok(gathered) => Ok(report(gathered, counts, left, granted)),
@@ -71,31 +73,9 @@ pub(crate) fn merged<S: Strategy>(
     }
 }
 
-/// The turns granted, at most as many as the limit.
-fn within(turns: Option<u64>, granted: u64) -> u64
-    ensures { IfSome turns (λ limit. result ≤ limit) }
-{
-    match turns {
-        Some(limit) if limit < granted => limit,
-        _ => granted,
-    }
-}
-
-/// The turns that are left where so many were granted, none where a share was used up.
-fn left_of(turns: Option<u64>, granted: u64, spent: bool) -> Option<u64>
-    requires { IfSome turns (λ limit. granted ≤ limit) }
-    ensures { AreLeft turns granted result }
-{
-    match turns {
-        None => None,
-        Some(_) if spent => Some(0),
-        Some(limit) => Some(limit - granted),
-    }
-}
-
 /// The turns of both, or the greatest number.
 fn sum(granted: u64, more: u64) -> u64
-    ensures { result ≤ granted + more }
+    ensures { result ≡ counted (granted + more) }
 {
     granted.saturating_add(more)
 }
@@ -111,7 +91,7 @@ fn report(gathered: Gathered, counts: PieceCounts, left: u128, granted: u64) -> 
     ensures numbers { (result.opened ≡ counts.opened) × (result.handed_back ≡ counts.held + counts.refused)
         × (result.left ≡ left) }
     ensures gleaned { result.gleaned + counts.refused ≡ length gathered.gleaned.items }
-    ensures turns { result.turns ≤ granted + gathered.turns }
+    ensures turns { result.turns ≡ counted (granted + gathered.turns) }
 {
     Report {
         gleaned: gathered.gleaned.len() as u128 - counts.refused,

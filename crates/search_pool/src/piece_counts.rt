@@ -15,7 +15,7 @@ pub(crate) struct PieceCounts {
 }
 
 /// Counts the pieces of the works.
-pub(crate) fn counted(works: &[Work]) -> PieceCounts
+pub(crate) fn count_pieces(works: &[Work]) -> PieceCounts
     requires few { length works.now ≤ 64 }
     ensures counted { AreTallied works.now result }
     ensures most { (result.closed ≤ length works.now * 2 ^ 64) × (result.opened ≤ length works.now * 2 ^ 64)
@@ -29,7 +29,7 @@ pub(crate) fn counted(works: &[Work]) -> PieceCounts
             refused: 0,
         };
     };
-    let others = counted(rest);
+    let others = count_pieces(rest);
     PieceCounts {
         closed: others.closed + work.closed.len() as u128,
         opened: others.opened + work.opened.len() as u128,

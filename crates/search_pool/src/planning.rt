@@ -1,9 +1,10 @@
 //! Planning a region with many workers.
-ghost use Rattle.std.specs.Prelude.{◌≡◌, ◌≤◌, Contains, IfErr, IfOk, IfSome, length, replicate};
+ghost use Rattle.std.specs.Prelude.{◌≡◌, ◌≤◌, Contains, IfErr, IfOk, length, replicate};
 ghost use Rattle.std.specs.Arc.{arc_value};
 ghost use Rattle.worker_results.specs.Joining.{IsRootSplit};
 ghost use Rattle.proof_tree.specs.Shape.{tree_of};
-ghost use Rattle.search_core.specs.Planned.{IsBest, ProvesAt};
+ghost use Rattle.search_core.specs.Planned.{IsBest, IsLeaf, ProvesAt};
+ghost use Rattle.search_core.specs.Turns.{IsWithin};
 ghost use Rattle.search_pool.specs.Reports.{AddsUp, IsOneLeaf, IsReport, StopsPool};
 
 use crate::merging::merged;
@@ -34,7 +35,7 @@ pub fn plan_with<S: Strategy + Send + Sync, R: Threads + Wait + Sync, O: Observe
     ensures best { IfOk result (λ report. IsBest (arc_value region.now) report.cover (tree_of report.proof)) }
     ensures counts { IfOk result AddsUp }
     ensures report { IfOk result (IsReport (arc_value region.now) workers.number) }
-    ensures granted { IfOk result (λ report. IfSome turns (λ limit. report.turns ≤ limit)) }
+    ensures granted { IfOk result (λ report. IsWithin turns report.turns) }
     ensures stopped { IfErr result (StopsPool (arc_value region.now) turns) }
 {
     let begun = begin::<S>(alloc, region)?;
@@ -69,6 +70,7 @@ pub fn plan_with<S: Strategy + Send + Sync, R: Threads + Wait + Sync, O: Observe
 fn one_leaf(alloc: Global, begun: Beginning, workers: Workers) -> Result<Report, AllocError>
     requires enough { length begun.cover.places ≤ begun.floor }
     requires leaf { ProvesAt begun.cover.region begun.floor (tree_of begun.leaf) }
+    requires plain { IsLeaf (tree_of begun.leaf) }
     ensures best { IfOk result (λ report. IsBest begun.cover.region report.cover (tree_of report.proof)) }
     ensures counts { IfOk result AddsUp }
     ensures leaf { IfOk result (IsOneLeaf workers.number) }

@@ -5,12 +5,13 @@ ghost use Rattle.beacon.specs.Marks.{at_first};
 ghost use Rattle.proof_tree.specs.Opened.{kids_of};
 ghost use Rattle.worker_results.specs.Naming.{AreThieves};
 ghost use Rattle.worker_results.specs.Joining.{IsRootSplit, StartWith};
+ghost use Rattle.search_core.specs.Turns.{IsWithin};
 ghost use Rattle.search_pool.specs.Runs.{IsRun};
 ghost use Rattle.search_pool.specs.Slots.{AreOwners};
 
 use crate::run::run_scope;
-use crate::separating::separate;
 use crate::slots::{fill, hand_out, owned, split_seats};
+use crate::turns::{is_any_started, spent_by};
 use crate::unrun::Unrun;
 use crate::worker::Shared;
 use crate::workers::Workers;
@@ -94,8 +95,9 @@ pub(crate) fn run_named<
     requires owners { AreOwners B.deque B.start 0 owners.items }
     requires root { IsRootSplit B.region run.root.now }
     requires start { StartWith B.start B.workers (kids_of run.root.now) }
-    ensures { IfOk result (λ ran. IsRun B.region run.entry.best.now.places run.entry.root.now run.entry.workers.number
-        ran.joined.works.items ran.joined.left.items) }
+    ensures run { IfOk result (λ ran. IsRun B.region run.entry.best.now.places run.entry.root.now
+        run.entry.workers.number ran.joined.works.items ran.joined.left.items) }
+    ensures turns { IfOk result (λ ran. IsWithin run.entry.turns ran.turns) }
 {
     let alloc = run.alloc;
     let owned = owned::<B>(alloc, owners)?;
@@ -112,7 +114,7 @@ pub(crate) fn run_named<
             run.workers.number,
         ),
     };
-    let ended = run_scope::<B, S, R, O>(
+    let results = run_scope::<B, S, R, O>(
         run.rt,
         alloc,
         shared,
@@ -120,11 +122,14 @@ pub(crate) fn run_named<
         run.observer,
         run.turns,
     )?;
-    let separated = separate(alloc, ended)?;
-    let joined = close_up(alloc, beacon, seats.first, run.best, separated.results)?;
+    if !is_any_started(&results) {
+        return Err(Unrun::NoThread);
+    }
+    let (turns, spent) = spent_by(&results);
+    let joined = close_up(alloc, beacon, seats.first, run.best, results)?;
     Ok(Ran {
         joined,
-        turns: separated.turns,
-        spent: separated.spent,
+        turns,
+        spent,
     })
 }

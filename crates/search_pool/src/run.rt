@@ -2,9 +2,9 @@
 ghost use Rattle.std.specs.Prelude.{◌≡◌, ◌≤◌, ◌<◌, ◌+◌, ◌^◌, ◌∷◌, IfOk, IfSome, IsTrue, length};
 ghost use Rattle.std.specs.Arc.{arc_value};
 ghost use Rattle.worker_results.specs.Naming.{AreThieves};
-ghost use Rattle.search_pool.specs.Rows.{AreFrom};
+ghost use Rattle.search_pool.specs.Rows.{AreFrom, AreOfShares};
 
-use crate::ended::Ended;
+use crate::turns::shares_of;
 use crate::unrun::Unrun;
 use crate::worker::{Shared, Slot, work_one};
 use search_core::{Observer, Strategy};
@@ -12,40 +12,32 @@ use std::alloc::Global;
 use std::sync::Wait;
 use std::thread;
 use std::thread::{Promise, Scope, Threads};
-use worker_results::Naming;
+use worker_results::{Done, Naming};
 
-/// The promise that a result is of this worker.
+/// The promise that a result is of this worker, which had so many turns or any number of them.
 #[derive(Clone, Copy)]
-struct IsOf(u32);
+struct IsOf {
+    worker: u32,
+    turns: Option<u64>,
+}
 
-impl<B: Naming> Promise<Option<Ended<B>>> for IsOf {
+impl<B: Naming> Promise<Option<Done<B>>> for IsOf {
     ghost use Rattle.std.specs.Prelude.{◌≡◌, IfSome};
 
-    ghost kept_by = { λ p r. IfSome r (λ ended. ended.share.worker ≡ p.0) };
+    ghost kept_by = { λ p r. IfSome r (λ done.
+        (done.share.worker ≡ p.worker) × (done.turns.limit ≡ p.turns)) };
 }
 
 /// The result, with the others after it.
-fn in_front<B: Naming>(ended: Ended<B>, mut others: Vec<Ended<B>>) -> Result<Vec<Ended<B>>, Unrun>
-    ensures { IfOk result (λ all. all.items ≡ ended ∷ others.items) }
+fn in_front<B: Naming>(done: Done<B>, mut others: Vec<Done<B>>) -> Result<Vec<Done<B>>, Unrun>
+    ensures { IfOk result (λ all. all.items ≡ done ∷ others.items) }
 {
-    others.insert(0, ended)?;
+    others.insert(0, done)?;
     Ok(others)
 }
 
-/// The turns of a worker where all workers share so many: those that are left over go to the first ones.
-fn share_of(turns: Option<u64>, workers: u32, worker: u32) -> Option<u64> {
-    match turns {
-        None => None,
-        Some(limit) => {
-            let workers = u64::from(workers.max(1));
-            let more = u64::from(u64::from(worker) < limit % workers);
-            Some(limit / workers + more)
-        }
-    }
-}
-
-/// Starts a worker for each slot, one after another, and joins them, the last first. A worker that can't be started
-/// gives an idle result.
+/// Starts a worker for each slot, one after another, and joins them, the last first. The first one has its own turns,
+/// the others have each the same. A worker that can't be started gives an idle result.
 pub(crate) fn run_from<
     's,
     'e,
@@ -61,24 +53,25 @@ pub(crate) fn run_from<
     slots: &'e [Slot<B>],
     observer: &'e O,
     worker: u32,
-    workers: u32,
-    turns: Option<u64>,
-) -> Result<Vec<Ended<B>>, Unrun>
+    own: Option<u64>,
+    each: Option<u64>,
+) -> Result<Vec<Done<B>>, Unrun>
     requires ground { (shared.beacon.now ≡ B.beacon) × (arc_value shared.region.now ≡ B.region)
         × AreThieves B.deque 0 shared.thieves.now }
     requires few { worker + length slots.now ≤ 64 }
-    ensures each { IfOk result (λ all. AreFrom worker all.items × (length all.items ≡ length slots.now)) }
+    ensures each { IfOk result (λ all. AreFrom worker own each all.items
+        × (length all.items ≡ length slots.now)) }
 {
     let Some((slot, rest)) = slots.split_first() else {
         return Ok(Vec::new(alloc));
     };
-    let own_turns = share_of(turns, workers, worker);
-    let work = move || -> Option<Ended<B>>
+    let work = move || -> Option<Done<B>>
         requires { (shared.beacon.now ≡ B.beacon) × (arc_value shared.region.now ≡ B.region)
             × AreThieves B.deque 0 shared.thieves.now }
-        ensures { IfSome result (λ ended. ended.share.worker ≡ worker) }
-    { work_one::<B, S, R, O>(rt, alloc, shared, slot, observer, worker, own_turns) };
-    match scope.spawn_with(IsOf(worker), work) {
+        ensures { IfSome result (λ done. (done.share.worker ≡ worker) × (done.turns.limit ≡ own)) }
+    { work_one::<B, S, R, O>(rt, alloc, shared, slot, observer, worker, own) };
+    let promise = IsOf { worker, turns: own };
+    match scope.spawn_with(promise, work) {
         Ok(child) => {
             let others = run_from::<B, S, R, O>(
                 scope,
@@ -88,13 +81,13 @@ pub(crate) fn run_from<
                 rest,
                 observer,
                 worker + 1,
-                workers,
-                turns,
+                each,
+                each,
             )?;
-            let Some(ended) = child.join(rt) else {
+            let Some(done) = child.join(rt) else {
                 return Err(Unrun::NoThread);
             };
-            in_front(ended, others)
+            in_front(done, others)
         }
         Err(_) => {
             let Some(berth) = slot.lock(rt).take() else {
@@ -111,15 +104,15 @@ pub(crate) fn run_from<
                 rest,
                 observer,
                 worker + 1,
-                workers,
-                turns,
+                each,
+                each,
             )?;
-            in_front(Ended::idle(berth.idle()), others)
+            in_front(berth.idle(own), others)
         }
     }
 }
 
-/// Starts a worker for each slot, and joins them.
+/// Starts a worker for each slot, and joins them. Together they have all turns, or any number of them.
 pub(crate) fn run_scope<
     B: Naming + Send + Sync,
     S: Strategy + Send + Sync,
@@ -132,38 +125,46 @@ pub(crate) fn run_scope<
     slots: &[Slot<B>],
     observer: &O,
     turns: Option<u64>,
-) -> Result<Vec<Ended<B>>, Unrun>
+) -> Result<Vec<Done<B>>, Unrun>
     requires ground { (shared.beacon.now ≡ B.beacon) × (arc_value shared.region.now ≡ B.region)
         × AreThieves B.deque 0 shared.thieves.now }
+    requires some { 0 < length slots.now }
     requires few { length slots.now ≤ 64 }
-    ensures { IfOk result (λ all. AreFrom 0 all.items × (length all.items ≡ length slots.now)) }
+    ensures { IfOk result (λ all. AreOfShares turns all.items × (length all.items ≡ length slots.now)) }
 {
-    let workers = slots.len() as u32;
+    let (own, each) = shares_of(turns, slots.len() as u32);
     let results = thread::scope(
         thread::scope_env(),
         rt,
-        |scope| -> Result<Vec<Ended<B>>, Unrun>
+        |scope| -> Result<Vec<Done<B>>, Unrun>
             requires ground { (shared.beacon.now ≡ B.beacon) × (arc_value shared.region.now ≡ B.region)
                 × AreThieves B.deque 0 shared.thieves.now }
             requires few { length slots.now ≤ 64 }
-            ensures row { IfOk result (λ all. AreFrom 0 all.items) }
+            ensures row { IfOk result (λ all. AreFrom 0 own each all.items) }
             ensures len { IfOk result (λ all. length all.items ≡ length slots.entry.now) }
-        { run_from::<B, S, R, O>(scope, rt, alloc, shared, slots, observer, 0, workers, turns) },
+        { run_from::<B, S, R, O>(scope, rt, alloc, shared, slots, observer, 0, own, each) },
     )?;
     // What the closure ensures isn't known here, so it is tested.
-    if results.len() != slots.len() || !are_from(results.as_slice(), 0) {
+    if results.len() != slots.len() || !are_from(results.as_slice(), 0, own, each) {
         return Err(Unrun::NoThread);
     }
     Ok(results)
 }
 
-/// Whether they are of the workers from this number on.
-fn are_from<B: Naming>(results: &[Ended<B>], worker: u64) -> bool
+/// Whether they are of the workers from this number on, and had these turns.
+fn are_from<B: Naming>(
+    results: &[Done<B>],
+    worker: u64,
+    own: Option<u64>,
+    each: Option<u64>,
+) -> bool
     requires { worker + length results.now < 2 ^ 64 }
-    ensures { IsTrue result → AreFrom worker results.now }
+    ensures { IsTrue result → AreFrom worker own each results.now }
 {
-    match results.split_first() {
-        None => true,
-        Some((first, rest)) => u64::from(first.worker()) == worker && are_from(rest, worker + 1),
-    }
+    let Some((first, rest)) = results.split_first() else {
+        return true;
+    };
+    u64::from(first.worker()) == worker
+        && first.turns().limit == own
+        && are_from(rest, worker + 1, each, each)
 }

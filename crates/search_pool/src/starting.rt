@@ -5,6 +5,7 @@ ghost use Rattle.beacon.specs.Marks.{at_first};
 ghost use Rattle.proof_tree.specs.Opened.{kids_of};
 ghost use Rattle.worker_results.specs.Joining.{IsRootSplit, StartWith};
 ghost use Rattle.search_pool.specs.Deques.{deque_at, pushed_at};
+ghost use Rattle.search_core.specs.Turns.{IsWithin};
 ghost use Rattle.search_pool.specs.Runs.{IsRun};
 ghost use Rattle.search_pool.specs.Slots.{AreOwners};
 ghost use Rattle.worker_results.specs.Naming.{AreThieves};
@@ -24,8 +25,9 @@ pub(crate) fn run_opened<S: Strategy + Send + Sync, R: Threads + Wait + Sync, O:
     run: Run<'_, R, O>,
 ) -> Result<Ran, Unrun>
     requires { IsRootSplit (arc_value run.region.now) run.root.now }
-    ensures { IfOk result (λ ran. IsRun (arc_value run.entry.region.now) run.entry.best.now.places
+    ensures run { IfOk result (λ ran. IsRun (arc_value run.entry.region.now) run.entry.best.now.places
         run.entry.root.now run.entry.workers.number ran.joined.works.items ran.joined.left.items) }
+    ensures turns { IfOk result (λ ran. IsWithin run.entry.turns ran.turns) }
 {
     let Stock { owners, thieves } = stock_for(run.alloc, run.root, run.workers)?;
     let (beacon, first) = Beacon::open(run.alloc, run.best.size())?;
@@ -46,8 +48,9 @@ fn start<S: Strategy + Send + Sync, R: Threads + Wait + Sync, O: Observer>(
     requires owners { AreOwners (deque_at owners.items) (pushed_at owners.items) 0 owners.items }
     requires thieves { AreThieves (deque_at owners.items) 0 thieves.now }
     requires start { StartWith (pushed_at owners.items) run.workers.number (kids_of run.root.now) }
-    ensures { IfOk result (λ ran. IsRun (arc_value run.entry.region.now) run.entry.best.now.places
+    ensures run { IfOk result (λ ran. IsRun (arc_value run.entry.region.now) run.entry.best.now.places
         run.entry.root.now run.entry.workers.number ran.joined.works.items ran.joined.left.items) }
+    ensures turns { IfOk result (λ ran. IsWithin run.entry.turns ran.turns) }
 {
     run_named::<Brand, S, R, O>(run, beacon, first, owners, thieves)
 }

@@ -4,7 +4,6 @@ ghost use Rattle.std.specs.Arc.{arc_value};
 ghost use Rattle.worker_results.specs.Naming.{AreThieves};
 ghost use Rattle.worker_results.specs.Steps.{KeepFloors};
 
-use crate::ended::Ended;
 use beacon::Beacon;
 use cave_regions::Region;
 use piece_deque::Thief;
@@ -74,7 +73,7 @@ fn work_on<B: Naming, S: Strategy, D: Desk>(
     requires { (arc_value shared.region.now ≡ B.region) × (D.region desk.old ≡ B.region) }
     ensures worker { share.new.worker ≡ share.old.worker }
     ensures floors { KeepFloors B.region (D.shown desk.old) share.old.closed (D.shown desk.new) share.new.closed }
-    ensures same { D.region desk.new ≡ D.region desk.old }
+    ensures same { (D.region desk.new ≡ D.region desk.old) × (D.limit desk.new ≡ D.limit desk.old) }
 {
     if has_short_name(share, shared.deepest) {
         match share.open::<S, D>(alloc, shared.region, desk) {
@@ -103,10 +102,10 @@ pub(crate) fn work_one<B: Naming, S: Strategy, R: Wait, O: Observer>(
     observer: &O,
     worker: u32,
     turns: Option<u64>,
-) -> Option<Ended<B>>
+) -> Option<Done<B>>
     requires { (shared.beacon.now ≡ B.beacon) × (arc_value shared.region.now ≡ B.region)
         × AreThieves B.deque 0 shared.thieves.now }
-    ensures { IfSome result (λ ended. ended.share.worker ≡ worker) }
+    ensures { IfSome result (λ done. (done.share.worker ≡ worker) × (done.turns.limit ≡ turns)) }
 {
     let berth = slot.lock(rt).take()?;
     if berth.worker() != worker {
@@ -114,7 +113,7 @@ pub(crate) fn work_one<B: Naming, S: Strategy, R: Wait, O: Observer>(
     }
     let (seat, mut share) = berth.into_parts();
     let mut desk: PoolDesk<'_, B> = PoolDesk::new(shared.beacon, shared.region, seat, turns);
-    for _ in rt.forever() {
+    for _ in 0..u64::MAX {
         if !next(&mut share, shared.thieves) {
             break;
         }
@@ -126,8 +125,6 @@ pub(crate) fn work_one<B: Naming, S: Strategy, R: Wait, O: Observer>(
             break;
         }
     }
-    let granted = desk.granted();
-    let spent = desk.is_spent();
-    let (seat, cover) = desk.into_parts();
-    Some(Ended::new(Done::new(seat, cover, share), granted, spent))
+    let (seat, cover, turns) = desk.into_parts();
+    Some(Done::new(seat, cover, share, turns))
 }

@@ -1,7 +1,7 @@
 //! Regions without the places that others dominate, and their plans carried back.
 use crate::rings::{region, ring};
 use proof_tree::Proof;
-use search_core::{carried_cover, carried_plan, core_region, plan_alone};
+use search_core::{BestPlan, carried_cover, carried_plan, core_region, plan_alone};
 use search_moves::Moves;
 use std::alloc::AllocError;
 use std::sync::Arc;
@@ -43,7 +43,7 @@ fn the_plan_of_a_core_is_carried_to_its_region(rt: HostRuntime) -> Result<(), Fa
         return Err(AllocError.into());
     };
     let core = Arc::new(rt.alloc(), core)?;
-    let Ok((cover, proof)) = plan_alone::<Moves>(rt.alloc(), &core, None) else {
+    let Ok(BestPlan { cover, proof, .. }) = plan_alone::<Moves>(rt.alloc(), &core, None) else {
         return Err(AllocError.into());
     };
     match carried_plan::<Moves>(rt.alloc(), &region, &cover, proof)? {
@@ -60,7 +60,7 @@ fn the_plan_of_a_core_is_carried_to_its_region(rt: HostRuntime) -> Result<(), Fa
 #[test]
 fn what_lights_another_region_is_not_carried(rt: HostRuntime) -> Result<(), Fail> {
     let small = ring(rt.alloc(), 5)?;
-    let Ok((cover, proof)) = plan_alone::<Moves>(rt.alloc(), &small, None) else {
+    let Ok(BestPlan { cover, proof, .. }) = plan_alone::<Moves>(rt.alloc(), &small, None) else {
         return Err(AllocError.into());
     };
     let large = ring(rt.alloc(), 9)?;

@@ -34,7 +34,7 @@ fn fewest_of(
     turns: Option<u64>,
 ) -> Result<(u64, usize), Fail> {
     match plan_alone::<Moves>(alloc, region, turns) {
-        Ok((cover, proof)) => Ok((cover.size(), kids_of(&proof))),
+        Ok(plan) => Ok((plan.cover.size(), kids_of(&plan.proof))),
         Err(AloneFault::Stopped { cover, floor }) => Ok((cover.size(), floor as usize)),
         Err(AloneFault::OutOfMemory) => Err(AllocError.into()),
     }

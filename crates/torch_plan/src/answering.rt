@@ -1,161 +1,20 @@
 //! A run of the program: what the words of its command line ask for is done, and an exit status answered.
-ghost use Rattle.std.specs.Prelude.{◌≡◌, ◌≢◌, IfErr, IfOk};
+ghost use Rattle.std.specs.Prelude.{◌≡◌, ◌⊎◌, IsSome, IsTrue, map, string_bytes};
 ghost use Rattle.std.specs.Io.KnownBytes.{Keeps};
-ghost use Rattle.cave_runs.specs.declared.fault.RunFault.{RunFault};
+ghost use Rattle.torch_plan.specs.Answers.{Answers, Does};
 ghost use Rattle.torch_plan.specs.Status.{IsRefused, end_status, judged, status};
 
 use crate::command::{Request, request_of};
-use crate::planner::run_plan;
+use crate::runs::{answer_check, answer_dark, answer_plan};
 use crate::status::status_of;
 use crate::system::System;
-use cave_model::Rule;
-use cave_runs::{
-    Observer, Outcome, PlanOpts, RunFault, Unkept, Verdict, read_table, run_check, run_dark,
-};
+use cave_runs::{Observer, Outcome, RunFault, Verdict};
 use clap::Error;
 use clap::error::ErrorKind;
 use std::alloc::Global;
-use std::io::{Read, Write};
+use std::io::Write;
 use std::sync::Wait;
 use std::thread::Threads;
-
-/// The bytes of the user's table, where one is named. It is read before the structure is opened.
-fn table_of<S: System>(
-    alloc: Global,
-    system: &S,
-    table: Option<&str>,
-) -> Result<Option<Vec<u8>>, RunFault>
-    ensures { IfErr result (λ e. e ≢ RunFault.WriteFailed) }
-{
-    let Some(path) = table else {
-        return Ok(None);
-    };
-    match system.open(path) {
-        Some(mut input) => Ok(Some(read_table(alloc, &mut input)?)),
-        None => Err(RunFault::ReadFailed),
-    }
-}
-
-/// The dark cells of a structure.
-fn answer_dark<S: System, W: Write>(
-    alloc: Global,
-    system: &S,
-    file: &str,
-    table: Option<&str>,
-    rule: Rule,
-    output: &mut W,
-) -> Result<(), RunFault>
-    ensures untouched { IfErr result (λ e. e ≢ RunFault.WriteFailed
-        → Keeps (W.contents output.old) (W.contents output.new)) }
-{
-    let table = table_of(alloc, system, table)?;
-    let table = table.as_deref();
-    if file == "-" {
-        return run_dark(alloc, &mut system.standard(), table, rule, output);
-    }
-    match system.open(file) {
-        Some(mut input) => run_dark(alloc, &mut input, table, rule, output),
-        None => Err(RunFault::ReadFailed),
-    }
-}
-
-/// Plans what the reader has. The file for the proof is made, or emptied, before it is read.
-fn plan_from<X: Threads + Wait + Sync, S: System, O: Observer, R: Read, W: Write>(
-    threads: &X,
-    alloc: Global,
-    system: &S,
-    reader: &mut R,
-    table: Option<&[u8]>,
-    opts: &PlanOpts,
-    observer: &O,
-    proof: Option<&str>,
-    output: &mut W,
-) -> Result<Outcome, RunFault>
-    ensures untouched { IfErr result (λ e. e ≢ RunFault.WriteFailed
-        → Keeps (W.contents output.old) (W.contents output.new)) }
-{
-    let Some(path) = proof else {
-        return run_plan(
-            threads,
-            alloc,
-            reader,
-            table,
-            opts,
-            observer,
-            output,
-            &mut Unkept,
-        );
-    };
-    match system.create(path) {
-        Some(mut kept) => run_plan(
-            threads, alloc, reader, table, opts, observer, output, &mut kept,
-        ),
-        None => Err(RunFault::WriteFailed),
-    }
-}
-
-/// The plan of a structure.
-fn answer_plan<X: Threads + Wait + Sync, S: System, O: Observer, W: Write>(
-    threads: &X,
-    alloc: Global,
-    system: &S,
-    file: &str,
-    table: Option<&str>,
-    opts: &PlanOpts,
-    observer: &O,
-    proof: Option<&str>,
-    output: &mut W,
-) -> Result<Outcome, RunFault>
-    ensures untouched { IfErr result (λ e. e ≢ RunFault.WriteFailed
-        → Keeps (W.contents output.old) (W.contents output.new)) }
-{
-    let table = table_of(alloc, system, table)?;
-    let table = table.as_deref();
-    if file == "-" {
-        let mut input = system.standard();
-        return plan_from(
-            threads, alloc, system, &mut input, table, opts, observer, proof, output,
-        );
-    }
-    match system.open(file) {
-        Some(mut input) => plan_from(
-            threads, alloc, system, &mut input, table, opts, observer, proof, output,
-        ),
-        None => Err(RunFault::ReadFailed),
-    }
-}
-
-/// The verdict on a certificate. Both files are opened before either is read.
-fn answer_check<S: System, W: Write>(
-    alloc: Global,
-    system: &S,
-    file: &str,
-    proof: &str,
-    table: Option<&str>,
-    rule: Rule,
-    output: &mut W,
-) -> Result<Verdict, RunFault>
-    ensures untouched { IfErr result (λ e. e ≢ RunFault.WriteFailed
-        → Keeps (W.contents output.old) (W.contents output.new)) }
-{
-    let table = table_of(alloc, system, table)?;
-    let table = table.as_deref();
-    if file == "-" {
-        return match system.open(proof) {
-            Some(mut proof) => {
-                let mut input = system.standard();
-                run_check(alloc, &mut input, table, rule, &mut proof, output)
-            }
-            None => Err(RunFault::ReadFailed),
-        };
-    }
-    match (system.open(file), system.open(proof)) {
-        (Some(mut input), Some(mut proof)) => {
-            run_check(alloc, &mut input, table, rule, &mut proof, output)
-        }
-        _ => Err(RunFault::ReadFailed),
-    }
-}
 
 /// Prints the fault line, and answers its status.
 fn refused<S: System>(system: &S, fault: &RunFault) -> u8
@@ -186,7 +45,9 @@ fn status_of_check(verdict: Verdict) -> u8
 }
 
 /// Prints the help that was asked for, or the mistake in usage.
-fn explained<S: System>(system: &S, error: &Error) -> u8 {
+fn explained<S: System>(system: &S, error: &Error) -> u8
+    ensures { (result ≡ 0) ⊎ (result ≡ 2) ⊎ (result ≡ 6) ⊎ (result ≡ 7) }
+{
     if error.kind() == ErrorKind::OutOfMemory {
         return refused(system, &RunFault::OutOfMemory);
     }
@@ -197,8 +58,19 @@ fn explained<S: System>(system: &S, error: &Error) -> u8 {
 }
 
 /// Whether the file for the proof is one that is read.
-fn is_input<S: System>(system: &S, proof: &str, file: &str, table: Option<&str>) -> bool {
-    system.is_same(proof, file) || matches!(table, Some(table) if system.is_same(proof, table))
+fn is_input<S: System>(system: &S, proof: Option<&str>, file: &str, table: Option<&str>) -> bool
+    ensures { IsTrue result → IsSome proof.entry }
+{
+    let Some(proof) = proof else {
+        return false;
+    };
+    if system.is_same(proof, file) {
+        return true;
+    }
+    match table {
+        Some(table) => system.is_same(proof, table),
+        None => false,
+    }
 }
 
 /// Does what was asked for.
@@ -210,6 +82,7 @@ fn answered<X: Threads + Wait + Sync, S: System, O: Observer, W: Write>(
     request: &Request<'_>,
     output: &mut W,
 ) -> u8
+    ensures does { Does (S.sources system.now) request.now (W.contents output.old) (W.contents output.new) result }
     ensures silent { IsRefused result → Keeps (W.contents output.old) (W.contents output.new) }
 {
     match *request {
@@ -226,7 +99,7 @@ fn answered<X: Threads + Wait + Sync, S: System, O: Observer, W: Write>(
             proof,
             progress,
         } => {
-            if matches!(proof, Some(proof) if is_input(system, proof, file, table)) {
+            if is_input(system, proof, file, table) {
                 system.object("--proof would write over a file that is read");
                 return 2;
             }
@@ -263,6 +136,9 @@ pub fn answer<X: Threads + Wait + Sync, S: System, O: Observer, W: Write>(
     words: &[String],
     output: &mut W,
 ) -> u8
+    // What the words ask for is done over the system's files, or help or a mistake in usage is explained.
+    ensures does { Answers (S.sources system.now) (map (λ word. string_bytes word) words.now)
+        (W.contents output.old) (W.contents output.new) result }
     // A refused input, a mistake in usage, and refused memory or threads leave the output as it was.
     ensures silent { IsRefused result → Keeps (W.contents output.old) (W.contents output.new) }
 {

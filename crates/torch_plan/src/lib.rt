@@ -5,6 +5,7 @@ mod advance;
 mod answering;
 mod command;
 mod planner;
+mod runs;
 mod status;
 mod system;
 mod version;

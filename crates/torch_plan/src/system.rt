@@ -1,11 +1,16 @@
 //! What the program asks of the system that it runs on: files, streams, and words for its user.
+ghost use Rattle.std.specs.Prelude.{◌≡◌, IfSome};
+ghost use Rattle.torch_plan.specs.Sources.{Sources};
 
 use cave_runs::RunFault;
 use clap::Error;
 use std::io::{Read, Write};
 
-/// The files and streams of a run. The program has those of its host, tests their own.
+/// The files and streams of a run. The program has those of its host, of which no bytes are known, tests their own.
 pub trait System {
+    // What is known of the bytes of its files and of standard input.
+    ghost sources: { Self → Sources };
+
     /// A file that is read.
     type File: Read + Drop;
 
@@ -16,10 +21,12 @@ pub trait System {
     type Kept: Write + Drop;
 
     /// Opens a file to read it. None where that fails.
-    fn open(&self, path: &str) -> Option<Self::File>;
+    fn open(&self, path: &str) -> Option<Self::File>
+        ensures { IfSome result (λ file. Self.File.remaining file ≡ (sources self.now).files path.now) };
 
     /// Standard input.
-    fn standard(&self) -> Self::Standard;
+    fn standard(&self) -> Self::Standard
+        ensures { Self.Standard.remaining result ≡ (sources self.now).input };
 
     /// Makes a file, or empties the one that is there. None where that fails.
     fn create(&self, path: &str) -> Option<Self::Kept>;

@@ -35,6 +35,10 @@ fn path_of(path: &str) -> &str {
 }
 
 impl System for Host<'_> {
+    ghost use Rattle.std.specs.Prelude.{None};
+
+    ghost sources = { λ _. record { files = λ _. None; input = None } };
+
     type File = File;
 
     type Standard = io::StdinLock<'static>;

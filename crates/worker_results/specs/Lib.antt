@@ -2,6 +2,7 @@
 pub mod Naming
 pub mod Passes
 pub mod Shares
+pub mod Spendings
 pub mod Results
 pub mod Steps
 pub mod Tries

@@ -1,5 +1,5 @@
 -- What a worker's desk keeps, and what a worker hands over. This is this project's own.
-use Rattle.std.specs.Prelude.{◌≡◌, ℕ, ◌≤◌, Bool, false, List, length, Option, Some, None, IfSome, refl}
+use Rattle.std.specs.Prelude.{◌≡◌, ℕ, ◌≤◌, Bool, true, false, List, length, Option, Some, None, IfSome, refl}
 use Rattle.std.specs.Coded.{Coded, code_by, coded×, coded_ℕ, coded_bool, coded_option}
 use Rattle.atomic_table.specs.Seated.{TableId}
 use Rattle.set_cover.specs.Instance.{Instance, instance_coded}
@@ -8,7 +8,10 @@ use Rattle.proof_tree.specs.Piece.{Subproblem}
 use Rattle.beacon.specs.declared.known.Known.{Known}
 use Rattle.beacon.specs.Marks.{Seated, known_coded}
 use Rattle.schedule_law.specs.Worked.{IsWork}
+use Rattle.search_core.specs.Turns.{AreSpent, IsWithin}
 use Rattle.worker_results.specs.Shares.{Shared, shared_coded, AddsUp, work_of}
+use Rattle.worker_results.specs.Spendings.{spending_coded}
+use Rattle.worker_results.specs.declared.spending.Spending.{Spending}
 
 -- there is a cover no larger than the size
 abbrev pub HasCoverOf : Option Covering → ℕ → Type 0
@@ -27,9 +30,10 @@ IsSeatAt beacon seat = (seat.beacon ≡ beacon) × (seat.knows.first ≡ false)
 abbrev pub IsNewSeatAt : TableId → Seated → Type 0
 IsNewSeatAt beacon seat = IsSeatAt beacon seat × (seat.knows.told ≡ None)
 
--- no more turns were granted than the limit
-abbrev pub IsWithinTurns : Option ℕ → ℕ → Type 0
-IsWithinTurns turns granted = IfSome turns (λ limit. granted ≤ limit)
+-- it granted no more turns than its limit, and all of them where it refused one
+pub record CountsTurns (turns : Option ℕ) (granted : ℕ) (refused : Bool) : Type 0 where
+  pub within : IsWithin turns granted
+  pub all : refused ≡ true → AreSpent turns granted
 
 -- a worker's desk
 pub record Desked : Type 0 where
@@ -40,6 +44,7 @@ pub record Desked : Type 0 where
   -- the limit, if there is one
   pub turns : Option ℕ
   pub granted : ℕ
+  -- whether it refused the last turn that was asked for
   pub refused : Bool
 
 -- the code by which desks are told apart, made of those of their parts
@@ -64,12 +69,15 @@ pub record Handed : Type 0 where
   -- what its seat knows
   pub knows : Known
   pub cover : Option Covering
+  pub turns : Spending
 
 -- the code by which what workers hand over is told apart, made of those of its parts
 abbrev pub handed_coded : Coded Handed
-handed_coded = code_by (Shared × (Known × Option Covering))
-    (coded× shared_coded (coded× known_coded (coded_option covering_coded)))
-    (λ h. (h.share, (h.knows, h.cover))) (λ p. record { share = p.0; knows = p.1.0; cover = p.1.1 }) (λ _. refl)
+handed_coded = code_by (Shared × (Known × (Option Covering × Spending)))
+    (coded× shared_coded (coded× known_coded (coded× (coded_option covering_coded) spending_coded)))
+    (λ h. (h.share, (h.knows, (h.cover, h.turns))))
+    (λ p. record { share = p.0; knows = p.1.0; cover = p.1.1.0; turns = p.1.1.1 })
+    (λ _. refl)
 
 -- its cover is no larger than any size that its seat told, and its floors are at least what the seat saw
 pub record IsHandedIn (region : Instance) (start : List Subproblem) (handed : Handed) : Type 0 where

@@ -1,10 +1,11 @@
 -- What a worker's steps with a piece leave. This is this project's own.
-use Rattle.std.specs.Prelude.{◌≡◌, ℕ, ◌+◌, Bool, IsTrue, List, [], ◌∷◌, ◌++◌}
+use Rattle.std.specs.Prelude.{◌≡◌, ℕ, ◌+◌, List, [], ◌∷◌, ◌++◌, Option}
 use Rattle.set_cover.specs.Instance.{Instance}
 use Rattle.proof_tree.specs.Piece.{Subproblem, Fathomed}
 use Rattle.proof_tree.specs.Opened.{Split, kids_of}
 use Rattle.proof_tree.specs.Weights.{weigh}
 use Rattle.schedule_law.specs.Worked.{IsOpenedIn}
+use Rattle.search_core.specs.Turns.{AreSpent}
 use Rattle.worker_results.specs.Shares.{AreClosedFrom, Shared}
 use Rattle.worker_results.specs.declared.step.Tried.{Tried}
 use Rattle.worker_results.specs.declared.step.Tried.TheVariants.{Got, Empty, Again, OutOfMemory}
@@ -16,9 +17,9 @@ abbrev pub KeepFloors : Instance → ℕ → List Fathomed → ℕ → List Fath
 KeepFloors region shown closed shown_now closed_now =
     AreClosedFrom region shown closed → AreClosedFrom region shown_now closed_now
 
--- turns were spent only where the desk refused one, and where they are limited
-abbrev pub IsSpentOnly : Bool → Bool → Step → Type 0
-IsSpentOnly refused limited step = step ≡ TurnsSpent → IsTrue refused × IsTrue limited
+-- turns were spent only where the desk granted all of its limit
+abbrev pub IsSpentOnly : Option ℕ → ℕ → Step → Type 0
+IsSpentOnly limit granted step = step ≡ TurnsSpent → AreSpent limit granted
 
 -- the kids were pushed or refused
 abbrev pub PushedAll : List Subproblem → List Subproblem → List Subproblem → List Subproblem → List Subproblem → Type 0

@@ -1,10 +1,12 @@
 ghost use Rattle.std.specs.Prelude.{◌≡◌, None};
 ghost use Rattle.worker_results.specs.Results.{IsNewSeatAt};
 ghost use Rattle.worker_results.specs.Shares.{IsFresh};
+ghost use Rattle.worker_results.specs.Spendings.{unspent};
 
 use crate::done::Done;
 use crate::naming::Naming;
 use crate::share::Share;
+use crate::spending::Spending;
 use beacon::Seat;
 use std::marker::Model;
 
@@ -19,12 +21,13 @@ impl<B: Naming> Model for Berth<B> {
     ghost use Rattle.std.specs.Prelude.{None};
     ghost use Rattle.worker_results.specs.Results.{Handed, handed_coded, IsNewSeatAt};
     ghost use Rattle.worker_results.specs.Shares.{IsFresh};
+    ghost use Rattle.worker_results.specs.Spendings.{unspent};
 
     ghost Value = { Handed };
 
     ghost coded = { handed_coded };
 
-    ghost view = { λ b. record { share = b.share; knows = b.seat.knows; cover = None } };
+    ghost view = { λ b. record { share = b.share; knows = b.seat.knows; cover = None; turns = unspent None } };
 
     ghost invariant = { λ b. IsNewSeatAt B.beacon b.seat × IsFresh (B.start b.share.worker) b.share };
 }
@@ -34,7 +37,7 @@ impl<B: Naming> Berth<B> {
     pub fn new(seat: Seat, share: Share<B>) -> Berth<B>
         requires seat { IsNewSeatAt B.beacon seat }
         requires share { IsFresh (B.start share.worker) share }
-        ensures { result ≡ record { share = share; knows = seat.knows; cover = None } }
+        ensures { result ≡ record { share = share; knows = seat.knows; cover = None; turns = unspent None } }
     {
         Berth { seat, share }
     }
@@ -55,12 +58,18 @@ impl<B: Naming> Berth<B> {
         (seat, share)
     }
 
-    /// The result of a worker that couldn't be started.
-    pub fn idle(self) -> Done<B>
-        ensures same { (result.share ≡ self.share) × (result.cover ≡ None) }
+    /// The result of a worker that couldn't be started, which had so many turns or any number of them.
+    pub fn idle(self, limit: Option<u64>) -> Done<B>
+        ensures same { (result.share ≡ self.share) × (result.cover ≡ None) × (result.turns ≡ unspent limit) }
         ensures fresh { IsFresh (B.start self.share.worker) self.share }
     {
         let Berth { seat, share } = self;
-        Done::new(seat, None, share)
+        let turns = Spending {
+            limit,
+            granted: 0,
+            is_spent: false,
+            was_started: false,
+        };
+        Done::new(seat, None, share, turns)
     }
 }

@@ -1,5 +1,6 @@
 //! Closing the piece that was taken last.
 ghost use Rattle.std.specs.Prelude.{◌≡◌, ◌≢◌, ◌≤◌};
+ghost use Rattle.search_core.specs.Turns.{Works};
 ghost use Rattle.worker_results.specs.Steps.{AreSameHeaps, ClosedLast, IsSpentOnly, KeepFloors};
 ghost use Rattle.worker_results.specs.declared.step.Step.TheVariants.{Made};
 
@@ -24,9 +25,11 @@ impl<B: Naming> Share<B> {
         ensures made { result ≡ Made → ClosedLast self.old self.new }
         ensures kept { result ≢ Made → AreSameHeaps self.old self.new }
         ensures floors { KeepFloors B.region (D.shown desk.old) self.old.closed (D.shown desk.new) self.new.closed }
-        ensures spent { IsSpentOnly (D.refused desk.new) (D.limited desk.new) result }
+        ensures spent { IsSpentOnly (D.limit desk.new) (D.granted desk.new) result }
+        ensures worked { result ≡ Made → Works (D.limit desk.old) (D.granted desk.old) (D.granted desk.new) }
+        ensures more { D.granted desk.old ≤ D.granted desk.new }
         ensures less { D.shown desk.new ≤ D.shown desk.old }
-        ensures same { (D.region desk.new ≡ D.region desk.old) × (D.limited desk.new ≡ D.limited desk.old) }
+        ensures same { (D.region desk.new ≡ D.region desk.old) × (D.limit desk.new ≡ D.limit desk.old) }
     {
         if self.closed.reserve(1).is_err() {
             return Step::OutOfMemory;

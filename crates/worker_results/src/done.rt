@@ -5,22 +5,25 @@ ghost use Rattle.worker_results.specs.Naming.{numbers_from};
 ghost use Rattle.worker_results.specs.Passes.{deques};
 ghost use Rattle.worker_results.specs.Results.{IsHandedIn, IsSeatAt, KeepsTold};
 ghost use Rattle.worker_results.specs.Shares.{AreClosedFrom, work_of};
+ghost use Rattle.worker_results.specs.Spendings.{IsSpending};
 
 use crate::accesses::Accesses;
 use crate::naming::Naming;
 use crate::own::Own;
 use crate::share::Share;
+use crate::spending::Spending;
 use beacon::Seat;
 use cave_regions::Cover;
 use schedule_law::Work;
 use std::marker::Model;
 
-/// A worker's seat, its passes, its smallest cover, and what became of the pieces that it took.
+/// A worker's seat, its passes, its smallest cover, its turns, and what became of the pieces that it took.
 #[derive(Drop)]
 pub struct Done<B: Naming> {
     seat: Seat,
     cover: Option<Cover>,
     share: Share<B>,
+    turns: Spending,
 }
 
 impl<B: Naming> Model for Done<B> {
@@ -28,15 +31,17 @@ impl<B: Naming> Model for Done<B> {
     ghost use Rattle.schedule_law.specs.Worked.{IsCoverFor};
     ghost use Rattle.worker_results.specs.Results.{Handed, handed_coded, IsSeatAt, KeepsTold};
     ghost use Rattle.worker_results.specs.Shares.{AreClosedFrom};
+    ghost use Rattle.worker_results.specs.Spendings.{IsSpending};
 
     ghost Value = { Handed };
 
     ghost coded = { handed_coded };
 
-    ghost view = { λ d. record { share = d.share; knows = d.seat.knows; cover = d.cover } };
+    ghost view = { λ d. record { share = d.share; knows = d.seat.knows; cover = d.cover; turns = d.turns } };
 
     ghost invariant = { λ d. IsSeatAt B.beacon d.seat × KeepsTold d.cover d.seat.knows.told
-        × IfSome d.cover (IsCoverFor B.region) × AreClosedFrom B.region d.seat.knows.seen d.share.closed };
+        × IfSome d.cover (IsCoverFor B.region) × AreClosedFrom B.region d.seat.knows.seen d.share.closed
+        × IsSpending d.turns };
 }
 
 /// The parts of a result.
@@ -50,14 +55,20 @@ pub struct Parts<B: Naming> {
 
 impl<B: Naming> Done<B> {
     /// The result of a worker.
-    pub fn new(seat: Seat, cover: Option<Cover>, share: Share<B>) -> Done<B>
+    pub fn new(seat: Seat, cover: Option<Cover>, share: Share<B>, turns: Spending) -> Done<B>
         requires seat { IsSeatAt B.beacon seat }
         requires kept { KeepsTold cover seat.knows.told }
         requires cover { IfSome cover (IsCoverFor B.region) }
         requires floors { AreClosedFrom B.region seat.knows.seen share.closed }
-        ensures { result ≡ record { share = share; knows = seat.knows; cover = cover } }
+        requires turns { IsSpending turns }
+        ensures { result ≡ record { share = share; knows = seat.knows; cover = cover; turns = turns } }
     {
-        Done { seat, cover, share }
+        Done {
+            seat,
+            cover,
+            share,
+            turns,
+        }
     }
 
     /// The worker's number.
@@ -67,7 +78,15 @@ impl<B: Naming> Done<B> {
         self.share.worker()
     }
 
-    /// All that it hands over.
+    /// The worker's turns.
+    pub fn turns(&self) -> Spending
+        ensures turns { result ≡ self.now.turns }
+        ensures counted { IsSpending result }
+    {
+        self.turns
+    }
+
+    /// All that it hands over but its turns.
     pub fn into_parts(self) -> Parts<B>
         ensures seat { IsSeatAt B.beacon result.seat × (result.seat.knows ≡ self.knows) }
         ensures own { (result.own.worker ≡ self.share.worker) × (result.own.knows ≡ self.share.own)
@@ -76,7 +95,12 @@ impl<B: Naming> Done<B> {
         ensures work { result.work ≡ work_of self.share self.cover }
         ensures done { IsHandedIn B.region (B.start self.share.worker) self }
     {
-        let Done { seat, cover, share } = self;
+        let Done {
+            seat,
+            cover,
+            share,
+            turns: _,
+        } = self;
         let (own, reaches, work) = share.into_parts(cover);
         Parts {
             seat,

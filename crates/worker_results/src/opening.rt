@@ -1,5 +1,6 @@
 //! Opening the piece that was taken last.
 ghost use Rattle.std.specs.Prelude.{◌≡◌, ◌≢◌, ◌≤◌, ◌+◌, IfErr, IfOk, vec_len, vec_capacity};
+ghost use Rattle.search_core.specs.Turns.{Works};
 ghost use Rattle.worker_results.specs.Steps.{AreSameHeaps, IsOpening, IsSpentOnly, KeepFloors, OpenedLast};
 ghost use Rattle.worker_results.specs.declared.step.Step.TheVariants.{Made};
 
@@ -27,9 +28,11 @@ impl<B: Naming> Share<B> {
         ensures made { result ≡ Made → OpenedLast self.old self.new }
         ensures kept { result ≢ Made → AreSameHeaps self.old self.new }
         ensures floors { KeepFloors B.region (D.shown desk.old) self.old.closed (D.shown desk.new) self.new.closed }
-        ensures spent { IsSpentOnly (D.refused desk.new) (D.limited desk.new) result }
+        ensures spent { IsSpentOnly (D.limit desk.new) (D.granted desk.new) result }
+        ensures worked { result ≡ Made → Works (D.limit desk.old) (D.granted desk.old) (D.granted desk.new) }
+        ensures more { D.granted desk.old ≤ D.granted desk.new }
         ensures less { D.shown desk.new ≤ D.shown desk.old }
-        ensures same { (D.region desk.new ≡ D.region desk.old) × (D.limited desk.new ≡ D.limited desk.old) }
+        ensures same { (D.region desk.new ≡ D.region desk.old) × (D.limit desk.new ≡ D.limit desk.old) }
     {
         if self.opened.reserve(1).is_err() {
             return Step::OutOfMemory;
@@ -62,10 +65,12 @@ fn ready<S: Strategy, D: Desk>(
     ensures opened { IfOk result (λ made. IsOpening region.now piece made.0 made.1.items) }
     ensures room { IfOk result (λ made. vec_len refused.new + vec_len made.1 ≤ vec_capacity refused.new) }
     ensures back { IfErr result (λ back. (back.0 ≡ piece) × (back.1 ≢ Made)
-        × IsSpentOnly (D.refused desk.new) (D.limited desk.new) back.1) }
+        × IsSpentOnly (D.limit desk.new) (D.granted desk.new) back.1) }
     ensures kept { refused.new.items ≡ refused.old.items }
+    ensures worked { IfOk result (λ _. Works (D.limit desk.old) (D.granted desk.old) (D.granted desk.new)) }
+    ensures more { D.granted desk.old ≤ D.granted desk.new }
     ensures less { D.shown desk.new ≤ D.shown desk.old }
-    ensures same { (D.region desk.new ≡ D.region desk.old) × (D.limited desk.new ≡ D.limited desk.old) }
+    ensures same { (D.region desk.new ≡ D.region desk.old) × (D.limit desk.new ≡ D.limit desk.old) }
 {
     let size = desk.look();
     let (opened, kids) = match split::<S>(alloc, region, piece, size) {

@@ -1,10 +1,13 @@
 //! A worker's desk.
-ghost use Rattle.std.specs.Prelude.{◌≡◌, None, false, IfSome};
+ghost use Rattle.std.specs.Prelude.{◌≡◌, None, false, true, IfSome};
 ghost use Rattle.std.specs.Arc.{arc_value};
 ghost use Rattle.schedule_law.specs.Worked.{IsCoverFor};
-ghost use Rattle.worker_results.specs.Results.{IsNewSeatAt, IsSeatAt, IsWithinTurns, KeepsTold};
+ghost use Rattle.search_core.specs.Turns.{AreSpent, IsWithin};
+ghost use Rattle.worker_results.specs.Results.{IsNewSeatAt, IsSeatAt, KeepsTold};
+ghost use Rattle.worker_results.specs.Spendings.{IsSpending};
 
 use crate::naming::Naming;
+use crate::spending::Spending;
 use beacon::{Beacon, Seat};
 use cave_model::OutOfMemory;
 use cave_regions::{Cover, Region};
@@ -28,7 +31,7 @@ impl<'a, B: Naming> Model for PoolDesk<'a, B> {
     ghost use Rattle.std.specs.Prelude.{◌≡◌, IfSome};
     ghost use Rattle.std.specs.Arc.{arc_value};
     ghost use Rattle.schedule_law.specs.Worked.{IsCoverFor};
-    ghost use Rattle.worker_results.specs.Results.{Desked, desked_coded, IsSeatAt, IsWithinTurns, KeepsTold};
+    ghost use Rattle.worker_results.specs.Results.{CountsTurns, Desked, desked_coded, IsSeatAt, KeepsTold};
 
     ghost Value = { Desked };
 
@@ -45,7 +48,7 @@ impl<'a, B: Naming> Model for PoolDesk<'a, B> {
 
     ghost invariant = { λ d. (d.beacon.now ≡ B.beacon) × (arc_value d.region.now ≡ B.region)
         × IsSeatAt B.beacon d.seat × KeepsTold d.cover d.seat.knows.told
-        × IfSome d.cover (IsCoverFor B.region) × IsWithinTurns d.turns d.granted };
+        × IfSome d.cover (IsCoverFor B.region) × CountsTurns d.turns d.granted d.refused };
 }
 
 impl<'a, B: Naming> PoolDesk<'a, B> {
@@ -82,14 +85,15 @@ impl<'a, B: Naming> PoolDesk<'a, B> {
     /// How many turns it granted: at most its limit, and at most the greatest value of a `u64`.
     pub fn granted(&self) -> u64
         ensures granted { result ≡ self.now.granted }
-        ensures within { IsWithinTurns self.now.turns result }
+        ensures within { IsWithin self.now.turns result }
     {
         self.granted
     }
 
     /// Whether a turn was asked for last that it didn't grant.
     pub fn is_spent(&self) -> bool
-        ensures { result ≡ self.now.refused }
+        ensures refused { result ≡ self.now.refused }
+        ensures spent { result ≡ true → AreSpent self.now.turns self.now.granted }
     {
         self.refused
     }
@@ -101,36 +105,47 @@ impl<'a, B: Naming> PoolDesk<'a, B> {
         self.region
     }
 
-    /// The seat, and the cover that is kept.
-    pub fn into_parts(self) -> (Seat, Option<Cover>)
+    /// The seat, the cover that is kept, and the turns of a worker that was started.
+    pub fn into_parts(self) -> (Seat, Option<Cover>, Spending)
         ensures seat { IsSeatAt B.beacon result.0 × (result.0.knows ≡ self.entry.knows) }
         ensures cover { (result.1 ≡ self.entry.cover) × IfSome result.1 (IsCoverFor B.region) }
         ensures kept { KeepsTold result.1 result.0.knows.told }
+        ensures turns { result.2 ≡ record {
+          limit = self.entry.turns;
+          granted = self.entry.granted;
+          is_spent = self.entry.refused;
+          was_started = true;
+        } }
+        ensures counted { IsSpending result.2 }
     {
         let PoolDesk {
             beacon: _,
             region: _,
             seat,
             cover,
-            turns: _,
-            granted: _,
-            refused: _,
+            turns,
+            granted,
+            refused,
             of: _,
         } = self;
-        (seat, cover)
+        let turns = Spending {
+            limit: turns,
+            granted,
+            is_spent: refused,
+            was_started: true,
+        };
+        (seat, cover, turns)
     }
 }
 
 impl<'a, B: Naming> Desk for PoolDesk<'a, B> {
-    ghost use Rattle.std.specs.Prelude.{is_some};
-
     ghost shown = { λ d. d.knows.seen };
 
     ghost accepted = { λ d. d.knows.told };
 
-    ghost refused = { λ d. d.refused };
+    ghost granted = { λ d. d.granted };
 
-    ghost limited = { λ d. is_some d.turns };
+    ghost limit = { λ d. d.turns };
 
     ghost region = { λ d. d.region };
 

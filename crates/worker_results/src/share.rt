@@ -1,4 +1,4 @@
-ghost use Rattle.std.specs.Prelude.{◌≡◌, []};
+ghost use Rattle.std.specs.Prelude.{◌≡◌, ◌-◌, [], length, option_copied, option_map, slice_get};
 ghost use Rattle.worker_results.specs.Naming.{numbers_from};
 ghost use Rattle.worker_results.specs.Passes.{all_taken, deques};
 ghost use Rattle.worker_results.specs.Shares.{IsFresh, IsShare, work_of};
@@ -63,7 +63,10 @@ impl<B: Naming> Share<B> {
     }
 
     /// The name of the piece that it took last, if it holds one.
-    pub fn last_name(&self) -> Option<&Name> {
+    pub fn last_name(&self) -> Option<&Name>
+        ensures { option_copied result
+            ≡ option_map (λ piece. piece.name) (slice_get self.now.held (length self.now.held - 1)) }
+    {
         Some(self.held.last()?.name())
     }
 

@@ -1,4 +1,4 @@
-use Rattle.std.proofs.Common.{◌≡◌, subst, Option}
+use Rattle.std.proofs.Common.{◌≡◌, ◌∙◌, inl, inr, ap, subst, Option}
 use Rattle.std.specs.Prelude.{IfSome}
 use Rattle.cave_regions.specs.Cover.{Covering}
 use Rattle.proof_tree.specs.Shape.{tree_of}
@@ -6,20 +6,14 @@ use Rattle.std.specs.Arc.{arc_value}
 use Rattle.search_core.proofs.AloneLemmas.{proved_floor}
 use Rattle.cave_plan.proofs.crew.known.Goals as goal
 
-pub returns-in-Some : goal.returns-in-Some
-returns-in-Some g c =
-    let begun = c.in_ok-begun.ensures in
-    let of_it = subst (λ (found : Option Covering). IfSome found (λ cover. cover.region ≡ arc_value c.args.region.now))
-    c.in-Some.is c.in_ok-carried.ensures in (
+pub returns : goal.returns
+returns g c =
+    let region = arc_value c.args.region.now in let begun = c.in_ok-begun.ensures in
+    let of_it : c.smaller_of.result.region ≡ region = (elim c.smaller_of.ensures.one [
+      | inl e ↦ ap (λ (x : Covering). x.region) e ∙ begun.cover
+      | inr e ↦ subst (λ (found : Option Covering). IfSome found (λ cover. cover.region ≡ region)) e
+          c.in_ok-carried.ensures
+    ]) in (
       of_it,
-      proved_floor (arc_value c.args.region.now) c.in_ok-begun.begun.floor (tree_of c.in_ok-begun.begun.leaf)
-          begun.some begun.leaf,
-    )
-
-pub returns-in_default : goal.returns-in_default
-returns-in_default g c =
-    let begun = c.in_ok-begun.ensures in (
-      begun.cover,
-      proved_floor (arc_value c.args.region.now) c.in_ok-begun.begun.floor
-          (tree_of c.in_ok-begun.begun.leaf) begun.some begun.leaf,
+      proved_floor region c.in_ok-begun.begun.floor (tree_of c.in_ok-begun.begun.leaf) begun.some begun.leaf,
     )

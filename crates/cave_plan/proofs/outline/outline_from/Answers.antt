@@ -23,4 +23,9 @@ returns c =
     (course plans.torches.items plans.floor plans.stopped (plans_of plans.parts.items))
     c.rule_kept.ensures given.are given.is c.in_order-torches.result.items c.in_order-torches.ensures
     plans.stopped (string_bytes c.in_ok-text.text) refl
-    (record { dark = c.args.dark; counts = c.requires.dark; is = is })
+    (record {
+      ascending = c.in_order-torches.ensures.ascending;
+      dark = c.args.dark;
+      counts = c.requires.dark;
+      is = is;
+    })

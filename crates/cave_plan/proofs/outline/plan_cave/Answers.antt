@@ -13,6 +13,7 @@ outline_regions-requires-clause-regions g c κs within =
     let is = c.in_ok-problem.ensures.found in let are = c.in_ok-regions.ensures in
     record {
       parts = regions_are cave problem regions is are;
+      ordered = are.ordered;
       each = All-weaker (IsPartOf problem) IsRegion (λ region part. part.kept) regions are.each;
       agree = regions_agree cave problem regions is are;
     }

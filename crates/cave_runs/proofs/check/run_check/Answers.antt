@@ -5,7 +5,10 @@ use Rattle.cave_model.specs.RuleOf.{rule_of}
 use Rattle.cave_runs.specs.CheckRuns.{IsUnsaid}
 use Rattle.cave_runs.specs.declared.fault.Input.TheVariants.{StructureInput}
 use Rattle.cave_runs.proofs.RunLemmas.{input_refused}
+use Rattle.cave_runs.specs.Limits.{proof_limit}
 use Rattle.cave_runs.proofs.CheckRunLemmas.{excused, reading_excuse, said, said_err, no_verdict, unsaid, none_due}
+use Rattle.cave_runs.proofs.CheckRunLemmas.{trusted, whole_unread, reading_unread, whole_fault, whole_judged}
+use Rattle.cave_runs.proofs.CheckRunLemmas.{gives_none, read_failed}
 use Rattle.cave_runs.proofs.check.run_check.Goals as goal
 
 pub returns-in_err-bytes-clause-only : goal.returns-in_err-bytes-clause-only
@@ -63,3 +66,53 @@ returns-clause-refused g c =
     c.in_ok-bytes.ensures.all c.in_ok-bytes.ensures.within
     (λ due fault. none_due c.in_ok-bytes.bytes.items (option_copied c.args.table)
     (rw c.deref.ensures.value at c.in_ok-verdict.ensures.refused) due fault)
+
+pub returns-clause-fewest : goal.returns-clause-fewest
+returns-clause-fewest g c =
+    trusted (g.R.Read.remaining c.args.reader.now) c.in_ok-bytes.bytes.items (option_copied c.args.table)
+    (rule_of c.args.rule) (g.C.Read.remaining c.args.certificate.now) c.in_ok-verdict.verdict
+    (record { high = c.args.rule.one_or_two; needed = c.args.rule.one_or_eight })
+    c.in_ok-bytes.ensures.all (rw c.deref.ensures.value at c.in_ok-verdict.ensures.found)
+
+pub returns-in_err-bytes-clause-whole : goal.returns-in_err-bytes-clause-whole
+returns-in_err-bytes-clause-whole g c =
+    let p = err_from_is_err_and c.from_residual.result c.from_residual.ensures.1 in
+    whole_unread (g.C.Read.remaining c.args.certificate.now) c.from_residual.result p.0 p.1
+    (rw p.2 (reading_unread c.in_err-bytes.field-0.0 StructureInput c.in_err-bytes.ensures.kinds))
+
+pub returns-in_err-verdict-clause-whole : goal.returns-in_err-verdict-clause-whole
+returns-in_err-verdict-clause-whole g c =
+    let p = err_from_is_err_and c.from_residual-in_err-verdict.result c.from_residual-in_err-verdict.ensures.1 in
+    whole_fault (g.C.Read.remaining c.args.certificate.now) c.in_err-verdict.field-0.0
+    c.from_residual-in_err-verdict.result p.0 p.1 p.2 c.in_err-verdict.ensures.whole
+
+pub returns-in_err-line-clause-whole : goal.returns-in_err-line-clause-whole
+returns-in_err-line-clause-whole g c =
+    whole_judged (g.C.Read.remaining c.args.certificate.now) c.in_ok-verdict.verdict
+    c.from_residual-in_err-line.result c.in_ok-verdict.ensures.whole
+
+pub returns-in_err-put_all-clause-whole : goal.returns-in_err-put_all-clause-whole
+returns-in_err-put_all-clause-whole g c =
+    whole_judged (g.C.Read.remaining c.args.certificate.now) c.in_ok-verdict.verdict
+    c.from_residual-in_err-put_all.result c.in_ok-verdict.ensures.whole
+
+pub returns-clause-whole : goal.returns-clause-whole
+returns-clause-whole g c =
+    whole_judged (g.C.Read.remaining c.args.certificate.now) c.in_ok-verdict.verdict (Ok c.in_ok-verdict.verdict)
+    c.in_ok-verdict.ensures.whole
+
+pub returns-in_err-bytes-clause-before : goal.returns-in_err-bytes-clause-before
+returns-in_err-bytes-clause-before g c =
+    let p = err_from_is_err_and c.from_residual.result c.from_residual.ensures.1 in
+    rw (p.1, p.2) (λ failed. (
+      c.in_err-bytes.ensures.before failed,
+      gives_none proof_limit (g.C.Read.remaining c.args.certificate.now),
+    ))
+
+pub returns-in_err-verdict-clause-before : goal.returns-in_err-verdict-clause-before
+returns-in_err-verdict-clause-before g c =
+    let p = err_from_is_err_and c.from_residual-in_err-verdict.result c.from_residual-in_err-verdict.ensures.1 in
+    rw (p.1, p.2) (λ failed. (
+      c.in_ok-bytes.ensures.ended,
+      c.in_err-verdict.ensures.before (read_failed c.in_err-verdict.field-0.0 failed),
+    ))

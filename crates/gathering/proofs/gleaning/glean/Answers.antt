@@ -1,8 +1,11 @@
-use Rattle.std.proofs.Common.{◌∙◌, Bool, refl, ap, sym, subst, arith}
+use Rattle.std.proofs.Common.{◌∙◌, ℕ, Bool, List, Option, length, refl, ap, sym, subst, arith}
 use Rattle.event_core.specs.State.{State}
 use Rattle.event_core.specs.Kept.{state_of}
+use Rattle.search_core.specs.Turns.{Works}
+use Rattle.gathering.specs.Gathered.{EachTook}
 use Rattle.gathering.specs.Gleaning.{GleansWhere}
 use Rattle.gathering.proofs.GleanLemmas.{glean_start, glean_next, glean_past}
+use Rattle.gathering.proofs.TookLemmas.{took_none, took_past, took_next}
 use Rattle.gathering.proofs.LikeLemmas.{like_one}
 use Rattle.gathering.proofs.gleaning.glean.Goals as goal
 
@@ -15,6 +18,9 @@ loop-name-init g c = (
   c.requires.of_it,
   refl,
   refl,
+  subst (λ (l : List (List ℕ)). EachTook c.args.desk.now.limit (length l) c.args.desk.now.granted
+      c.args.desk.now.granted) (sym c.new-gleaned.ensures.items)
+      (took_none c.args.desk.now.limit c.args.desk.now.granted),
 )
 
 pub glean_one-requires : goal.glean_one-requires
@@ -36,6 +42,8 @@ loop-name-preserved g c =
       same.0 ∙ inv.1 ∙ sym (ap (λ (s : State). s.region) past.1),
       same.0 ∙ inv.2,
       same.1 ∙ inv.3,
+      took_past c.args.desk.now.limit (length c.loop-name.gleaned.items) c.args.desk.now.granted
+          c.loop-name.desk.granted c.glean_one.new.desk.granted inv.4 c.glean_one.ensures.more,
     )
 
 pub loop-name-preserved-in-Continue-branch-3 : goal.loop-name-preserved-in-Continue-branch-3
@@ -50,4 +58,10 @@ loop-name-preserved-in-Continue-branch-3 g c =
       same.0 ∙ inv.1 ∙ sym (like_one now w name next one).of_it,
       same.0 ∙ inv.2,
       same.1 ∙ inv.3,
+      subst (λ (l : List (List ℕ)). EachTook c.args.desk.now.limit (length l) c.args.desk.now.granted
+          c.glean_one.new.desk.granted) (sym c.in_ok-push.ensures.items)
+          (took_next c.args.desk.now.limit c.loop-name.gleaned.items name c.args.desk.now.granted
+          c.loop-name.desk.granted c.glean_one.new.desk.granted inv.4
+          (subst (λ (o : Option ℕ). Works o c.loop-name.desk.granted c.glean_one.new.desk.granted) inv.3
+          (c.in_ok-glean_one.ensures.worked c.if-branch.true))),
     )

@@ -1,5 +1,6 @@
-use Rattle.std.proofs.Common.{◌≡◌}
+use Rattle.std.proofs.Common.{◌≡◌, length}
 use Rattle.event_core.specs.Kept.{state_of}
+use Rattle.gathering.specs.Gathered.{EachTook}
 use Rattle.gathering.proofs.GleanLemmas.{IsGleaning}
 use Rattle.gathering.proofs.gleaning.glean.Given as goal
 
@@ -7,4 +8,5 @@ abbrev pub invariant-loop-name : goal.invariant-loop-name
 invariant-loop-name g l =
     IsGleaning (state_of l.fn.core) l.caller l.gleaned.items (state_of l.core) l.name-iterator.rest.items
     × (l.desk.cover.region ≡ l.core.region) × (l.desk.cover.region ≡ l.fn.desk.cover.region)
-    × (l.desk.limited ≡ l.fn.desk.limited)
+    × (l.desk.limit ≡ l.fn.desk.limit)
+    × EachTook l.fn.desk.limit (length l.gleaned.items) l.fn.desk.granted l.desk.granted

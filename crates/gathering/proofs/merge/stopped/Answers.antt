@@ -1,4 +1,4 @@
-use Rattle.std.proofs.Common.{◌∙◌, ap, arith}
+use Rattle.std.proofs.Common.{◌∙◌, ℕ, Some, IsSome, ap, refl, subst, sym, arith}
 use Rattle.std.specs.Arc.{arc_value}
 use Rattle.cave_regions.specs.Cover.{Covering}
 use Rattle.gathering.proofs.GatherLemmas.{scattered_floor}
@@ -11,10 +11,10 @@ returns c =
     c.in_ok-piece.ensures (omega (arith, c.len-floor.ensures)) c.requires.root c.in_ok-scattered.ensures.scattered
     c.in_ok-scattered.ensures.some in (
       record {
-        limited = c.requires.limited;
+        limited = subst IsSome (sym c.requires.spent) refl;
         of_it = ap (λ (x : Covering). x.region) c.into_cover.ensures.cover ∙ c.requires.of_it;
         some = floor.0;
         none_below = floor.1;
       },
-      c.granted-turns.ensures,
+      c.requires.spent ∙ ap (λ (n : ℕ). Some n) (sym c.granted-turns.ensures.count),
     )

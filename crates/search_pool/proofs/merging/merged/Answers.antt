@@ -1,12 +1,16 @@
-use Rattle.std.proofs.Common.{ℕ, List, sym, ap, ◌∙◌, subst, arith}
+use Rattle.std.proofs.Common.{ℕ, List, Option, sym, ap, ◌∙◌, subst, arith}
 use Rattle.std.specs.Arc.{arc_value}
 use Rattle.cave_regions.specs.Cover.{Covering}
 use Rattle.proof_rules.specs.Tree.{Tree}
-use Rattle.gathering.specs.Gathered.{IsGathered}
+use Rattle.search_core.specs.Turns.{IsWithin}
+use Rattle.gathering.specs.Gathered.{IsGathered, StopsGathering}
+use Rattle.gathering.specs.declared.fault.PoolFault.TheVariants.{Stopped}
 use Rattle.schedule_law.specs.Worked.{Worked}
-use Rattle.search_pool.specs.Reports.{sum_of}
+use Rattle.search_pool.specs.Reports.{StopsPool, sum_of}
 use Rattle.search_pool.specs.Tallies.{AreTallied}
+use Rattle.search_pool.specs.Turns.{left}
 use Rattle.search_pool.proofs.ReportLemmas.{all_by_workers, all_came, all_gleaned, counted_at}
+use Rattle.search_pool.proofs.TurnLemmas.{both_within, stops_both}
 use Rattle.search_pool.proofs.merging.merged.Goals as goal
 
 pub report-requires-clause-gleaned : goal.report-requires-clause-gleaned
@@ -15,8 +19,8 @@ report-requires-clause-gleaned g c =
     let left = c.args.ran.joined.left.items in
     let all = counted_at (arc_value c.args.region.now) c.args.first.places c.args.root.now works left
     c.requires.run.joined c.cell.result _ c.cell.ensures c.in-Ok.ensures.gathered in
-    let tally = c.counted-counts.result in
-    let told = subst (λ (l : List Worked). AreTallied l tally) c.deref.ensures.value c.counted-counts.ensures.counted in
+    let tally = c.count_pieces-counts.result in
+    let told = subst (λ (l : List Worked). AreTallied l tally) c.deref.ensures.value c.count_pieces-counts.ensures.counted in
     let gleaned = all_gleaned works left _ tally all told in
     let long = c.len-left.ensures in
     omega (arith, gleaned, long)
@@ -25,8 +29,8 @@ pub returns-in-Ok-clause-counts : goal.returns-in-Ok-clause-counts
 returns-in-Ok-clause-counts g c =
     let works = c.args.ran.joined.works.items in
     let left = c.args.ran.joined.left.items in
-    let tally = c.counted-counts.result in
-    let told = subst (λ (l : List Worked). AreTallied l tally) c.deref.ensures.value c.counted-counts.ensures.counted in
+    let tally = c.count_pieces-counts.result in
+    let told = subst (λ (l : List Worked). AreTallied l tally) c.deref.ensures.value c.count_pieces-counts.ensures.counted in
     let all = counted_at (arc_value c.args.region.now) c.args.first.places c.args.root.now works left
     c.requires.run.joined c.cell.result _ c.cell.ensures c.in-Ok.ensures.gathered in
     let gleaned = all_gleaned works left _ tally all told in
@@ -45,8 +49,8 @@ returns-in-Ok-clause-report g c =
     let works = c.args.ran.joined.works.items in
     let left = c.args.ran.joined.left.items in
     let root = c.args.root.now in
-    let tally = c.counted-counts.result in
-    let told = subst (λ (l : List Worked). AreTallied l tally) c.deref.ensures.value c.counted-counts.ensures.counted in
+    let tally = c.count_pieces-counts.result in
+    let told = subst (λ (l : List Worked). AreTallied l tally) c.deref.ensures.value c.count_pieces-counts.ensures.counted in
     let run = c.requires.run in
     let gathered = c.in-Ok.gathered in
     let came = all_came region c.args.first.places root works left run.joined tally c.requires.root told in
@@ -78,4 +82,31 @@ returns-in-Ok-clause-report g c =
         left_over = omega (arith, e, long);
         gleaned = omega (arith, f, t2);
       };
+    }
+
+pub returns-in-Ok-clause-granted : goal.returns-in-Ok-clause-granted
+returns-in-Ok-clause-granted g c =
+    let turns = c.args.turns in let granted = c.args.ran.turns in let more = c.in-Ok.gathered.turns in
+    let spent = c.args.ran.spent in
+    let within = subst (λ (o : Option ℕ). IsWithin o more) c.left_of-rest.ensures c.in-Ok.ensures.granted in
+    subst (IsWithin turns) (sym c.report.ensures.turns) (both_within turns granted more spent c.requires.turns within)
+
+pub returns-in-Err-Stopped : goal.returns-in-Err-Stopped
+returns-in-Err-Stopped g c =
+    let region = arc_value c.args.region.now in let turns = c.args.turns in let granted = c.args.ran.turns in
+    let spent = c.args.ran.spent in let cover = c.in-Err-Stopped.cover in let least = c.in-Err-Stopped.least in
+    let more = c.in-Err-Stopped.more in
+    let stops = subst (StopsGathering region (left turns granted spent)) c.in-Err-Stopped.field-0-is
+    (subst (λ (o : Option ℕ). StopsGathering region o c.in-Err-Stopped.field-0) c.left_of-rest.ensures
+    c.in-Err-Stopped.ensures.stopped) in
+    record {
+      best = tt;
+      counts = tt;
+      report = tt;
+      granted = tt;
+      stopped = subst (λ (v : Covering). StopsPool region turns (Stopped v c.max.result c.sum.result))
+          (sym c.in-Err-Stopped.cover-is)
+          (stops_both region turns granted spent cover c.args.floor least more c.max.result c.sum.result
+          c.requires.turns c.requires.floor stops (omega (arith, c.max.ensures, c.in-Err-Stopped.least-is))
+          (omega (arith, c.sum.ensures, c.in-Err-Stopped.more-is)));
     }

@@ -14,7 +14,6 @@ use Rattle.worker_results.proofs.accesses.Accesses.TheSendSync as accesses
 use Rattle.worker_results.proofs.own.Own.TheSendSync as own
 use Rattle.worker_results.specs.contracts.done.Done as done
 use Rattle.worker_results.specs.contracts.share.Share as share
-use Rattle.search_pool.specs.contracts.ended.Ended as ended
 use Rattle.search_pool.proofs.run.+run_from.Goals as goal
 
 -- what a worker hands over may go to another thread; part by part, since it nests deeper than is searched at once
@@ -44,8 +43,5 @@ share_send B names = search (
 done_send : (B : RattleType) (names : Ghosts B.Denot) → IsSend (done.the_row B names)
 done_send B names = search (sendable, crosses, share_send, cover.the_send, seat.the_send) depth 40 fits 100000
 
-ended_send : (B : RattleType) (names : Ghosts B.Denot) → IsSend (ended.the_row B names)
-ended_send B names = search (sendable, crosses, done_send) depth 40
-
 pub spawn_with-requires-send-T : goal.spawn_with-requires-send-T
-spawn_with-requires-send-T g t c κs within = search (sendable, crosses, ended_send) depth 40
+spawn_with-requires-send-T g t c κs within = search (sendable, crosses, done_send) depth 40

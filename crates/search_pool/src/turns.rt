@@ -1,0 +1,60 @@
+//! The turns that workers share.
+ghost use Rattle.std.specs.Prelude.{◌≡◌, ◌<◌};
+ghost use Rattle.search_core.specs.Turns.{IsWithin};
+ghost use Rattle.search_pool.specs.Rows.{AreShares, AreSpendings, all_granted, counted, is_spent, is_started};
+ghost use Rattle.search_pool.specs.Turns.{left};
+
+use worker_results::{Done, Naming};
+
+/// The turns of the first of so many workers, and those of each other one: all have the same share, and what is left
+/// over goes to the first (this project's own).
+pub(crate) fn shares_of(turns: Option<u64>, workers: u32) -> (Option<u64>, Option<u64>)
+    requires { 0 < workers }
+    ensures { AreShares turns workers result.0 result.1 }
+{
+    let Some(limit) = turns else {
+        return (None, None);
+    };
+    let workers = u64::from(workers);
+    let each = limit / workers;
+    (Some(limit - each * (workers - 1)), Some(each))
+}
+
+/// How many turns the workers were granted together, and whether one asked for more.
+pub(crate) fn spent_by<B: Naming>(results: &[Done<B>]) -> (u64, bool)
+    ensures granted { result.0 ≡ counted (all_granted results.now) }
+    ensures spent { result.1 ≡ is_spent results.now }
+    ensures each { AreSpendings results.now }
+{
+    let Some((first, rest)) = results.split_first() else {
+        return (0, false);
+    };
+    let turns = first.turns();
+    let (granted, spent) = spent_by(rest);
+    (
+        turns.granted.saturating_add(granted),
+        turns.is_spent || spent,
+    )
+}
+
+/// Whether one of the workers was started.
+pub(crate) fn is_any_started<B: Naming>(results: &[Done<B>]) -> bool
+    ensures { result ≡ is_started results.now }
+{
+    let Some((first, rest)) = results.split_first() else {
+        return false;
+    };
+    first.turns().was_started || is_any_started(rest)
+}
+
+/// The turns that are left where so many were granted, none where a share was used up.
+pub(crate) fn left_of(turns: Option<u64>, granted: u64, spent: bool) -> Option<u64>
+    requires { IsWithin turns granted }
+    ensures { result ≡ left turns granted spent }
+{
+    match turns {
+        None => None,
+        Some(_) if spent => Some(0),
+        Some(limit) => Some(limit - granted),
+    }
+}

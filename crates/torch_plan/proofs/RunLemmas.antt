@@ -1,0 +1,84 @@
+-- What a run over files gives, as far as these are known.
+use Rattle.std.proofs.Common.{◌≡◌, ◌≢◌, ◌<◌, ◌∙◌, ℕ, Bool, true, false, List, Option, Some, None, Result, Ok, Err, sym, ap}
+use Rattle.std.proofs.Common.{subst}
+use Rattle.std.specs.Prelude.{IfErr, IfOk, IfSome, OnOk, bytes_eq, codes, if◌then◌else◌}
+use Rattle.cave_model.specs.Rule.{Rule}
+use Rattle.cave_runs.specs.PlanRuns.{IsNoPlanOfInput}
+use Rattle.cave_runs.specs.Runs.{IsFaultOfInput, IsOfInput, WritesDark}
+use Rattle.cave_runs.specs.declared.fault.RunFault.{RunFault}
+use Rattle.cave_runs.specs.declared.fault.RunFault.TheVariants as faults
+use Rattle.cave_runs.specs.declared.plan.Outcome.{Outcome}
+use Rattle.torch_plan.specs.Answers.{AnswersDark, AnswersPlan, LeavesOutput, PlansSome, structure_in, table_in}
+use Rattle.torch_plan.specs.Sources.{Sources}
+
+-- standard input, where that is named
+pub standard_in : (sources : Sources) (file : List ℕ) → bytes_eq file (codes "-") ≡ true
+    → structure_in sources file ≡ sources.input
+standard_in sources file is = ap (λ (b : Bool). if b then sources.input else sources.files file) is
+
+-- and else a file
+pub file_in : (sources : Sources) (file : List ℕ) → bytes_eq file (codes "-") ≡ false
+    → structure_in sources file ≡ sources.files file
+file_in sources file is = ap (λ (b : Bool). if b then sources.input else sources.files file) is
+
+-- the table that was read is the one that is known
+pub told_as : (rows : Option (Option (List ℕ))) (read other : Option (List ℕ)) → read ≡ other
+    → IfSome rows (λ r. other ≡ r) → IfSome rows (λ r. read ≡ r)
+told_as None read other same told = tt
+told_as (Some r) read other same told = same ∙ told
+
+-- what holds of what was read holds of what is known
+known : (structure remaining : Option (List ℕ)) (rows : Option (Option (List ℕ))) (read : Option (List ℕ))
+    (what : List ℕ → Option (List ℕ) → Type 0) → remaining ≡ structure → IfSome rows (λ r. read ≡ r)
+    → IfSome remaining (λ bytes. what bytes read) → IfSome rows (λ r. IfSome structure (λ bytes. what bytes r))
+known structure remaining None read what same told h = tt
+known structure remaining (Some r) read what same told h =
+    subst (λ (x : Option (List ℕ)). IfSome structure (λ bytes. what bytes x)) told
+    (subst (λ (s : Option (List ℕ)). IfSome s (λ bytes. what bytes read)) same h)
+
+-- a run of dark cells over what is known
+pub dark_answered : (sources : Sources) (file : List ℕ) (table : Option (List ℕ)) (rule : Rule)
+    (old new remaining read : Option (List ℕ)) (result : Result (Unit {0}) RunFault)
+    → remaining ≡ structure_in sources file → IfSome (table_in sources table) (λ r. read ≡ r)
+    → OnOk result (IfSome remaining (λ bytes. WritesDark bytes read rule old new)) → LeavesOutput result old new
+    → IfErr result (λ e. IsOfInput e → IfSome remaining (λ bytes. IsFaultOfInput bytes read e))
+    → AnswersDark sources file table rule old new result
+dark_answered sources file table rule old new remaining read (Ok u) same told done left fault = record {
+  done = known (structure_in sources file) remaining (table_in sources table) read
+      (λ bytes rows. WritesDark bytes rows rule old new) same told done;
+  left = left;
+  fault = tt;
+}
+dark_answered sources file table rule old new remaining read (Err e) same told done left fault = record {
+  done = tt;
+  left = left;
+  fault = λ of. known (structure_in sources file) remaining (table_in sources table) read
+      (λ bytes rows. IsFaultOfInput bytes rows e) same told (fault of.0);
+}
+
+-- a run of a plan over what is known
+pub plan_answered : (sources : Sources) (file : List ℕ) (table : Option (List ℕ)) (rule : Rule) (turns : Option ℕ)
+    (workers : ℕ) (old new remaining read : Option (List ℕ)) (result : Result Outcome RunFault)
+    → remaining ≡ structure_in sources file → IfSome (table_in sources table) (λ r. read ≡ r)
+    → IfOk result (λ outcome. IfSome remaining (λ bytes. PlansSome bytes read rule turns outcome old new))
+    → LeavesOutput result old new
+    → IfErr result (λ e. IsOfInput e → e ≢ faults.NoThread
+    → IfSome remaining (λ bytes. IsNoPlanOfInput bytes read rule e))
+    → IfErr result (λ e. e ≡ faults.NoThread → 1 < workers)
+    → AnswersPlan sources file table rule turns workers old new result
+plan_answered sources file table rule turns workers old new remaining read (Ok outcome) same told done left fault threads
+    = record {
+      done = known (structure_in sources file) remaining (table_in sources table) read
+          (λ bytes rows. PlansSome bytes rows rule turns outcome old new) same told done;
+      left = left;
+      fault = tt;
+      threads = tt;
+    }
+plan_answered sources file table rule turns workers old new remaining read (Err e) same told done left fault threads
+    = record {
+      done = tt;
+      left = left;
+      fault = λ of more. known (structure_in sources file) remaining (table_in sources table) read
+          (λ bytes rows. IsNoPlanOfInput bytes rows rule e) same told (fault of.0 more);
+      threads = threads;
+    }

@@ -1,0 +1,132 @@
+-- What a run of the program reads, its exit status and what it writes. This is this project's own.
+use Rattle.std.specs.Prelude.{◌≡◌, ◌≢◌, ◌<◌, ◌⊎◌, ℕ, List, Option, Some, None, Result, Ok, Err, OnOk, IfOk, IfErr, IfSome}
+use Rattle.std.specs.Prelude.{IsSome, bytes_eq, codes, option_copied, option_map, if◌then◌else◌}
+use Rattle.std.specs.Io.KnownBytes.{Keeps}
+use Rattle.cave_model.specs.Rule.{Rule}
+use Rattle.cave_model.specs.RuleOf.{rule_of}
+use Rattle.proof_check.specs.declared.verdict.Verdict.{Verdict}
+use Rattle.cave_runs.specs.CheckRuns.{IsNoVerdict, WritesVerdict}
+use Rattle.cave_runs.specs.PlanRuns.{IsNoPlanOfInput, Plans}
+use Rattle.cave_runs.specs.Runs.{IsFaultOfInput, IsOfInput, WritesDark}
+use Rattle.cave_runs.specs.declared.fault.Input.TheVariants.{TableInput}
+use Rattle.cave_runs.specs.declared.fault.RunFault.{RunFault}
+use Rattle.cave_runs.specs.declared.fault.RunFault.TheVariants as faults
+use Rattle.cave_runs.specs.declared.plan.Outcome.{Outcome}
+use Rattle.torch_plan.specs.Requests.{IsAsked}
+use Rattle.torch_plan.specs.Sources.{Sources}
+use Rattle.torch_plan.specs.Status.{end_status, judged, status}
+use Rattle.torch_plan.specs.declared.command.Request.{Request}
+use Rattle.torch_plan.specs.declared.command.Request.TheVariants.{Dark, Plan, Check}
+
+-- what is known of a structure: `-` is standard input
+abbrev pub structure_in : Sources → List ℕ → Option (List ℕ)
+structure_in sources file = if bytes_eq file (codes "-") then sources.input else sources.files file
+
+-- what is known of the user's table, where one is named
+abbrev pub table_in : Sources → Option (List ℕ) → Option (Option (List ℕ))
+table_in sources None = Some None
+table_in sources (Some path) = option_map Some (sources.files path)
+
+-- this holds of the structure and the table, where both are known
+abbrev pub Known : Sources → List ℕ → Option (List ℕ) → (List ℕ → Option (List ℕ) → Type 0) → Type 0
+Known sources file table what =
+    IfSome (table_in sources table) (λ rows. IfSome (structure_in sources file) (λ bytes. what bytes rows))
+
+-- the fault lies in the structure or what it names, and not in the length of the table
+abbrev pub IsOfStructure : RunFault → Type 0
+IsOfStructure fault = IsOfInput fault × (fault ≢ faults.TooLong TableInput)
+
+-- a fault but of writing leaves the output as it was
+abbrev pub LeavesOutput : {X : Type 0} → Result X RunFault → Option (List ℕ) → Option (List ℕ) → Type 0
+LeavesOutput result old new = IfErr result (λ fault. fault ≢ faults.WriteFailed → Keeps old new)
+
+-- ---- dark cells
+
+-- 0, or that of the fault
+abbrev pub dark_status : Result (Unit {0}) RunFault → ℕ
+dark_status (Ok done) = 0
+dark_status (Err fault) = status fault
+
+-- the dark cells were written, or the fault is the structure's
+pub record AnswersDark (sources : Sources) (file : List ℕ) (table : Option (List ℕ)) (rule : Rule)
+    (old new : Option (List ℕ)) (result : Result (Unit {0}) RunFault) : Type 0 where
+  pub done : OnOk result (Known sources file table (λ bytes rows. WritesDark bytes rows rule old new))
+  pub left : LeavesOutput result old new
+  pub fault : IfErr result (λ fault. IsOfStructure fault → Known sources file table (λ bytes rows.
+      IsFaultOfInput bytes rows fault))
+
+-- ---- plans
+
+-- that of the end, or of the fault
+abbrev pub plan_status : Result Outcome RunFault → ℕ
+plan_status (Ok outcome) = end_status outcome
+plan_status (Err fault) = status fault
+
+-- the plan was written, and its proof
+pub record PlansSome (bytes : List ℕ) (table : Option (List ℕ)) (rule : Rule) (turns : Option ℕ) (outcome : Outcome)
+    (old new : Option (List ℕ)) : Type 0 where
+  -- what was written of the proof before
+  pub before : Option (List ℕ)
+  pub after : Option (List ℕ)
+  pub plans : Plans bytes table rule turns outcome old new before after
+
+-- the plan was written, and its proof to some file or to none, or the fault is the structure's
+pub record AnswersPlan (sources : Sources) (file : List ℕ) (table : Option (List ℕ)) (rule : Rule)
+    (turns : Option ℕ) (workers : ℕ) (old new : Option (List ℕ)) (result : Result Outcome RunFault) : Type 0 where
+  pub done : IfOk result (λ outcome. Known sources file table (λ bytes rows.
+      PlansSome bytes rows rule turns outcome old new))
+  pub left : LeavesOutput result old new
+  pub fault : IfErr result (λ fault. IsOfStructure fault → fault ≢ faults.NoThread
+      → Known sources file table (λ bytes rows. IsNoPlanOfInput bytes rows rule fault))
+  pub threads : IfErr result (λ fault. fault ≡ faults.NoThread → 1 < workers)
+
+-- ---- verdicts
+
+-- that of the verdict, or of the fault
+abbrev pub check_status : Result Verdict RunFault → ℕ
+check_status (Ok verdict) = judged verdict
+check_status (Err fault) = status fault
+
+-- the verdict was written, or the fault is that of the structure or of the certificate's length
+pub record AnswersCheck (sources : Sources) (file proof : List ℕ) (table : Option (List ℕ)) (rule : Rule)
+    (old new : Option (List ℕ)) (result : Result Verdict RunFault) : Type 0 where
+  pub done : IfOk result (λ verdict. IfSome (table_in sources table) (λ rows.
+      WritesVerdict (structure_in sources file) rows rule (sources.files proof) old new verdict))
+  pub left : LeavesOutput result old new
+  pub fault : IfErr result (λ fault. IsOfStructure fault → IfSome (table_in sources table) (λ rows.
+      IsNoVerdict (structure_in sources file) rows (sources.files proof) fault))
+
+-- ---- requests
+
+-- a run of dark cells that ends with this status
+abbrev pub RunsDark : Sources → List ℕ → Option (List ℕ) → Rule → Option (List ℕ) → Option (List ℕ) → ℕ → Type 0
+RunsDark sources file table rule old new code = (result : Result (Unit {0}) RunFault)
+    × (code ≡ dark_status result) × AnswersDark sources file table rule old new result
+
+-- a run of a plan that ends with this status
+abbrev pub RunsPlan : Sources → List ℕ → Option (List ℕ) → Rule → Option ℕ → ℕ → Option (List ℕ)
+    → Option (List ℕ) → ℕ → Type 0
+RunsPlan sources file table rule turns workers old new code = (result : Result Outcome RunFault)
+    × (code ≡ plan_status result) × AnswersPlan sources file table rule turns workers old new result
+
+-- a run of a check that ends with this status
+abbrev pub RunsCheck : Sources → List ℕ → List ℕ → Option (List ℕ) → Rule → Option (List ℕ) → Option (List ℕ)
+    → ℕ → Type 0
+RunsCheck sources file proof table rule old new code = (result : Result Verdict RunFault)
+    × (code ≡ check_status result) × AnswersCheck sources file proof table rule old new result
+
+-- what was asked for was done: the run of these files, by this table and rule, ended with this status; or the file for
+-- the proof is one that is read, and nothing was done
+abbrev pub Does : Sources → Request → Option (List ℕ) → Option (List ℕ) → ℕ → Type 0
+Does sources (Dark file table rule) old new code =
+    RunsDark sources file.now (option_copied table) (rule_of rule) old new code
+Does sources (Plan file table opts proof progress) old new code = (IsSome proof × (code ≡ 2) × Keeps old new)
+    ⊎ RunsPlan sources file.now (option_copied table) (rule_of opts.rule) opts.turns opts.workers.number old new code
+Does sources (Check file proof table rule) old new code =
+    RunsCheck sources file.now proof.now (option_copied table) (rule_of rule) old new code
+
+-- what the words ask for was done; or nothing was, the system explained help or a mistake in usage, and the status is 0,
+-- 2, or that of a failed write or of refused memory
+abbrev pub Answers : Sources → List (List ℕ) → Option (List ℕ) → Option (List ℕ) → ℕ → Type 0
+Answers sources words old new code = ((request : Request) × IsAsked words request × Does sources request old new code)
+    ⊎ (Keeps old new × ((code ≡ 0) ⊎ (code ≡ 2) ⊎ (code ≡ 6) ⊎ (code ≡ 7)))

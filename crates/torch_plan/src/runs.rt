@@ -1,0 +1,165 @@
+//! The runs over the files of a system.
+ghost use Rattle.std.specs.Prelude.{◌≡◌, ◌≢◌, ◌<◌, ◌⊎◌, IfErr, IfOk, IfSome, option_copied, option_map};
+ghost use Rattle.cave_model.specs.RuleOf.{rule_of};
+ghost use Rattle.cave_runs.specs.PlanRuns.{IsNoPlanOfInput};
+ghost use Rattle.cave_runs.specs.Runs.{IsOfInput};
+ghost use Rattle.cave_runs.specs.declared.fault.Input.TheVariants.{TableInput};
+ghost use Rattle.cave_runs.specs.declared.fault.RunFault.{RunFault};
+ghost use Rattle.torch_plan.specs.Answers.{AnswersCheck, AnswersDark, AnswersPlan, LeavesOutput, PlansSome, table_in};
+
+use crate::planner::run_plan;
+use crate::system::System;
+use cave_model::Rule;
+use cave_runs::{
+    Observer, Outcome, PlanOpts, RunFault, Unkept, Verdict, read_table, run_check, run_dark,
+};
+use std::alloc::Global;
+use std::io::{Read, Write};
+use std::sync::Wait;
+use std::thread::Threads;
+
+/// The bytes of the user's table, where one is named. It is read before the structure is opened.
+fn table_of<S: System>(
+    alloc: Global,
+    system: &S,
+    table: Option<&str>,
+) -> Result<Option<Vec<u8>>, RunFault>
+    ensures known { IfOk result (λ read. IfSome (table_in (S.sources system.now) (option_copied table.entry))
+        (λ rows. option_map (λ v. v.items) read ≡ rows)) }
+    ensures fault { IfErr result (λ e. (e ≡ RunFault.ReadFailed) ⊎ (e ≡ RunFault.TooLong TableInput)
+        ⊎ (e ≡ RunFault.OutOfMemory)) }
+{
+    let Some(path) = table else {
+        return Ok(None);
+    };
+    match system.open(path) {
+        Some(mut input) => Ok(Some(read_table(alloc, &mut input)?)),
+        None => Err(RunFault::ReadFailed),
+    }
+}
+
+/// The dark cells of a structure.
+pub(crate) fn answer_dark<S: System, W: Write>(
+    alloc: Global,
+    system: &S,
+    file: &str,
+    table: Option<&str>,
+    rule: Rule,
+    output: &mut W,
+) -> Result<(), RunFault>
+    ensures { AnswersDark (S.sources system.now) file.now (option_copied table.entry) (rule_of rule)
+        (W.contents output.old) (W.contents output.new) result }
+{
+    let table = table_of(alloc, system, table)?;
+    let table = table.as_deref();
+    if file == "-" {
+        return run_dark(alloc, &mut system.standard(), table, rule, output);
+    }
+    match system.open(file) {
+        Some(mut input) => run_dark(alloc, &mut input, table, rule, output),
+        None => Err(RunFault::ReadFailed),
+    }
+}
+
+/// Plans what the reader has. The file for the proof is made, or emptied, before it is read.
+fn plan_from<X: Threads + Wait + Sync, S: System, O: Observer, R: Read, W: Write>(
+    threads: &X,
+    alloc: Global,
+    system: &S,
+    reader: &mut R,
+    table: Option<&[u8]>,
+    opts: &PlanOpts,
+    observer: &O,
+    proof: Option<&str>,
+    output: &mut W,
+) -> Result<Outcome, RunFault>
+    ensures done { IfOk result (λ outcome. IfSome (R.remaining reader.old) (λ bytes.
+        PlansSome bytes (option_copied table.entry) (rule_of opts.now.rule) opts.now.turns outcome
+        (W.contents output.old) (W.contents output.new))) }
+    ensures left { LeavesOutput result (W.contents output.old) (W.contents output.new) }
+    ensures fault { IfErr result (λ e. IsOfInput e → e ≢ RunFault.NoThread → IfSome (R.remaining reader.old)
+        (λ bytes. IsNoPlanOfInput bytes (option_copied table.entry) (rule_of opts.now.rule) e)) }
+    ensures threads { IfErr result (λ e. e ≡ RunFault.NoThread → 1 < opts.now.workers.number) }
+{
+    let Some(path) = proof else {
+        return run_plan(
+            threads,
+            alloc,
+            reader,
+            table,
+            opts,
+            observer,
+            output,
+            &mut Unkept,
+        );
+    };
+    match system.create(path) {
+        Some(mut kept) => run_plan(
+            threads, alloc, reader, table, opts, observer, output, &mut kept,
+        ),
+        None => Err(RunFault::WriteFailed),
+    }
+}
+
+/// The plan of a structure.
+pub(crate) fn answer_plan<X: Threads + Wait + Sync, S: System, O: Observer, W: Write>(
+    threads: &X,
+    alloc: Global,
+    system: &S,
+    file: &str,
+    table: Option<&str>,
+    opts: &PlanOpts,
+    observer: &O,
+    proof: Option<&str>,
+    output: &mut W,
+) -> Result<Outcome, RunFault>
+    ensures { AnswersPlan (S.sources system.now) file.now (option_copied table.entry) (rule_of opts.now.rule)
+        opts.now.turns opts.now.workers.number (W.contents output.old) (W.contents output.new) result }
+{
+    let table = table_of(alloc, system, table)?;
+    let table = table.as_deref();
+    if file == "-" {
+        let mut input = system.standard();
+        return plan_from(
+            threads, alloc, system, &mut input, table, opts, observer, proof, output,
+        );
+    }
+    match system.open(file) {
+        Some(mut input) => plan_from(
+            threads, alloc, system, &mut input, table, opts, observer, proof, output,
+        ),
+        None => Err(RunFault::ReadFailed),
+    }
+}
+
+/// The verdict on a certificate. Both files are opened before either is read.
+pub(crate) fn answer_check<S: System, W: Write>(
+    alloc: Global,
+    system: &S,
+    file: &str,
+    proof: &str,
+    table: Option<&str>,
+    rule: Rule,
+    output: &mut W,
+) -> Result<Verdict, RunFault>
+    ensures { AnswersCheck (S.sources system.now) file.now proof.now (option_copied table.entry) (rule_of rule)
+        (W.contents output.old) (W.contents output.new) result }
+{
+    let table = table_of(alloc, system, table)?;
+    let table = table.as_deref();
+    if file == "-" {
+        return match system.open(proof) {
+            Some(mut proof) => {
+                let mut input = system.standard();
+                run_check(alloc, &mut input, table, rule, &mut proof, output)
+            }
+            None => Err(RunFault::ReadFailed),
+        };
+    }
+    match (system.open(file), system.open(proof)) {
+        (Some(mut input), Some(mut proof)) => {
+            run_check(alloc, &mut input, table, rule, &mut proof, output)
+        }
+        _ => Err(RunFault::ReadFailed),
+    }
+}
