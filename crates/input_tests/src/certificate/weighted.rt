@@ -6,7 +6,7 @@ use cave_files::caves;
 use std::test::Fail;
 
 /// The lines before the tree, which begins on line 9.
-const HEAD: [&str; 8] = [
+pub const HEAD: [&str; 8] = [
     "torchproof 3",
     "box 10 4 10",
     "headroom 2",

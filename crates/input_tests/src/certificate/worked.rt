@@ -16,7 +16,7 @@ struct Judged {
     said: &'static str,
 }
 
-const JUDGED: [Judged; 13] = [
+const JUDGED: [Judged; 16] = [
     Judged {
         cave: &caves::EMPTY,
         table: None,
@@ -89,6 +89,28 @@ const JUDGED: [Judged; 13] = [
         need: 8,
         lines: proofs::NEED_8,
         said: "accepted 3",
+    },
+    // A certificate stands for its own need alone, and the first version for 1.
+    Judged {
+        cave: &caves::CORRIDOR_27,
+        table: None,
+        need: 8,
+        lines: proofs::CORRIDOR_27,
+        said: "rejected: wrong box",
+    },
+    Judged {
+        cave: &caves::CORRIDOR_27,
+        table: None,
+        need: 8,
+        lines: proofs::BARRED,
+        said: "rejected: wrong box",
+    },
+    Judged {
+        cave: &caves::CORRIDOR_27,
+        table: None,
+        need: 1,
+        lines: proofs::NEED_8,
+        said: "rejected: wrong box",
     },
     Judged {
         cave: &caves::CORRIDOR_28,
