@@ -17,7 +17,8 @@ _torchplan() {
     elif [[ $word == -* ]]; then
         case $command in
             plan) all="$rules --proof --workers --turns --progress --help" ;;
-            check | dark) all="$rules --help" ;;
+            check) all="$rules --help" ;;
+            dark) all="$rules --progress --help" ;;
         esac
         COMPREPLY=($(compgen -W "$all" -- "$word"))
     else

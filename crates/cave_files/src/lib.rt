@@ -5,5 +5,7 @@
 pub mod caves;
 pub mod streams;
 mod structure;
+mod texts;
 
 pub use structure::{Block, Entry, Fill, Structure};
+pub use texts::row_of_cells;

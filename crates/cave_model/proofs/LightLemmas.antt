@@ -15,6 +15,42 @@ pub path_end_inside : {cave : Cave} {a c n : ℕ} → Path cave a c n → c < ce
 path_end_inside (start h) = h
 path_end_inside {cave = cave} (onward {before = b} p to n) = (neighbours_mutual cave.size b to n).inside
 
+-- ---- the way back
+
+-- a path from the second of two neighbours is one from the first, with what entering the second costs
+pub path_front : (cave : Cave) (before source cell cost : ℕ) → AreNeighbours cave.size before source
+    → Path cave source cell cost → Path cave before cell (cost + entering_cost cave source)
+path_front cave before source cell cost n (start h) = onward {before = before} {cost = 0} (start n.inside) source n
+path_front cave before source cell cost n (onward {before = b} {cost = c} p to m) =
+    let same : c + entering_cost cave source + entering_cost cave to
+    ≡ c + entering_cost cave to + entering_cost cave source = omega arith in
+    subst (λ (sum : ℕ). Path cave before cell sum) same
+    (onward {before = b} {cost = c + entering_cost cave source} (path_front cave before source b c n p) to m)
+
+-- a path from the second cell to the first, which costs as much but for the cells where they begin
+pub record IsWayBack (cave : Cave) (first second cost : ℕ) : Type 0 where
+  pub back : ℕ
+  pub path : Path cave second first back
+  pub same : back + entering_cost cave second ≡ cost + entering_cost cave first
+
+-- each path leads back: entering its start then costs, and entering its end doesn't
+pub path_back : (cave : Cave) (first second cost : ℕ) → Path cave first second cost → IsWayBack cave first second cost
+path_back cave first second cost (start h) = record { back = 0; path = start h; same = refl }
+path_back cave first second cost (onward {before = b} {cost = c} p to n) =
+    let way = path_back cave first b c p in
+    record {
+      back = way.back + entering_cost cave b;
+      path = path_front cave to b first way.back (neighbours_mutual cave.size b to n) way.path;
+      same = omega (arith, way.same);
+    }
+
+-- what light brings one way it brings the other, but for what entering each end costs
+pub brings_back : (cave : Cave) (first second emission level : ℕ) → BringsFrom cave first emission second level
+    → BringsFrom cave second (emission + entering_cost cave first) first (level + entering_cost cave second)
+brings_back cave first second emission level b =
+    let way = path_back cave first second b.0 b.1 in
+    (way.back, way.path, omega (arith, way.same, b.2))
+
 -- ---- a round brings no more than paths do
 
 -- what is at most the greater of two is at most one of them

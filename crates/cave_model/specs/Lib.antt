@@ -4,6 +4,7 @@ pub mod Rule
 pub mod RuleOf
 pub mod Cave
 pub mod Light
+pub mod Passages
 pub mod Relaxation
 pub mod Listing
 pub mod Least
@@ -14,3 +15,4 @@ pub mod Coverage
 pub mod Regions
 -- private
 pub mod Faces
+pub mod Parts

@@ -6,11 +6,13 @@ mod face;
 mod hang;
 pub mod laws;
 mod neighbours;
+mod passages;
 mod rule;
 mod spawn;
 mod world;
 
 pub use hang::{Hang, TORCH_LIGHT};
+pub use passages::Passages;
 pub use rule::Rule;
 pub use std::alloc::AllocError as OutOfMemory;
 pub use world::World;

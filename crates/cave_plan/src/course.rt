@@ -6,15 +6,16 @@ ghost use Rattle.certificate_text.specs.PlanOf.{plans_of};
 ghost use Rattle.proof_tree.specs.Shape.{tree_of};
 ghost use Rattle.search_core.specs.Planned.{IsBest, IsStopped};
 ghost use Rattle.cave_plan.specs.Course.{GoesOn, IsCourse, course};
+ghost use Rattle.cave_plan.specs.Faults.{StopsRegion};
 ghost use Rattle.cave_plan.specs.declared.fault.PlanFault.{PlanFault};
 
-use crate::crew::Crew;
+use crate::crew::{Crew, plan_by_one};
 use crate::fault::{PlanFault, RegionFault};
 use cave_base::Cell;
 use cave_regions::{Cover, Region};
 use certificate_text::Planned;
 use proof_tree::Proof;
-use search_core::{Observer, Strategy};
+use search_core::{BestPlan, Observer, Strategy};
 use std::alloc::{AllocError, Global};
 use std::sync::{Arc, Wait};
 use std::thread::Threads;
@@ -96,21 +97,23 @@ impl Course {
         Ok(())
     }
 
-    /// Plans one region more, with all the turns.
-    fn add_region<X: Threads + Wait + Sync, S: Strategy + Send + Sync, O: Observer>(
+    /// Takes what so many workers found of one region more.
+    fn add_region(
         &mut self,
-        alloc: Global,
-        region: Arc<Region>,
-        crew: &Crew<'_, X, S, O>,
         turns: Option<u64>,
+        region: Arc<Region>,
+        workers: u32,
+        planned: Result<BestPlan, RegionFault>,
     ) -> Result<(), PlanFault>
+        requires best { IfOk planned (λ plan. IsBest (arc_value region) plan.cover (tree_of plan.proof)) }
+        requires stopped { IfErr planned (StopsRegion workers (arc_value region) turns) }
         ensures done { OnOk result (GoesOn turns (arc_value region)
             (course self.old.torches.items self.old.floor self.old.stopped (plans_of self.old.parts.items))
             (course self.new.torches.items self.new.floor self.new.stopped (plans_of self.new.parts.items))) }
         ensures fault { IfErr result (λ e. e ≢ PlanFault.OutOfMemory → e ≡ PlanFault.NoThread) }
-        ensures threads { IfErr result (λ e. e ≡ PlanFault.NoThread → 1 < crew.now.workers.number) }
+        ensures threads { IfErr result (λ e. e ≡ PlanFault.NoThread → 1 < workers) }
     {
-        match crew.plan_region(alloc, &region, turns) {
+        match planned {
             Ok(plan) => Ok(self.add_best(turns, region, plan.cover, plan.proof)?),
             Err(RegionFault::Stopped { cover, floor }) => {
                 Ok(self.add_stopped(turns, &cover, floor)?)
@@ -140,7 +143,32 @@ pub fn plan_regions<X: Threads + Wait + Sync, S: Strategy + Send + Sync, O: Obse
         number = number.saturating_add(1);
         crew.observer.region(number, count);
         let region = Arc::new(alloc, region)?;
-        course.add_region(alloc, region, crew, turns)?;
+        let planned = crew.plan_region(alloc, &region, turns);
+        course.add_region(turns, region, crew.workers.number, planned)?;
+    }
+    Ok(course)
+}
+
+/// The same by the caller's thread alone.
+pub fn plan_regions_alone<S: Strategy, O: Observer>(
+    alloc: Global,
+    regions: Vec<Region>,
+    turns: Option<u64>,
+    observer: &O,
+) -> Result<Course, PlanFault>
+    ensures found { IfOk result (λ c. IsCourse regions.items turns
+        (course c.torches.items c.floor c.stopped (plans_of c.parts.items))) }
+    ensures memory { IfErr result (λ e. e ≡ PlanFault.OutOfMemory) }
+{
+    let mut course = Course::new(alloc);
+    let count = regions.len();
+    let mut number: usize = 0;
+    for region in regions {
+        number = number.saturating_add(1);
+        observer.region(number, count);
+        let region = Arc::new(alloc, region)?;
+        let planned = plan_by_one::<S, O>(alloc, &region, turns, observer);
+        course.add_region(turns, region, 1, planned)?;
     }
     Ok(course)
 }

@@ -7,7 +7,7 @@ ghost use Rattle.cave_plan.specs.Faults.{IsRefusedPlan, NamesUnlightable};
 ghost use Rattle.cave_plan.specs.Outline.{AreRegionsIn, CountsDark, IsCourseIn, IsOutlineOf};
 ghost use Rattle.cave_plan.specs.declared.fault.PlanFault.{PlanFault};
 
-use crate::course::{Course, in_order, plan_regions};
+use crate::course::{Course, in_order, plan_regions, plan_regions_alone};
 use crate::crew::Crew;
 use crate::drawing::plan_text;
 use crate::fault::PlanFault;
@@ -76,30 +76,24 @@ fn outline_from(
     })
 }
 
-/// The same of regions that aren't planned yet.
-fn outline_regions<X: Threads + Wait + Sync, S: Strategy + Send + Sync, O: Observer>(
-    alloc: Global,
-    world: &World,
-    regions: Vec<Region>,
-    dark: usize,
-    crew: &Crew<'_, X, S, O>,
-    turns: Option<u64>,
-) -> Result<Outline, PlanFault>
-    requires regions { AreRegionsIn world.now regions.items }
-    requires dark { CountsDark world.now dark }
-    ensures found { IfOk result (λ o.
-        IsOutlineOf world.now turns (string_bytes o.text) o.stopped (plans_of o.parts.items)) }
-    ensures fault { IfErr result (λ e. e ≢ PlanFault.OutOfMemory → e ≡ PlanFault.NoThread) }
-    ensures threads { IfErr result (λ e. e ≡ PlanFault.NoThread → 1 < crew.now.workers.number) }
+/// The regions of the cave, and the number of its dark cells. The rows of the whole cave are let go.
+fn regions_of(alloc: Global, world: &World) -> Result<(Vec<Region>, usize), PlanFault>
+    ensures regions { IfOk result (λ r. AreRegionsIn world.now r.0.items) }
+    ensures dark { IfOk result (λ r. CountsDark world.now r.1) }
+    ensures fault { IfErr result (λ e. e ≢ PlanFault.OutOfMemory → NamesUnlightable world.now e) }
+    ensures threads { IfErr result (λ e. e ≢ PlanFault.NoThread) }
+    ensures refused { (e : PlanFault) → NamesUnlightable world.now e → IsRefusedPlan result e }
 {
-    let plans = plan_regions(alloc, regions, crew, turns)?;
-    let outline = outline_from(alloc, world, plans, dark, turns)?;
-    Ok(outline)
+    let problem = Problem::new(alloc, world)?;
+    let dark = problem.dark().len();
+    let regions = split(alloc, &problem)?;
+    Ok((regions, dark))
 }
 
 /// The fewest torches that leave no cell of the cave dark: what is printed of them, and for each region a tree which
 /// proves that fewer don't do. The regions are planned one after another, each with all the turns; where those of one
-/// were spent, the torches are the best that were found. The rows of the whole cave are let go before the search.
+/// were spent, the torches are the best that were found. The rows of the whole cave are let go before
+/// the search.
 pub fn plan_cave<X: Threads + Wait + Sync, S: Strategy + Send + Sync, O: Observer>(
     alloc: Global,
     world: &World,
@@ -117,10 +111,27 @@ pub fn plan_cave<X: Threads + Wait + Sync, S: Strategy + Send + Sync, O: Observe
     // Such a fault is answered, before any worker is asked for.
     ensures refused { (e : PlanFault) → NamesUnlightable world.now e → IsRefusedPlan result e }
 {
-    let problem = Problem::new(alloc, world)?;
-    let dark = problem.dark().len();
-    let regions = split(alloc, &problem)?;
-    drop(problem);
-    let outline = outline_regions(alloc, world, regions, dark, crew, turns)?;
+    let (regions, dark) = regions_of(alloc, world)?;
+    let plans = plan_regions(alloc, regions, crew, turns)?;
+    let outline = outline_from(alloc, world, plans, dark, turns)?;
+    Ok(outline)
+}
+
+/// The same by the caller's thread alone: it takes no handle, and waits for nobody.
+pub fn plan_cave_alone<S: Strategy, O: Observer>(
+    alloc: Global,
+    world: &World,
+    turns: Option<u64>,
+    observer: &O,
+) -> Result<Outline, PlanFault>
+    ensures found { IfOk result (λ o.
+        IsOutlineOf world.now turns (string_bytes o.text) o.stopped (plans_of o.parts.items)) }
+    ensures fault { IfErr result (λ e. e ≢ PlanFault.OutOfMemory → NamesUnlightable world.now e) }
+    ensures threads { IfErr result (λ e. e ≢ PlanFault.NoThread) }
+    ensures refused { (e : PlanFault) → NamesUnlightable world.now e → IsRefusedPlan result e }
+{
+    let (regions, dark) = regions_of(alloc, world)?;
+    let plans = plan_regions_alone::<S, O>(alloc, regions, turns, observer)?;
+    let outline = outline_from(alloc, world, plans, dark, turns)?;
     Ok(outline)
 }

@@ -1,5 +1,5 @@
 -- What a plan writes, and what its faults leave.
-use Rattle.std.proofs.Common.{◌≡◌, ◌≢◌, ℕ, ◌≤◌, List, [], length, map, Contains, Option}
+use Rattle.std.proofs.Common.{◌≡◌, ◌≢◌, ℕ, ◌<◌, ◌≤◌, List, [], length, map, Contains, Option}
 use Rattle.std.proofs.Common.{Some, None, Result, Ok, Err, refl, sym, ap, subst, ◌∙◌, ◌⊎◌, inl, inr, arith}
 use Rattle.std.specs.Prelude.{IfErr, IfSome, OnErr, OnOk}
 use Rattle.std.specs.Io.KnownBytes.{Appends}
@@ -19,11 +19,12 @@ use Rattle.certificate_text.specs.Writing.{AppendsFront, AppendsPart}
 use Rattle.certificate_text.specs.declared.fault.WriteFault.{WriteFault}
 use Rattle.certificate_text.specs.declared.fault.WriteFault.TheVariants as writing
 use Rattle.certificate_text.proofs.SentLemmas.{part_none}
+use Rattle.certificate_text.proofs.WritingLemmas.{none_taken}
 use Rattle.cave_plan.proofs.AcceptedLemmas.{accepted, best_are_bounded, part_of, section_leasts, section_torches}
 use Rattle.cave_plan.proofs.PartLemmas.{same_number}
 use Rattle.cave_plan.proofs.VersionLemmas.{in_least_version}
 use Rattle.cave_plan.specs.Faults.{NamesUnlightable}
-use Rattle.cave_plan.specs.Outline.{IsPlanned, IsStoppedAt}
+use Rattle.cave_plan.specs.Outline.{IsPlanned, IsStoppedAt, Prints}
 use Rattle.cave_plan.specs.declared.fault.PlanFault.{PlanFault}
 use Rattle.cave_plan.specs.declared.fault.PlanFault.TheVariants as plan
 use Rattle.cave_runs.specs.Faults.{run_fault_of, of_write}
@@ -78,8 +79,15 @@ writes_floor cave turns text plans old new proof is written = record {
 
 -- ---- what is left
 
-front_is_part : (old new : Option (List ℕ)) (text : List ℕ) → AppendsFront old new text → AppendsPart old new text
-front_is_part old new text (front, rest, some, is, taken) = (front, rest, is, taken)
+-- the text of a plan isn't empty
+pub text_is_some : (cave : Cave) (torches : List ℕ) (floor : Option ℕ) (text : List ℕ) → Prints cave torches floor text
+    → 0 < length text
+text_is_some cave torches None text prints = rw prints.is (omega arith)
+text_is_some cave torches (Some floor) text prints = rw prints.is (omega arith)
+
+-- nothing was taken yet of a text that isn't empty
+front_none : (a : Option (List ℕ)) (text : List ℕ) → 0 < length text → AppendsFront a a text
+front_none a text some = ([], text, some, refl, none_taken a)
 
 all_is_part : (old new : Option (List ℕ)) (text : List ℕ) → Appends old new text → AppendsPart old new text
 all_is_part old new text taken = (text, [], sym (append-nil text), taken)
@@ -97,8 +105,7 @@ certificate_failed fault cave text plans same proof_old proof_new is part = reco
       text = text;
       proof = certificate_text cave plans;
       are = inl (plans, is, refl);
-      written =
-          part_none same text;
+      written = front_none same text (text_is_some cave is.torches None text is.prints);
       proved = part;
     }
 
@@ -118,8 +125,7 @@ text_failed fault cave text plans old new proof_old proof_new failed is front pr
         text = text;
         proof = certificate_text cave plans;
         are = inl (plans, is, refl);
-        written =
-            front_is_part old new text front;
+        written = front;
         proved = all_is_part proof_old proof_new (certificate_text cave plans)
             proved;
       });
@@ -134,7 +140,7 @@ stop_failed fault cave turns text plans old new proof failed is front =
       text = text;
       proof = [];
       are = inr (plans, is, refl);
-      written = front_is_part old new text front;
+      written = front;
       proved =
           part_none proof [];
     })
@@ -323,3 +329,9 @@ pub ended_in : {X : Type 0} (fault : RunFault) (r : Result X RunFault) (cave : C
     → AppendsFront old new text → IfErr r (λ e. LeavesIn e cave turns old new proof proof)
 ended_in fault r cave turns text plans old new proof is failed stopped front = rw is
     (stop_failed fault cave turns text plans old new proof failed stopped front)
+
+-- one worker asks for no thread
+pub none_asked : {X : Type 0} (r : Result X RunFault) → IfErr r (λ e. e ≢ faults.NoThread)
+    → IfErr r (λ e. e ≡ faults.NoThread → 1 < 1)
+none_asked (Ok x) never = tt
+none_asked (Err e) never = λ is. absurd (never is)

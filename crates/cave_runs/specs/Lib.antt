@@ -4,5 +4,6 @@ pub mod DarkText
 pub mod Faults
 pub mod Runs
 pub mod PlanRuns
+pub mod RunOfPlan
 pub mod CheckRuns
 pub mod Texts

@@ -10,7 +10,7 @@ use Rattle.cave_model.specs.Rule.{Rule}
 use Rattle.cover_rows.specs.Coverage.{IsUnlightable}
 use Rattle.proof_rules.specs.Certificate.{Certificate, torches_of}
 use Rattle.certificate_text.specs.Planned.{Plan, certificate_text}
-use Rattle.certificate_text.specs.Writing.{AppendsPart}
+use Rattle.certificate_text.specs.Writing.{AppendsFront, AppendsPart}
 use Rattle.proof_check.specs.Accepted.{Accepts, IsBestPlan}
 use Rattle.cave_plan.specs.Best.{AreByLeastCell, IsInLeastVersion}
 use Rattle.cave_plan.specs.Bounded.{Bounded, IsPlanWithin, IsSumOf}
@@ -78,15 +78,15 @@ AreTextsOf cave turns text proof = ((plans : List Plan) × IsPlanned cave text p
     × (proof ≡ certificate_text cave plans))
     ⊎ ((plans : List Plan) × IsStoppedAt cave turns text plans × (proof ≡ []))
 
--- of each a beginning was written, or all of it
+-- a beginning of the text was written, and not all, and one of the certificate, or all of it
 pub record BeginsTexts (cave : Cave) (turns : Option ℕ) (old new proof_old proof_new : Option (List ℕ)) : Type 0 where
   pub text : List ℕ
   pub proof : List ℕ
   pub are : AreTextsOf cave turns text proof
-  pub written : AppendsPart old new text
+  pub written : AppendsFront old new text
   pub proved : AppendsPart proof_old proof_new proof
 
--- a beginning of a plan's text and of its certificate was written, or all, of the cave that the bytes tell
+-- the same of the cave that the bytes tell
 pub record BeginsPlan (bytes : List ℕ) (table : Option (List ℕ)) (rule : Rule) (turns : Option ℕ)
     (old new proof_old proof_new : Option (List ℕ)) : Type 0 where
   pub cave : Cave

@@ -13,6 +13,7 @@ use crate::fault::{Input, RunFault};
 use crate::limits::STRUCTURE_LIMIT;
 use crate::reading::read_all;
 use crate::text::dark_text;
+use crate::watcher::{Watcher, tell_sides};
 use crate::writing::put_all;
 use cave_model::{Rule, World};
 use cave_reading::read_cave;
@@ -31,11 +32,12 @@ fn world_text(alloc: Global, world: &World) -> Result<String, AllocError>
 
 /// The text of the dark cells of the cave that the bytes tell. A fault of the structure goes before one of the table,
 /// and that before an unknown block.
-fn text_of(
+fn text_of<O: Watcher>(
     alloc: Global,
     bytes: &[u8],
     table: Option<&[u8]>,
     rule: Rule,
+    observer: &O,
 ) -> Result<String, RunFault>
     ensures done { IfOk result (λ s.
         IsDarkTextOf bytes.now (option_copied table.entry) (rule_of rule) (string_bytes s)) }
@@ -45,6 +47,7 @@ fn text_of(
         → IsRefusal RunFault.OutOfMemory result e }
 {
     let world = read_cave(alloc, bytes, table, rule)?;
+    tell_sides(&world, observer);
     let text = world_text(alloc, &world)?;
     Ok(text)
 }
@@ -52,12 +55,13 @@ fn text_of(
 /// Reads a structure to the end of the reader, and writes the text of its dark cells: `dark m`, and `x y z` of each
 /// on a line of its own, in the order of their numbers. All is read before it is judged, and the whole text is made
 /// before its first byte is written. The rows are those of the user's table, where there is one, before the shipped
-/// ones.
-pub fn run_dark<R: Read, W: Write>(
+/// ones. The observer is told where free cells lie at a side of the box.
+pub fn run_dark<R: Read, O: Watcher, W: Write>(
     alloc: Global,
     reader: &mut R,
     table: Option<&[u8]>,
     rule: Rule,
+    observer: &O,
     writer: &mut W,
 ) -> Result<(), RunFault>
     // What was written is the text of the bytes that were read.
@@ -80,6 +84,6 @@ pub fn run_dark<R: Read, W: Write>(
         → GivesAtMost structure_limit (R.remaining reader.old) (R.remaining reader.new)) }
 {
     let bytes = read_all(alloc, reader, STRUCTURE_LIMIT, Input::StructureInput)?;
-    let text = text_of(alloc, &bytes, table, rule)?;
+    let text = text_of(alloc, &bytes, table, rule, observer)?;
     put_all(writer, text.as_bytes())
 }

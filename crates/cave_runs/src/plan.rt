@@ -8,16 +8,18 @@ ghost use Rattle.certificate_text.specs.PlanOf.{plans_of};
 ghost use Rattle.cave_runs.specs.Limits.{structure_limit};
 ghost use Rattle.cave_runs.specs.PlanRuns.{EndsIn, IsNoPlan, IsNoPlanOfInput, NamesUnlit, Leaves};
 ghost use Rattle.cave_runs.specs.PlanRuns.{LeavesIn, LeavesProved, Plans, TellsPlans, WritesBest};
+ghost use Rattle.cave_runs.specs.RunOfPlan.{IsRunOfPlan};
 ghost use Rattle.cave_runs.specs.Runs.{IsOfInput, IsRefusedRun};
 ghost use Rattle.cave_runs.specs.declared.fault.RunFault.{RunFault};
 
 use crate::fault::{Input, RunFault};
 use crate::limits::STRUCTURE_LIMIT;
 use crate::reading::read_all;
+use crate::watcher::{Watcher, tell_sides};
 use crate::writing::put_all;
 use cave_base::coordinates;
 use cave_model::{Rule, World};
-use cave_plan::{Crew, Observer, Outline, PlanFault, Strategy, Workers, plan_cave};
+use cave_plan::{Crew, Outline, PlanFault, Strategy, Workers, plan_cave};
 use cave_reading::read_cave;
 use certificate_text::write_certificate;
 use std::alloc::Global;
@@ -45,7 +47,7 @@ pub enum Outcome {
 }
 
 /// The plan of a world; a dark cell that no place lights is told by its coordinates.
-fn outline_world<X: Threads + Wait + Sync, S: Strategy + Send + Sync, O: Observer>(
+fn outline_world<X: Threads + Wait + Sync, S: Strategy + Send + Sync, O: Watcher>(
     alloc: Global,
     world: &World,
     crew: &Crew<'_, X, S, O>,
@@ -69,23 +71,25 @@ fn outline_world<X: Threads + Wait + Sync, S: Strategy + Send + Sync, O: Observe
 }
 
 /// The cave that the bytes tell, with its plan.
-fn plan_bytes<X: Threads + Wait + Sync, S: Strategy + Send + Sync, O: Observer>(
+fn plan_bytes<X: Threads + Wait + Sync, S: Strategy + Send + Sync, O: Watcher>(
     alloc: Global,
     bytes: &[u8],
     table: Option<&[u8]>,
-    opts: &PlanOpts,
+    rule: Rule,
+    turns: Option<u64>,
     crew: &Crew<'_, X, S, O>,
 ) -> Result<(World, Outline), RunFault>
-    ensures found { IfOk result (λ p. TellsPlans bytes.now (option_copied table.entry) (rule_of opts.now.rule)
-        opts.now.turns p.0 (string_bytes p.1.text) p.1.stopped (plans_of p.1.parts.items)) }
+    ensures found { IfOk result (λ p. TellsPlans bytes.now (option_copied table.entry) (rule_of rule)
+        turns p.0 (string_bytes p.1.text) p.1.stopped (plans_of p.1.parts.items)) }
     ensures fault { IfErr result (λ e. e ≢ RunFault.OutOfMemory → e ≢ RunFault.NoThread
-        → IsNoPlan bytes.now (option_copied table.entry) (rule_of opts.now.rule) e) }
+        → IsNoPlan bytes.now (option_copied table.entry) (rule_of rule) e) }
     ensures threads { IfErr result (λ e. e ≡ RunFault.NoThread → 1 < crew.now.workers.number) }
-    ensures refused { (e : RunFault) → IsNoPlan bytes.now (option_copied table.entry) (rule_of opts.now.rule) e
+    ensures refused { (e : RunFault) → IsNoPlan bytes.now (option_copied table.entry) (rule_of rule) e
         → IsRefusal RunFault.OutOfMemory result e }
 {
-    let world = read_cave(alloc, bytes, table, opts.rule)?;
-    let outline = outline_world(alloc, &world, crew, opts.turns)?;
+    let world = read_cave(alloc, bytes, table, rule)?;
+    tell_sides(&world, crew.observer);
+    let outline = outline_world(alloc, &world, crew, turns)?;
     Ok((world, outline))
 }
 
@@ -108,7 +112,7 @@ fn put_proved<W: Write, V: Write>(
 }
 
 /// Writes the text of a plan, and before it the certificate, where the search came to its end.
-fn put_plan<W: Write, V: Write>(
+pub(crate) fn put_plan<W: Write, V: Write>(
     alloc: Global,
     world: &World,
     outline: &Outline,
@@ -131,20 +135,57 @@ fn put_plan<W: Write, V: Write>(
     Ok(Outcome::Done)
 }
 
+/// The run of a plan by a crew.
+fn run_by_crew<
+    X: Threads + Wait + Sync,
+    S: Strategy + Send + Sync,
+    R: Read,
+    W: Write,
+    V: Write,
+    O: Watcher,
+>(
+    alloc: Global,
+    reader: &mut R,
+    table: Option<&[u8]>,
+    rule: Rule,
+    turns: Option<u64>,
+    crew: &Crew<'_, X, S, O>,
+    writer: &mut W,
+    proof: &mut V,
+) -> Result<Outcome, RunFault>
+    ensures done { IfOk result (λ outcome. IfSome (R.remaining reader.old) (λ bytes.
+        Plans bytes (option_copied table.entry) (rule_of rule) turns outcome
+        (W.contents writer.old) (W.contents writer.new) (V.contents proof.old) (V.contents proof.new))) }
+    ensures left { IfErr result (λ e. Leaves e (R.remaining reader.old) (option_copied table.entry)
+        (rule_of rule) turns
+        (W.contents writer.old) (W.contents writer.new) (V.contents proof.old) (V.contents proof.new)) }
+    ensures fault { IfErr result (λ e. IsOfInput e → e ≢ RunFault.NoThread → IfSome (R.remaining reader.old)
+        (λ bytes. IsNoPlanOfInput bytes (option_copied table.entry) (rule_of rule) e)) }
+    ensures refused { IfSome (R.remaining reader.old) (λ bytes. (e : RunFault)
+        → IsNoPlanOfInput bytes (option_copied table.entry) (rule_of rule) e → IsRefusedRun result e) }
+    ensures threads { IfErr result (λ e. e ≡ RunFault.NoThread → 1 < crew.now.workers.number) }
+    ensures before { IfErr result (λ e. e ≡ RunFault.ReadFailed
+        → GivesAtMost structure_limit (R.remaining reader.old) (R.remaining reader.new)) }
+{
+    let bytes = read_all(alloc, reader, STRUCTURE_LIMIT, Input::StructureInput)?;
+    let (world, outline) = plan_bytes(alloc, &bytes, table, rule, turns, crew)?;
+    put_plan(alloc, &world, &outline, turns, writer, proof)
+}
+
 /// Reads a structure to the end of the reader, plans the fewest torches that leave none of its cells dark, and writes
 /// the proof's certificate to `proof` and the plan's text to `writer`. All is read before it is judged, all regions are
 /// planned before a byte is written, and the whole text of the plan is made before its first byte is. The rows are
 /// those of the user's table, where there is one, before the shipped ones. Where the turns of a region were spent, the
 /// text says how few torches there might be, and no certificate is written. Where more workers than one search, each
-/// is a thread of its own, which the observer may hold back. The strategy proposes, and what it proposes changes no
-/// promise.
+/// is a thread of its own, which the observer may hold back; before the search it is told where free cells lie at a
+/// side of the box. The strategy proposes, and what it proposes changes no promise.
 pub fn run_plan<
     S: Strategy + Send + Sync,
     X: Threads + Wait + Sync,
     R: Read,
     W: Write,
     V: Write,
-    O: Observer,
+    O: Watcher,
 >(
     rt: &X,
     alloc: Global,
@@ -155,34 +196,16 @@ pub fn run_plan<
     writer: &mut W,
     proof: &mut V,
 ) -> Result<Outcome, RunFault>
-    // The fewest torches of the cave that the bytes tell, and their proof; or, where turns were limited, safe torches
-    // and a number that no safe ones are fewer than.
-    ensures done { IfOk result (λ outcome. IfSome (R.remaining reader.old) (λ bytes.
-        Plans bytes (option_copied table.entry) (rule_of opts.now.rule) opts.now.turns outcome
-        (W.contents writer.old) (W.contents writer.new) (V.contents proof.old) (V.contents proof.new))) }
-    // A refused input leaves both writers as they were.
-    ensures left { IfErr result (λ e. Leaves e (R.remaining reader.old) (option_copied table.entry)
-        (rule_of opts.now.rule) opts.now.turns
-        (W.contents writer.old) (W.contents writer.new) (V.contents proof.old) (V.contents proof.new)) }
-    // A fault of the input is the one that the definitions name.
-    ensures fault { IfErr result (λ e. IsOfInput e → e ≢ RunFault.NoThread → IfSome (R.remaining reader.old)
-        (λ bytes. IsNoPlanOfInput bytes (option_copied table.entry) (rule_of opts.now.rule) e)) }
-    // Such a fault is answered, unless a read failed.
-    ensures refused { IfSome (R.remaining reader.old) (λ bytes. (e : RunFault)
-        → IsNoPlanOfInput bytes (option_copied table.entry) (rule_of opts.now.rule) e → IsRefusedRun result e) }
-    // Threads are asked for only where more workers than one are.
-    ensures threads { IfErr result (λ e. e ≡ RunFault.NoThread → 1 < opts.now.workers.number) }
-    // A failed read comes before more than the limit was read.
-    ensures before { IfErr result (λ e. e ≡ RunFault.ReadFailed
-        → GivesAtMost structure_limit (R.remaining reader.old) (R.remaining reader.new)) }
+    ensures { IsRunOfPlan (R.remaining reader.old) (R.remaining reader.new) (option_copied table.entry)
+        (rule_of opts.now.rule) opts.now.turns opts.now.workers.number result
+        (W.contents writer.old) (W.contents writer.new) (V.contents proof.old) (V.contents proof.new) }
 {
-    let bytes = read_all(alloc, reader, STRUCTURE_LIMIT, Input::StructureInput)?;
     let crew: Crew<'_, X, S, O> = Crew {
         rt,
         workers: opts.workers,
         strategy: PhantomData,
         observer,
     };
-    let (world, outline) = plan_bytes(alloc, &bytes, table, opts, &crew)?;
-    put_plan(alloc, &world, &outline, opts.turns, writer, proof)
+    let PlanOpts { rule, turns, .. } = *opts;
+    run_by_crew(alloc, reader, table, rule, turns, &crew, writer, proof)
 }

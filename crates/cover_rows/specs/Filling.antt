@@ -1,10 +1,12 @@
--- How the rows are filled: cells get their indices, and each place the bits of the cells that it lights.
+-- How the rows are filled: places get their indices, and for each cell its bit is set in the rows of the places that
+-- light it.
 -- This is this project's own.
 use Rattle.std.specs.Prelude.{◌≡◌, ◌<◌, ◌≤◌, ◌↔◌, ◌⊎◌, ℕ, ◌+◌, ◌*◌, ◌^◌, List, length, slice_index, All, Contains}
 use Rattle.std.specs.List.Sorted.{IsStrictlyIncreasing}
 use Rattle.cave_base.specs.Box.{cell_count}
 use Rattle.set_cover.specs.Bits.{Has}
 use Rattle.cave_model.specs.Cave.{Cave}
+use Rattle.cave_model.specs.Light.{entering_cost}
 use Rattle.cave_model.specs.Torches.{Lights}
 
 -- for each of so many cells its index in the list, where it stands there
@@ -13,17 +15,28 @@ pub record AreIndices (count : ℕ) (cells indices : List ℕ) : Type 0 where
   pub exact : (cell index : ℕ) → cell < count → index < length cells
       → (slice_index indices cell ≡ index) ↔ (slice_index cells index ≡ cell)
 
--- the bit of some cell of the list, from a base on, by its index; a number of `count` or more is none
-pub record IsBitOf (indices : List ℕ) (count base : ℕ) (lit : List ℕ) (bit : ℕ) : Type 0 where
+-- some cell of the list has an index; a number of `count` or more is none
+pub record HasIndexed (indices : List ℕ) (count : ℕ) (lit : List ℕ) : Type 0 where
   pub cell : ℕ
   pub listed : Contains lit cell
   pub indexed : slice_index indices cell < count
-  pub there : bit ≡ base + slice_index indices cell
+
+-- the bit of a column in the row of some cell of the list, by its index
+pub record IsBitOf (indices : List ℕ) (count row_bits column : ℕ) (lit : List ℕ) (bit : ℕ) : Type 0 where
+  pub cell : ℕ
+  pub listed : Contains lit cell
+  pub indexed : slice_index indices cell < count
+  pub there : bit ≡ slice_index indices cell * row_bits + column
 
 -- these bits are set too
-pub record Marks (old indices : List ℕ) (count base : ℕ) (lit new : List ℕ) : Type 0 where
+pub record Marks (old indices : List ℕ) (count row_bits column : ℕ) (lit new : List ℕ) : Type 0 where
   pub whole : length new ≡ length old
-  pub exact : (bit : ℕ) → Has new bit ↔ (Has old bit ⊎ IsBitOf indices count base lit bit)
+  pub exact : (bit : ℕ) → Has new bit ↔ (Has old bit ⊎ IsBitOf indices count row_bits column lit bit)
+
+-- cells of the box; among those that cost 1 to enter, as places do, the ones from where a torch lights the cell
+pub record AreLighting (cave : Cave) (cell : ℕ) (lit : List ℕ) : Type 0 where
+  pub inside : All (λ other. other < cell_count cave.size) lit
+  pub exact : (place : ℕ) → entering_cost cave place ≡ 1 → Contains lit place ↔ Lights cave place cell
 
 -- the place with the first index lights the cell with the second
 pub record LightsBy (cave : Cave) (cells places : List ℕ) (place cell : ℕ) : Type 0 where
@@ -40,6 +53,18 @@ pub record AreFilled (cave : Cave) (cells places : List ℕ) (width count : ℕ)
 pub record AreCovered (cave : Cave) (cells places : List ℕ) (width count : ℕ) (covered : List ℕ) : Type 0 where
   pub whole : length covered ≡ width
   pub exact : (cell : ℕ) → Has covered cell ↔ ((place : ℕ) × (place < count) × LightsBy cave cells places place cell)
+
+-- the columns of the first so many cells are filled, and the others are empty
+pub record AreColumns (cave : Cave) (cells places : List ℕ) (width count : ℕ) (words : List ℕ) : Type 0 where
+  pub whole : length words ≡ length places * width
+  pub exact : (place cell : ℕ) → place < length places → cell < 64 * width
+      → Has words (64 * (place * width) + cell) ↔ ((cell < count) × LightsBy cave cells places place cell)
+
+-- those of the first so many cells that some place lights
+pub record AreReached (cave : Cave) (cells places : List ℕ) (width count : ℕ) (covered : List ℕ) : Type 0 where
+  pub whole : length covered ≡ width
+  pub exact : (cell : ℕ) → Has covered cell ↔ ((cell < count) × (place : ℕ) × (place < length places)
+      × LightsBy cave cells places place cell)
 
 -- what filling leaves
 pub record IsFilling (cave : Cave) (cells places words covered : List ℕ) : Type 0 where

@@ -1,66 +1,17 @@
 -- Passing light on to all neighbours of a cell.
-use Rattle.std.proofs.Common.{◌≡◌, ℕ, zero, suc, ◌+◌, ◌<◌, ◌≤◌, List, get_or, Option, Some, None, refl, sym, ap}
+use Rattle.std.proofs.Common.{◌≡◌, ℕ, ◌+◌, ◌<◌, ◌≤◌, List, length, get_or, Contains, Option, Some, None, refl, sym, ap}
 use Rattle.std.proofs.Common.{subst, ◌∙◌, arith, inl, inr}
 use Rattle.std.proofs.lemmas.Bool.{cases_lt}
-use Rattle.cave_base.specs.Box.{Point, cell_count}
-use Rattle.cave_model.specs.Cells.{Face, west, east, north, south, below, above, beyond, neighbours_of, AreNeighbours}
+use Rattle.std.proofs.lemmas.Grind.{get_or_default_zero}
+use Rattle.std.proofs.lemmas.List.Elements.{Contains-get_or}
+use Rattle.cave_base.specs.Box.{cell_count}
+use Rattle.cave_model.specs.Cells.{neighbours_of}
 use Rattle.cave_model.specs.Cave.{Cave}
-use Rattle.cave_model.proofs.FaceLemmas.{neighbours_mutual}
+use Rattle.cave_model.specs.Light.{entering_cost}
+use Rattle.cave_model.specs.Passages.{passages_from, ArePassages, LeadsTo}
+use Rattle.cave_model.proofs.NeighbourLemmas.{index_of, index_below, listed_at}
 use Rattle.light_flood.specs.Spreading.{IsFlood, IsFloodIn, IsStep, Rises, IsPassed, HasPassed}
 use Rattle.light_flood.proofs.SpreadLemmas.{spread_none, spread_on}
-
--- ---- the list of neighbours
-
--- a neighbour that is listed lies beyond a face
-face_at : (size : Point) (from j to : ℕ) → get_or (neighbours_of size from) j None ≡ Some to
-    → (face : Face) × (beyond size face from ≡ Some to)
-face_at size from zero to e = (west, e)
-face_at size from (suc zero) to e = (east, e)
-face_at size from (suc (suc zero)) to e = (north, e)
-face_at size from (suc (suc (suc zero))) to e = (south, e)
-face_at size from (suc (suc (suc (suc zero)))) to e = (below, e)
-face_at size from (suc (suc (suc (suc (suc zero))))) to e = (above, e)
-face_at size from (suc (suc (suc (suc (suc (suc j)))))) to e = absurd cc
-
--- a cell of the list shares a face
-pub listed_shares : (size : Point) (from j to : ℕ) → from < cell_count size
-    → get_or (neighbours_of size from) j None ≡ Some to → AreNeighbours size from to
-listed_shares size from j to h e = let f = face_at size from j to e in record { inside = h; face = f.0; there = f.1 }
-
--- and it lies in the box
-pub listed_inside : (size : Point) (from j to : ℕ) → from < cell_count size
-    → get_or (neighbours_of size from) j None ≡ Some to → to < cell_count size
-listed_inside size from j to h e = (neighbours_mutual size from to (listed_shares size from j to h e)).inside
-
--- the number of a face in the list of neighbours
-index_of : Face → ℕ
-index_of west = 0
-index_of east = 1
-index_of north = 2
-index_of south = 3
-index_of below = 4
-index_of above = 5
-
--- there are six
-index_below : (face : Face) → index_of face < 6
-unfolding index_of
-index_below west = omega arith
-index_below east = omega arith
-index_below north = omega arith
-index_below south = omega arith
-index_below below = omega arith
-index_below above = omega arith
-
--- at the number of a face stands the cell beyond it
-listed_at : (size : Point) (from : ℕ) (face : Face)
-    → get_or (neighbours_of size from) (index_of face) None ≡ beyond size face from
-unfolding index_of
-listed_at size from west = refl
-listed_at size from east = refl
-listed_at size from north = refl
-listed_at size from south = refl
-listed_at size from below = refl
-listed_at size from above = refl
 
 -- ---- one neighbour after another
 
@@ -108,40 +59,52 @@ passing_start cave from start waiting around whole flood = record {
 }
 
 -- the cell that passes on has the level that it had
-pub from_kept : (cave : Cave) (from : ℕ) (start levels : ℕ → ℕ) (waiting : List (List ℕ)) (around : List (Option ℕ))
-    (index : ℕ) → PassingOn cave from start levels waiting around index → levels from ≡ start from
-from_kept cave from start levels waiting around index s = s.step.rises.below from (s.step.rises.up from)
+pub from_kept : (cave : Cave) (from : ℕ) (start levels : ℕ → ℕ) (waiting : List (List ℕ))
+    → IsStep cave (start from + 1) (start from) start levels waiting → levels from ≡ start from
+from_kept cave from start levels waiting step = step.rises.below from (step.rises.up from)
 
 -- between two neighbours the flood stands at the level of the cell
 pub flood_here : (cave : Cave) (from cells : ℕ) (start levels : ℕ → ℕ) (waiting : List (List ℕ))
-    (around : List (Option ℕ)) (index : ℕ) → cells ≡ cell_count cave.size
-    → PassingOn cave from start levels waiting around index
+    → cells ≡ cell_count cave.size → IsStep cave (start from + 1) (start from) start levels waiting
     → IsFloodIn cave (levels from + 1) (levels from) cells levels waiting
-flood_here cave from cells start levels waiting around index whole s = record {
+flood_here cave from cells start levels waiting whole step = record {
   whole = whole;
   flood = subst (λ (level : ℕ). IsFlood cave (level + 1) level levels waiting)
-      (sym (from_kept cave from start levels waiting around index s)) s.step.flood;
+      (sym (from_kept cave from start levels waiting step)) step.flood;
 }
+
+-- a step from where the flood stands goes on with those before
+pub step_next : (cave : Cave) (from : ℕ) (start levels next : ℕ → ℕ) (waiting later : List (List ℕ))
+    → IsStep cave (start from + 1) (start from) start levels waiting
+    → IsStep cave (levels from + 1) (levels from) levels next later
+    → IsStep cave (start from + 1) (start from) start next later
+step_next cave from start levels next waiting later first second =
+    let kept = from_kept cave from start levels waiting first in
+    step_on cave (start from + 1) (start from) start levels next waiting later first
+    (subst (λ (level : ℕ). IsStep cave (level + 1) level levels next later) kept second)
+
+-- what couldn't be raised still can't, as the cell that passes on keeps its level
+still_passed : (cave : Cave) (from other : ℕ) (levels next : ℕ → ℕ) (later : List (List ℕ))
+    → IsStep cave (levels from + 1) (levels from) levels next later → IsPassed cave levels from other
+    → IsPassed cave next from other
+still_passed cave from other levels next later step old =
+    let same = step.rises.below from (step.rises.up from) in let up = step.rises.up other in omega arith
 
 -- a neighbour was offered light
 pub passing_some : (cave : Cave) (from to : ℕ) (start levels next : ℕ → ℕ) (waiting later : List (List ℕ))
     (around : List (Option ℕ)) (index : ℕ) → PassingOn cave from start levels waiting around index
     → get_or around index None ≡ Some to → IsStep cave (levels from + 1) (levels from) levels next later
     → IsPassed cave next from to → PassingOn cave from start next later around (index + 1)
-passing_some cave from to start levels next waiting later around index s here step passed =
-    let kept = from_kept cave from start levels waiting around index s in
-    let step_here = subst (λ (level : ℕ). IsStep cave (level + 1) level levels next later) kept step in
-    record {
-      whole = s.whole;
-      step = step_on cave (start from + 1) (start from) start levels next waiting later s.step step_here;
-      offered = λ j other h e. (elim (cases_lt j index) [
-        | inl lt ↦ (let old = s.offered j other lt e in let same = step.rises.below from (step.rises.up from) in
-            let up = step.rises.up other in omega arith)
-        | inr le ↦ (let now : j ≡ index = omega arith in
-            let found : Some other ≡ Some to = sym e ∙ ap (λ (k : ℕ). get_or around k None) now ∙ here in
-            let same : to ≡ other = cc in subst (IsPassed cave next from) same passed)
-      ]);
-    }
+passing_some cave from to start levels next waiting later around index s here step passed = record {
+  whole = s.whole;
+  step = step_next cave from start levels next waiting later s.step step;
+  offered = λ j other h e. (elim (cases_lt j index) [
+    | inl lt ↦ still_passed cave from other levels next later step (s.offered j other lt e)
+    | inr le ↦ (let now : j ≡ index = omega arith in
+        let found : Some other ≡ Some to = sym e ∙ ap (λ (k : ℕ). get_or around k None) now ∙ here in
+        let same : to ≡ other = cc in subst (IsPassed cave next from) same passed)
+  ]);
+}
 
 -- there is no neighbour
 pub passing_none : (cave : Cave) (from : ℕ) (start levels : ℕ → ℕ) (waiting : List (List ℕ)) (around : List (Option ℕ))
@@ -166,3 +129,54 @@ passing_end cave from start levels waiting around index all s = λ to shared.
     ap (λ (l : List (Option ℕ)). get_or l (index_of shared.face) None) s.whole
     ∙ listed_at cave.size from shared.face ∙ shared.there in
     s.offered (index_of shared.face) to (omega arith) there)
+
+-- ---- by the passages
+
+-- the cells before this index of the row have been offered light
+pub record PassingThrough (cave : Cave) (from : ℕ) (start levels : ℕ → ℕ) (waiting : List (List ℕ))
+    (row : List ℕ) (index : ℕ) : Type 0 where
+  pub step : IsStep cave (start from + 1) (start from) start levels waiting
+  pub offered : (j : ℕ) → j < index → IsPassed cave levels from (get_or row j 0)
+
+-- before the first no light is passed on
+pub through_start : (cave : Cave) (from : ℕ) (start : ℕ → ℕ) (waiting : List (List ℕ)) (row : List ℕ)
+    → IsFlood cave (start from + 1) (start from) start waiting
+    → PassingThrough cave from start start waiting row 0
+through_start cave from start waiting row flood = record {
+  step = step_none cave (start from + 1) (start from) start waiting flood;
+  offered = λ j h. absurd (omega arith);
+}
+
+-- the next was offered light
+pub through_next : (cave : Cave) (from : ℕ) (start levels next : ℕ → ℕ) (waiting later : List (List ℕ))
+    (row : List ℕ) (index : ℕ) → PassingThrough cave from start levels waiting row index
+    → IsStep cave (levels from + 1) (levels from) levels next later → IsPassed cave next from (get_or row index 0)
+    → PassingThrough cave from start next later row (index + 1)
+through_next cave from start levels next waiting later row index s step passed = record {
+  step = step_next cave from start levels next waiting later s.step step;
+  offered = λ j h. (elim (cases_lt j index) [
+    | inl lt ↦ still_passed cave from (get_or row j 0) levels next later step (s.offered j lt)
+    | inr le ↦ (let now : index ≡ j = omega arith in
+        subst (λ (k : ℕ). IsPassed cave next from (get_or row k 0)) now passed)
+  ]);
+}
+
+-- light can go to a cell of the row
+pub row_leads : (cave : Cave) (rows : List (List ℕ)) (from index : ℕ) (row : List ℕ) → ArePassages cave rows
+    → row ≡ passages_from rows from → index < length row → LeadsTo cave from (get_or row index 0)
+row_leads cave rows from index row passages is h =
+    (passages.exact from (get_or row index 0)).0
+    (subst (λ (l : List ℕ). Contains l (get_or row index 0)) is (Contains-get_or row index 0 h))
+
+-- all were, and what isn't in the row can't be raised: the highest level is 15
+pub through_end : (cave : Cave) (rows : List (List ℕ)) (from : ℕ) (start levels : ℕ → ℕ) (waiting : List (List ℕ))
+    (row : List ℕ) (index : ℕ) → ArePassages cave rows → row ≡ passages_from rows from → length row ≤ index
+    → PassingThrough cave from start levels waiting row index → HasPassed cave levels from
+through_end cave rows from start levels waiting row index passages is all s = λ to shared.
+    (elim (cases_lt (entering_cost cave to) 15) [
+      | inl lt ↦ (let has : Contains row to = subst (λ (l : List ℕ). Contains l to) (sym is)
+          ((passages.exact from to).1 (record { shared = shared; passes = lt })) in
+          let here : get_or row has.0 0 ≡ to = sym (get_or_default_zero row has.0 to has.1) ∙ has.2 in
+          subst (IsPassed cave levels from) here (s.offered has.0 (omega (arith, has.1))))
+      | inr le ↦ (let top = s.step.flood.low from in omega arith)
+    ])

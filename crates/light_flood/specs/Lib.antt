@@ -4,3 +4,4 @@ pub mod Reached
 -- private
 pub mod Spreading
 pub mod Dense
+pub mod Queue

@@ -40,7 +40,7 @@ fn at_least(alloc: Global, levels: &[u8], lit: &[Cell], least: u8) -> Result<Vec
     requires least { 1 ≤ least }
     ensures { IfOk result (λ v. AreAtLeast least levels.now v.items) }
 {
-    let mut cells = Vec::new(alloc);
+    let mut cells = Vec::with_capacity(alloc, lit.len())?;
     for cell in lit {
         if least <= levels[*cell as usize] {
             cells.push(*cell)?;

@@ -34,6 +34,6 @@ pub fn light(alloc: Global, world: &World) -> Result<Levels, OutOfMemory>
     let waiting = Waiting::new(alloc)?;
     let mut flood = Flood { store, waiting };
     seed_all(world, &mut flood)?;
-    flood.spread(world, 1)?;
+    flood.spread(world, None, 1)?;
     Ok(Levels::from_vec(flood.store.into_levels()))
 }

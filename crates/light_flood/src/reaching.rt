@@ -22,6 +22,6 @@ pub fn reach(alloc: Global, world: &World, cell: Cell, emission: u8) -> Result<R
     let waiting = Waiting::new(alloc)?;
     let mut flood = Flood { store, waiting };
     flood.seed(world, cell, emission)?;
-    flood.spread(world, 1)?;
+    flood.spread(world, None, 1)?;
     Ok(Reach::from_map(flood.store.into_levels()))
 }

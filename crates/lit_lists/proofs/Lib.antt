@@ -1,6 +1,9 @@
 pub mod RelaxLemmas
+pub mod RoundLemmas
 pub mod RowLemmas
 pub mod SeedLemmas
 pub mod TakeLemmas
+pub mod BackLemmas
 pub mod PairLemmas
+pub mod LightsLemmas
 pub mod MarkLemmas

@@ -8,10 +8,10 @@ use Rattle.std.proofs.lemmas.List.Elements.{Contains-append_left, Contains-push,
 use Rattle.cave_base.specs.Box.{cell_count}
 use Rattle.cave_model.specs.Cave.{Cave, class_at, IsSound}
 use Rattle.cave_model.specs.Light.{Path, BringsFrom}
-use Rattle.cave_model.proofs.LightLemmas.{AreSettled, settled_level, path_settled, path_end_inside}
+use Rattle.cave_model.proofs.LightLemmas.{AreSettled, settled_level, path_settled}
 use Rattle.lit_lists.specs.Relaxing.{AreLevelsOf, IsSeeded, IsSettled, Queues}
 use Rattle.lit_lists.specs.Seeded.{AreSeeded, AreUnlit, AreTaken, ArePutOut}
-use Rattle.lit_lists.specs.Lists.{AreLitCells}
+use Rattle.lit_lists.specs.Reached.{AreReached}
 use Rattle.lit_lists.proofs.RelaxLemmas.{source_inside}
 
 -- no cell is in the empty list
@@ -119,77 +119,77 @@ settled_levels cave first levels queue next glow s whole = record {
       settled = s.settled;
     }
 
--- ---- one torch
+-- ---- one source
 
--- a torch alone, with no other light, is where a relaxation begins
-pub torch_seeded : (cave : Cave) (levels : List ℕ) (place light : ℕ) → AreUnlit levels → place < cell_count cave.size
-    → light ≤ 15 → (queue : List ℕ) → queue ≡ [] ++ place ∷ []
-    → IsSeeded cave (slice_index (set levels place light)) queue
-torch_seeded cave levels place light unlit inside low queue e = record {
-  low = λ cell. (elim (cases_eq cell place) [
-    | inl same ↦ (elim (cases_lt place (length levels)) [
-      | inl lt ↦ (let here : slice_index (set levels place light) cell ≡ light =
-          ap (slice_index (set levels place light)) same ∙ get_or-set_same levels place light 0 lt in omega arith)
-      | inr le ↦ (let none : slice_index (set levels place light) cell ≡ 0 = get_or_past (set levels place light) cell 0
-          (omega (arith, length-set levels place light)) in omega arith)
+-- one source of light, with no other, is where a relaxation begins
+pub source_seeded : (cave : Cave) (levels : List ℕ) (source light : ℕ) → AreUnlit levels → source < cell_count cave.size
+    → light ≤ 15 → (queue : List ℕ) → queue ≡ [] ++ source ∷ []
+    → IsSeeded cave (slice_index (set levels source light)) queue
+source_seeded cave levels source light unlit inside low queue e = record {
+  low = λ cell. (elim (cases_eq cell source) [
+    | inl same ↦ (elim (cases_lt source (length levels)) [
+      | inl lt ↦ (let here : slice_index (set levels source light) cell ≡ light =
+          ap (slice_index (set levels source light)) same ∙ get_or-set_same levels source light 0 lt in omega arith)
+      | inr le ↦ (let none : slice_index (set levels source light) cell ≡ 0 =
+          get_or_past (set levels source light) cell 0 (omega (arith, length-set levels source light)) in omega arith)
     ])
     | inr ne ↦ (let o = other cell ne in omega arith)
   ]);
   queued = record {
-    lit = λ cell p. (elim (cases_eq cell place) [
+    lit = λ cell p. (elim (cases_eq cell source) [
       | inl same ↦ subst (λ (l : List ℕ). Contains l cell) (sym e)
-          (subst (Contains ([] ++ place ∷ [])) (sym same) (Contains-push [] place))
+          (subst (Contains ([] ++ source ∷ [])) (sym same) (Contains-push [] source))
       | inr ne ↦ (let o = other cell ne in absurd (omega arith))
     ]);
-    inside = λ cell has. (elim (Contains-push_cases [] place cell (subst (λ (l : List ℕ). Contains l cell) e has)) [
+    inside = λ cell has. (elim (Contains-push_cases [] source cell (subst (λ (l : List ℕ). Contains l cell) e has)) [
       | inl none ↦ none_in cell none
       | inr same ↦ subst (λ (c : ℕ). c < cell_count cave.size) same inside
     ]);
   };
 } where
-  other : (cell : ℕ) → cell ≢ place → slice_index (set levels place light) cell ≡ 0
-  other cell ne = get_or-set_other levels place cell light 0 ne ∙ unlit.each cell
+  other : (cell : ℕ) → cell ≢ source → slice_index (set levels source light) cell ≡ 0
+  other cell ne = get_or-set_other levels source cell light 0 ne ∙ unlit.each cell
 
--- what settled from one torch: the cells with what is needed are those that it lights
-pub torch_lights : (cave : Cave) (start levels queue cells : List ℕ) (place : ℕ) → 0 < cave.rule.need → AreUnlit start
-    → length start ≡ cell_count cave.size → place < cell_count cave.size
-    → IsSettled cave (slice_index (set start place 14)) (slice_index levels) queue
-    → AreTaken cave.rule.need levels queue cells → AreLitCells cave place cells
-torch_lights cave start levels queue cells place pos unlit whole inside s t = record {
+-- what settled from one source: the cells with light are those that it reaches
+pub reached : (cave : Cave) (start levels queue cells : List ℕ) (source light : ℕ) → AreUnlit start
+    → length start ≡ cell_count cave.size → source < cell_count cave.size
+    → IsSettled cave (slice_index (set start source light)) (slice_index levels) queue
+    → AreTaken levels queue cells → AreReached cave source light cells
+reached cave start levels queue cells source light unlit whole inside s t = record {
   once = t.once;
   exact = λ cell. (
     λ has. (let a = (t.exact cell).0 has in brings cell (s.queued.inside cell a.0) a.1),
-    λ b. (let in_box = path_end_inside b.1 in
-        let all = path_settled cave first (slice_index levels) place cell b.0 settled b.1 in
-        let enough : cave.rule.need ≤ slice_index levels cell = omega (arith, b.2, here) in
-        (t.exact cell).1 (s.queued.lit cell (omega arith), enough)),
+    λ b. (let all = path_settled cave first (slice_index levels) source cell b.0 settled b.1 in
+        let some : 0 < slice_index levels cell = omega (arith, b.2, here) in
+        (t.exact cell).1 (s.queued.lit cell some, some)),
   );
 }
   where
     first : ℕ → ℕ
-    first = slice_index (set start place 14)
+    first = slice_index (set start source light)
 
-    here : slice_index (set start place 14) place ≡ 14
-    here = get_or-set_same start place 14 0 (omega arith)
+    here : slice_index (set start source light) source ≡ light
+    here = get_or-set_same start source light 0 (omega arith)
 
-    settled : AreSettled cave (slice_index (set start place 14)) (slice_index levels)
+    settled : AreSettled cave (slice_index (set start source light)) (slice_index levels)
     settled = record { brought_there = s.brought_there; covered = λ c i. s.covered c; settled = s.settled }
 
-    from_torch : (cell from cost : ℕ) → Path cave from cell cost
-        → slice_index levels cell + cost ≤ slice_index (set start place 14) from → 0 < slice_index levels cell
-        → (c : ℕ) × Path cave place cell c × (slice_index levels cell + c ≤ 14)
-    from_torch cell from cost p le lit = elim (cases_eq from place) [
-      | inl e ↦ (let same : slice_index (set start place 14) from ≡ 14 = ap (slice_index (set start place 14)) e
-          ∙ here in (cost, subst (λ (c : ℕ). Path cave c cell cost) e p, omega arith))
-      | inr ne ↦ (let none : slice_index (set start place 14) from ≡ 0 = get_or-set_other start place from 14 0 ne
-          ∙ unlit.each from in absurd (omega arith))
+    from_source : (cell from cost : ℕ) → Path cave from cell cost
+        → slice_index levels cell + cost ≤ slice_index (set start source light) from → 0 < slice_index levels cell
+        → (c : ℕ) × Path cave source cell c × (slice_index levels cell + c ≤ light)
+    from_source cell from cost p le lit = elim (cases_eq from source) [
+      | inl e ↦ (let same : slice_index (set start source light) from ≡ light =
+          ap (slice_index (set start source light)) e ∙ here in
+          (cost, subst (λ (c : ℕ). Path cave c cell cost) e p, omega arith))
+      | inr ne ↦ (let none : slice_index (set start source light) from ≡ 0 =
+          get_or-set_other start source from light 0 ne ∙ unlit.each from in absurd (omega arith))
     ]
 
-    brings : (cell : ℕ) → cell < cell_count cave.size → cave.rule.need ≤ slice_index levels cell
-        → BringsFrom cave place 14 cell cave.rule.need
-    brings cell h enough =
-        let b = s.brought_there cell h (omega arith) in
-        let f = from_torch cell b.0 b.1.0 b.1.1 b.1.2 (omega arith) in
+    brings : (cell : ℕ) → cell < cell_count cave.size → 0 < slice_index levels cell
+        → BringsFrom cave source light cell 1
+    brings cell h lit =
+        let b = s.brought_there cell h lit in
+        let f = from_source cell b.0 b.1.0 b.1.1 b.1.2 lit in
         (f.0, f.1, omega (arith, f.2))
 
 -- put out again, the cells of a queue that has all light leave none

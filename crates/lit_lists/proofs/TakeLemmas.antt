@@ -45,16 +45,16 @@ pub element_of : (cells : List ℕ) (k : ℕ) → k < length cells → Contains 
 element_of cells k h = (k, h, get_or_default_zero cells k (get_or cells k 0) h)
 
 -- so many cells of the queue are done
-pub record Taking (least : ℕ) (old done new cells : List ℕ) : Type 0 where
+pub record Taking (old done new cells : List ℕ) : Type 0 where
   pub whole : length new ≡ length old
   pub out : (cell : ℕ) → Contains done cell → slice_index new cell ≡ 0
   pub others : (cell : ℕ) → (¬ Contains done cell) → slice_index new cell ≡ slice_index old cell
   pub once : AreDistinct cells
-  pub exact : (cell : ℕ) → Contains cells cell ↔ (Contains done cell × (least ≤ slice_index old cell))
+  pub exact : (cell : ℕ) → Contains cells cell ↔ (Contains done cell × (0 < slice_index old cell))
 
 -- before the first cell none is taken
-pub taking_none : (least : ℕ) (old cells : List ℕ) → cells ≡ [] → Taking least old [] old cells
-taking_none least old cells e = record {
+pub taking_none : (old cells : List ℕ) → cells ≡ [] → Taking old [] old cells
+taking_none old cells e = record {
   whole = refl;
   out = λ cell has. none_in cell has;
   others = λ cell none. refl;
@@ -62,8 +62,7 @@ taking_none least old cells e = record {
   exact = λ cell. (λ has. none_in cell (subst (λ (l : List ℕ). Contains l cell) e has), λ b. none_in cell b.0);
 }
 
-module _ (least : ℕ) (old done new cells : List ℕ) (cell : ℕ) (pos : 1 ≤ least) (s : Taking least old done new cells)
-    (h : cell < length old) where
+module _ (old done new cells : List ℕ) (cell : ℕ) (s : Taking old done new cells) (h : cell < length old) where
   out_now : (other : ℕ) → Contains (done ++ cell ∷ []) other → slice_index (set new cell 0) other ≡ 0
   out_now other has = elim (cases_eq other cell) [
     | inl e ↦ ap (slice_index (set new cell 0)) e ∙ get_or-set_same new cell 0 0 (omega (arith, s.whole))
@@ -81,12 +80,12 @@ module _ (least : ℕ) (old done new cells : List ℕ) (cell : ℕ) (pos : 1 ≤
         ∙ s.others other (λ was. none (Contains-append_left done (cell ∷ []) other was))
   ]
 
-  not_done : least ≤ slice_index new cell → ¬ Contains done cell
+  not_done : 0 < slice_index new cell → ¬ Contains done cell
   not_done le was = let z = s.out cell was in absurd (omega arith)
 
   -- the next cell is put out, and taken where it had the level
-  pub taking_lit : least ≤ slice_index new cell
-      → Taking least old (done ++ cell ∷ []) (set new cell 0) (cells ++ cell ∷ [])
+  pub taking_lit : 0 < slice_index new cell
+      → Taking old (done ++ cell ∷ []) (set new cell 0) (cells ++ cell ∷ [])
   taking_lit le = record {
     whole = length-set new cell 0 ∙ s.whole;
     out = out_now;
@@ -103,7 +102,7 @@ module _ (least : ℕ) (old done new cells : List ℕ) (cell : ℕ) (pos : 1 ≤
         | inl was ↦ (let b = (s.exact other).0 was in (Contains-append_left done (cell ∷ []) other b.0, b.1))
         | inr e ↦ (
           subst (Contains (done ++ cell ∷ [])) e (Contains-push done cell),
-          subst (λ (c : ℕ). least ≤ slice_index old c) e (let same = s.others cell (not_done le) in omega arith),
+          subst (λ (c : ℕ). 0 < slice_index old c) e (let same = s.others cell (not_done le) in omega arith),
         )
       ]),
       λ b. (elim (Contains-push_cases done cell other b.0) [
@@ -114,7 +113,7 @@ module _ (least : ℕ) (old done new cells : List ℕ) (cell : ℕ) (pos : 1 ≤
   }
 
   -- and left where it hadn't
-  pub taking_dim : slice_index new cell < least → Taking least old (done ++ cell ∷ []) (set new cell 0) cells
+  pub taking_dim : slice_index new cell ≡ 0 → Taking old (done ++ cell ∷ []) (set new cell 0) cells
   taking_dim lt = record {
     whole = length-set new cell 0 ∙ s.whole;
     out = out_now;
@@ -134,16 +133,16 @@ module _ (least : ℕ) (old done new cells : List ℕ) (cell : ℕ) (pos : 1 ≤
   }
 
 -- after the last the whole queue is done
-pub taking_all : (least : ℕ) (old queue new cells : List ℕ) (index : ℕ) → length queue ≤ index
-    → Taking least old (take index queue) new cells → Taking least old queue new cells
-taking_all least old queue new cells index le s = subst (λ (l : List ℕ). Taking least old l new cells)
+pub taking_all : (old queue new cells : List ℕ) (index : ℕ) → length queue ≤ index
+    → Taking old (take index queue) new cells → Taking old queue new cells
+taking_all old queue new cells index le s = subst (λ (l : List ℕ). Taking old l new cells)
     (take_all index queue le) s
 
--- the cells taken are those of the queue with at least the level
-pub taken : (least : ℕ) (old queue new cells : List ℕ) → Taking least old queue new cells
-    → AreTaken least old queue cells
-taken least old queue new cells s = record { once = s.once; exact = s.exact }
+-- the cells taken are those of the queue with light
+pub taken : (old queue new cells : List ℕ) → Taking old queue new cells
+    → AreTaken old queue cells
+taken old queue new cells s = record { once = s.once; exact = s.exact }
 
 -- and all of the queue are without light
-pub put_out : (least : ℕ) (old queue new cells : List ℕ) → Taking least old queue new cells → ArePutOut old queue new
-put_out least old queue new cells s = record { out = s.out; others = s.others }
+pub put_out : (old queue new cells : List ℕ) → Taking old queue new cells → ArePutOut old queue new
+put_out old queue new cells s = record { out = s.out; others = s.others }

@@ -1,4 +1,6 @@
 -- public clauses cite
 pub mod Relaxing
 pub mod Seeded
+pub mod Reached
 pub mod Lists
+pub mod Rows

@@ -1,7 +1,6 @@
 -- Which cells are dark, which are places, and what a torch at each place lights, by the number of the cell.
 -- This is this project's own.
-use Rattle.std.specs.Prelude.{◌≡◌, ◌≢◌, ◌<◌, ◌↔◌, ◌⊎◌, ℕ, Bool, false, IsTrue, List, [], ◌∷◌, ◌++◌, length}
-use Rattle.std.specs.Prelude.{slice_index_or, Contains}
+use Rattle.std.specs.Prelude.{◌≡◌, ◌↔◌, ℕ, Bool, false, IsTrue, List, [], length, slice_index_or, Contains}
 use Rattle.std.specs.List.Sorted.{IsStrictlyIncreasing}
 use Rattle.cave_base.specs.Box.{cell_count}
 use Rattle.cave_model.specs.Cave.{Cave}
@@ -22,17 +21,6 @@ pub record AreMarksOf (count : ℕ) (Kind : ℕ → Type 0) (marks : List Bool) 
 abbrev pub row_at : List (List ℕ) → ℕ → List ℕ
 row_at rows number = slice_index_or rows number []
 
--- so many lists, all of them empty
-pub record AreEmptyRows (count : ℕ) (rows : List (List ℕ)) : Type 0 where
-  pub whole : length rows ≡ count
-  pub empty : (cell : ℕ) → row_at rows cell ≡ []
-
--- the number was put at the end of the list of the cell
-pub record IsPushed (old : List (List ℕ)) (cell number : ℕ) (new : List (List ℕ)) : Type 0 where
-  pub whole : length new ≡ length old
-  pub here : row_at new cell ≡ row_at old cell ++ number ∷ []
-  pub others : (other : ℕ) → other ≢ cell → row_at new other ≡ row_at old other
-
 -- the cells that a torch at the place lights, each once
 pub record AreLitCells (cave : Cave) (place : ℕ) (cells : List ℕ) : Type 0 where
   pub once : AreDistinct cells
@@ -51,36 +39,16 @@ pub record Pairs : Type 0 where
   -- of each dark cell, the places that light it
   pub lit_by : List (List ℕ)
 
--- this place and this cell were added
-pub record IsAdded (old : Pairs) (place cell : ℕ) (new : Pairs) : Type 0 where
-  pub lights : IsPushed old.lights place cell new.lights
-  pub lit_by : IsPushed old.lit_by cell place new.lit_by
+-- the list of each place has the dark cells that it lights, ascending
+pub record AreLights (cave : Cave) (rows : List (List ℕ)) : Type 0 where
+  pub whole : length rows ≡ cell_count cave.size
+  pub exact : (place cell : ℕ) → Contains (row_at rows place) cell ↔ IsPair cave place cell
+  pub ascending : (place : ℕ) → IsStrictlyIncreasing (row_at rows place)
 
--- so many lists both ways, with no pair in them
-pub record AreNoPairs (count : ℕ) (pairs : Pairs) : Type 0 where
-  pub lights : AreEmptyRows count pairs.lights
-  pub lit_by : AreEmptyRows count pairs.lit_by
-
--- this place was added with those of the cells that are marked
-pub record AreAdded (marks : List Bool) (old : Pairs) (place : ℕ) (cells : List ℕ) (new : Pairs) : Type 0 where
-  pub whole : length new.lights ≡ length old.lights
-  pub wide : length new.lit_by ≡ length old.lit_by
-  pub here : (cell : ℕ) → Contains (row_at new.lights place) cell
-      ↔ (Contains (row_at old.lights place) cell ⊎ (Contains cells cell × IsTrue (is_marked marks cell)))
-  pub others : (other : ℕ) → other ≢ place → row_at new.lights other ≡ row_at old.lights other
-  pub lit : (cell : ℕ) → Contains cells cell → IsTrue (is_marked marks cell)
-      → row_at new.lit_by cell ≡ row_at old.lit_by cell ++ place ∷ []
-  pub unlit : (cell : ℕ) → (¬ (Contains cells cell × IsTrue (is_marked marks cell)))
-      → row_at new.lit_by cell ≡ row_at old.lit_by cell
-
--- these are the pairs of the cave whose place is below this number
-pub record ArePairsBelow (cave : Cave) (count : ℕ) (pairs : Pairs) : Type 0 where
-  pub whole : length pairs.lights ≡ cell_count cave.size
-  pub wide : length pairs.lit_by ≡ cell_count cave.size
-  pub lights : (place cell : ℕ) → Contains (row_at pairs.lights place) cell ↔ ((place < count)
-      × IsPair cave place cell)
-  pub lit_by : (place cell : ℕ) → Contains (row_at pairs.lit_by cell) place ↔ ((place < count)
-      × IsPair cave place cell)
+-- these are the pairs of the cave
+pub record ArePairsOf (cave : Cave) (pairs : Pairs) : Type 0 where
+  pub lights : (place cell : ℕ) → Contains (row_at pairs.lights place) cell ↔ IsPair cave place cell
+  pub lit_by : (place cell : ℕ) → Contains (row_at pairs.lit_by cell) place ↔ IsPair cave place cell
   pub ascending : (cell : ℕ) → IsStrictlyIncreasing (row_at pairs.lit_by cell)
 
 -- flags and pairs by the number of the cell

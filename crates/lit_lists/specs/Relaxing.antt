@@ -1,15 +1,24 @@
 -- Light by rounds of relaxation: in each, the cells that the round before raised pass their light on.
 -- That it is found so is this project's own.
-use Rattle.std.specs.Prelude.{◌≡◌, ℕ, ◌+◌, ◌-◌, ◌<◌, ◌≤◌, ◌⊎◌, List, ◌++◌, length, Contains, slice_index}
+use Rattle.std.specs.Prelude.{◌≡◌, ℕ, ◌+◌, ◌-◌, ◌<◌, ◌≤◌, ◌⊎◌, ◌↔◌, List, ◌++◌, length, Contains, slice_index}
 use Rattle.cave_base.specs.Box.{cell_count}
 use Rattle.cave_model.specs.Cells.{AreNeighbours}
 use Rattle.cave_model.specs.Cave.{Cave}
 use Rattle.cave_model.specs.Light.{BringsFrom, IsLevelOf, entering_cost}
+use Rattle.cave_model.specs.Passages.{LeadsTo}
 
 -- the levels of the cave's cells
 pub record AreLevelsOf (cave : Cave) (levels : List ℕ) : Type 0 where
   pub whole : length levels ≡ cell_count cave.size
   pub each : (cell : ℕ) → cell < cell_count cave.size → IsLevelOf cave cell (slice_index levels cell)
+
+-- no level is above the highest
+pub record AreLow (levels : ℕ → ℕ) : Type 0 where
+  pub each : (cell : ℕ) → levels cell ≤ 15
+
+-- these are the neighbours of the cell that light can enter
+pub record AreWaysFrom (cave : Cave) (cell : ℕ) (around : List ℕ) : Type 0 where
+  pub exact : (to : ℕ) → Contains around to ↔ LeadsTo cave cell to
 
 -- the light of the cell can't raise that of this neighbour
 abbrev pub IsPassed : Cave → (ℕ → ℕ) → ℕ → ℕ → Type 0

@@ -15,10 +15,10 @@ pub record AreSeeded (cave : Cave) (levels queue : List ℕ) : Type 0 where
 pub record AreUnlit (levels : List ℕ) : Type 0 where
   pub each : (cell : ℕ) → slice_index levels cell ≡ 0
 
--- the cells of the queue with at least this level, each once
-pub record AreTaken (least : ℕ) (levels queue cells : List ℕ) : Type 0 where
+-- the cells of the queue with light, each once
+pub record AreTaken (levels queue cells : List ℕ) : Type 0 where
   pub once : AreDistinct cells
-  pub exact : (cell : ℕ) → Contains cells cell ↔ (Contains queue cell × (least ≤ slice_index levels cell))
+  pub exact : (cell : ℕ) → Contains cells cell ↔ (Contains queue cell × (0 < slice_index levels cell))
 
 -- the cells of the queue have no light, and the others have theirs
 pub record ArePutOut (old queue new : List ℕ) : Type 0 where

@@ -1,11 +1,12 @@
 ghost use Rattle.std.specs.Prelude.{◌≡◌, [], length, slice_index, IfOk, OnOk};
 ghost use Rattle.cave_base.specs.Box.{cell_count};
+ghost use Rattle.cave_model.specs.Passages.{ArePassages};
 ghost use Rattle.lit_lists.specs.Relaxing.{AreLevelsOf};
 ghost use Rattle.lit_lists.specs.Seeded.{AreSeeded};
 
 use crate::relaxing::relax;
 use cave_base::Cell;
-use cave_model::World;
+use cave_model::{Passages, World};
 use std::alloc::{AllocError, Global};
 
 /// Gives each cell its emission; those that have some join the queue.
@@ -25,21 +26,28 @@ fn seed(world: &World, levels: &mut [u8], queue: &mut Vec<Cell>) -> Result<(), A
 }
 
 /// Fills in the level of light of every cell.
-fn fill(alloc: Global, world: &World, levels: &mut [u8]) -> Result<(), AllocError>
+fn fill(
+    alloc: Global,
+    world: &World,
+    passages: &Passages,
+    levels: &mut [u8],
+) -> Result<(), AllocError>
+    requires passages { ArePassages world.now passages.now }
     requires cells { length levels.old ≡ cell_count world.now.size }
     ensures { OnOk result (AreLevelsOf world.now levels.new) }
 {
     let mut queue = Vec::new(alloc);
     seed(world, levels, &mut queue)?;
-    relax(world, levels, &mut queue)?;
+    relax(world, Some(passages), levels, &mut queue)?;
     Ok(())
 }
 
 /// The level of light of every cell.
-pub fn light(alloc: Global, world: &World) -> Result<Vec<u8>, AllocError>
+pub fn light(alloc: Global, world: &World, passages: &Passages) -> Result<Vec<u8>, AllocError>
+    requires passages { ArePassages world.now passages.now }
     ensures { IfOk result (λ v. AreLevelsOf world.now v.items) }
 {
     let mut levels = vec![in alloc; 0; world.cell_count() as usize]?;
-    fill(alloc, world, levels.as_mut_slice())?;
+    fill(alloc, world, passages, levels.as_mut_slice())?;
     Ok(levels)
 }

@@ -5,7 +5,7 @@ use crate::levels::light;
 use crate::marking::{dark_marks, place_marks};
 use crate::pairs::{Pairs, pairs_of};
 use cave_base::Cell;
-use cave_model::World;
+use cave_model::{Passages, World};
 use std::alloc::{AllocError, Global};
 use std::marker::Model;
 
@@ -30,10 +30,11 @@ impl Lists {
     pub fn new(alloc: Global, world: &World) -> Result<Lists, AllocError>
         ensures { IfOk result (AreListsOf world.now) }
     {
-        let levels = light(alloc, world)?;
+        let passages = Passages::new(alloc, world)?;
+        let levels = light(alloc, world, &passages)?;
         let dark = dark_marks(alloc, world, &levels)?;
         let places = place_marks(alloc, world)?;
-        let pairs = pairs_of(alloc, world, &dark, &places)?;
+        let pairs = pairs_of(alloc, world, &passages, &dark, &places)?;
         Ok(Lists {
             dark,
             places,

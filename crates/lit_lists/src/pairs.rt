@@ -1,15 +1,16 @@
-ghost use Rattle.std.specs.Prelude.{◌≡◌, ◌<◌, length, All, IfOk, OnOk};
+ghost use Rattle.std.specs.Prelude.{◌≡◌, length, IfOk, OnOk};
 ghost use Rattle.cave_base.specs.Box.{cell_count};
-ghost use Rattle.cave_model.specs.Plan.{AreDistinct};
+ghost use Rattle.cave_model.specs.Passages.{ArePassages};
 ghost use Rattle.cave_model.specs.Spawn.{IsDark};
 ghost use Rattle.cave_model.specs.Torches.{IsPlace};
 ghost use Rattle.lit_lists.specs.Seeded.{AreUnlit};
-ghost use Rattle.lit_lists.specs.Lists.{AreAdded, AreMarksOf, AreNoPairs, ArePairsBelow, IsAdded, row_at};
+ghost use Rattle.lit_lists.specs.Lists.{AreLights, AreMarksOf, ArePairsOf, row_at};
+ghost use Rattle.lit_lists.specs.Rows.{AreEmptyRows};
 
-use crate::lighting::lit_cells;
+use crate::lighting::{light_back, reach};
 use crate::rows::Rows;
 use cave_base::Cell;
-use cave_model::World;
+use cave_model::{Passages, World};
 use std::alloc::{AllocError, Global};
 use std::marker::Model;
 
@@ -29,26 +30,6 @@ impl Model for Pairs {
 }
 
 impl Pairs {
-    /// No pair, in a box of so many cells.
-    pub fn new(alloc: Global, count: u32) -> Result<Pairs, AllocError>
-        ensures { IfOk result (AreNoPairs count) }
-    {
-        let lights = Rows::new(alloc, count)?;
-        let lit_by = Rows::new(alloc, count)?;
-        Ok(Pairs { lights, lit_by })
-    }
-
-    /// Adds a place and a cell that it lights.
-    pub fn add(&mut self, place: Cell, cell: Cell) -> Result<(), AllocError>
-        requires place { place < length self.old.lights }
-        requires cell { cell < length self.old.lit_by }
-        ensures { OnOk result (IsAdded self.old place cell self.new) }
-    {
-        self.lights.push(place, cell)?;
-        self.lit_by.push(cell, place)?;
-        Ok(())
-    }
-
     /// The dark cells that a torch at the place lights; none where it is no place.
     pub fn lights(&self, place: Cell) -> &[Cell]
         ensures { result.now ≡ row_at self.now.lights place }
@@ -64,67 +45,85 @@ impl Pairs {
     }
 }
 
-/// Adds a place with those of the cells that are dark.
-fn add_lit(pairs: &mut Pairs, dark: &[bool], place: Cell, cells: &[Cell]) -> Result<(), AllocError>
-    requires place { place < length pairs.old.lights }
-    requires wide { length pairs.old.lit_by ≡ length dark.now }
-    requires inside { All (λ cell. cell < length dark.now) cells.now }
-    requires once { AreDistinct cells.now }
-    ensures { OnOk result (AreAdded dark.now pairs.old place cells.now pairs.new) }
+/// Adds every dark cell to the lists of the places that light it. The levels are a scratch of no light.
+fn add_dark(
+    alloc: Global,
+    world: &World,
+    passages: &Passages,
+    dark: &[bool],
+    places: &[bool],
+    levels: &mut [u8],
+    lights: &mut Rows,
+) -> Result<(), AllocError>
+    requires cells { length levels.old ≡ cell_count world.now.size }
+    requires unlit { AreUnlit levels.old }
+    requires passages { ArePassages world.now passages.now }
+    requires dark { AreMarksOf (cell_count world.now.size) (IsDark world.now) dark.now }
+    requires places { AreMarksOf (cell_count world.now.size) (IsPlace world.now) places.now }
+    requires none { AreEmptyRows (cell_count world.now.size) lights.old }
+    ensures { OnOk result (AreLights world.now lights.new) }
 {
-    for cell in cells {
-        if dark[*cell as usize] {
-            pairs.add(place, *cell)?;
+    let mut queue = Vec::new(alloc);
+    let mut reached = Vec::new(alloc);
+    for cell in 0..world.cell_count() {
+        if dark[cell as usize] {
+            let light = light_back(world, cell);
+            reach(
+                world,
+                Some(passages),
+                levels,
+                &mut queue,
+                &mut reached,
+                cell,
+                light,
+            )?;
+            lights.push_marked(places, &reached, cell)?;
         }
     }
     Ok(())
 }
 
-/// Adds every place with the dark cells that it lights. The levels are a scratch of no light.
-fn add_all(
+/// For each place of the world the dark cells that it lights, ascending.
+fn lights_of(
     alloc: Global,
     world: &World,
+    passages: &Passages,
     dark: &[bool],
     places: &[bool],
-    levels: &mut [u8],
-    pairs: &mut Pairs,
-) -> Result<(), AllocError>
-    requires cells { length levels.old ≡ cell_count world.now.size }
-    requires unlit { AreUnlit levels.old }
+) -> Result<Rows, AllocError>
+    requires passages { ArePassages world.now passages.now }
     requires dark { AreMarksOf (cell_count world.now.size) (IsDark world.now) dark.now }
     requires places { AreMarksOf (cell_count world.now.size) (IsPlace world.now) places.now }
-    requires none { AreNoPairs (cell_count world.now.size) pairs.old }
-    ensures { OnOk result (ArePairsBelow world.now (cell_count world.now.size) pairs.new) }
+    ensures { IfOk result (AreLights world.now) }
 {
-    for place in 0..world.cell_count() {
-        if places[place as usize] {
-            let cells = lit_cells(alloc, world, levels, place)?;
-            add_lit(pairs, dark, place, &cells)?;
-        }
-    }
-    Ok(())
+    let mut levels = vec![in alloc; 0; world.cell_count() as usize]?;
+    let mut lights = Rows::new(alloc, world.cell_count())?;
+    add_dark(
+        alloc,
+        world,
+        passages,
+        dark,
+        places,
+        levels.as_mut_slice(),
+        &mut lights,
+    )?;
+    Ok(lights)
 }
 
 /// Every place of the world with the dark cells that it lights.
 pub fn pairs_of(
     alloc: Global,
     world: &World,
+    passages: &Passages,
     dark: &[bool],
     places: &[bool],
 ) -> Result<Pairs, AllocError>
+    requires passages { ArePassages world.now passages.now }
     requires dark { AreMarksOf (cell_count world.now.size) (IsDark world.now) dark.now }
     requires places { AreMarksOf (cell_count world.now.size) (IsPlace world.now) places.now }
-    ensures { IfOk result (ArePairsBelow world.now (cell_count world.now.size)) }
+    ensures { IfOk result (ArePairsOf world.now) }
 {
-    let mut levels = vec![in alloc; 0; world.cell_count() as usize]?;
-    let mut pairs = Pairs::new(alloc, world.cell_count())?;
-    add_all(
-        alloc,
-        world,
-        dark,
-        places,
-        levels.as_mut_slice(),
-        &mut pairs,
-    )?;
-    Ok(pairs)
+    let lights = lights_of(alloc, world, passages, dark, places)?;
+    let lit_by = lights.turned(alloc, world.cell_count())?;
+    Ok(Pairs { lights, lit_by })
 }

@@ -1,10 +1,12 @@
-ghost use Rattle.std.specs.Prelude.{◌≡◌, ◌<◌, ◌≤◌, ◌-◌, length, slice_index, IfOk, OnOk};
+ghost use Rattle.std.specs.Prelude.{◌≡◌, ◌<◌, ◌≤◌, ◌-◌, length, slice_index, IfOk, IfSome, OnOk};
 ghost use Rattle.cave_base.specs.Box.{cell_count};
 ghost use Rattle.cave_model.specs.Cells.{AreNeighbours};
-ghost use Rattle.lit_lists.specs.Relaxing.{Grows, HasPassed, IsSeeded, IsPassed, IsSettled, Queued, Relaxes};
+ghost use Rattle.cave_model.specs.Passages.{ArePassages};
+ghost use Rattle.lit_lists.specs.Relaxing.{AreLow, AreWaysFrom, Grows, HasPassed, IsSeeded, IsPassed, IsSettled};
+ghost use Rattle.lit_lists.specs.Relaxing.{Queued, Relaxes};
 
 use cave_base::Cell;
-use cave_model::World;
+use cave_model::{Passages, World};
 use std::alloc::AllocError;
 
 /// Levels are at most 15 and fall by one a step at least, so that after so many rounds no cell is left that can raise
@@ -36,7 +38,7 @@ fn offer(
 }
 
 /// Passes the light of a cell on to all its neighbours.
-fn pass_on(
+fn pass_to_all(
     world: &World,
     levels: &mut [u8],
     queue: &mut Vec<Cell>,
@@ -56,29 +58,84 @@ fn pass_on(
     Ok(())
 }
 
+/// Passes the light of a cell on to those of its neighbours that it can enter, which are these.
+fn pass_to_these(
+    world: &World,
+    levels: &mut [u8],
+    queue: &mut Vec<Cell>,
+    from: Cell,
+    these: &[Cell],
+) -> Result<(), AllocError>
+    requires cells { length levels.old ≡ cell_count world.now.size }
+    requires inside { from < cell_count world.now.size }
+    requires low { slice_index levels.old from ≤ 15 }
+    requires these { AreWaysFrom world.now from these.now }
+    ensures grows { OnOk result (Grows world.now (slice_index levels.old from)
+        (slice_index levels.old) queue.old.items (slice_index levels.new) queue.new.items) }
+    ensures passed { OnOk result (HasPassed world.now (slice_index levels.new) from) }
+{
+    for to in these {
+        offer(world, levels, queue, from, *to)?;
+    }
+    Ok(())
+}
+
+/// Passes the light of a cell on to its neighbours; where passages are given, without a look at those of no use.
+fn pass_on(
+    world: &World,
+    passages: Option<&Passages>,
+    levels: &mut [u8],
+    queue: &mut Vec<Cell>,
+    from: Cell,
+) -> Result<(), AllocError>
+    requires passages { IfSome passages (λ p. ArePassages world.now p.now) }
+    requires cells { length levels.old ≡ cell_count world.now.size }
+    requires inside { from < cell_count world.now.size }
+    requires low { slice_index levels.old from ≤ 15 }
+    ensures grows { OnOk result (Grows world.now (slice_index levels.old from)
+        (slice_index levels.old) queue.old.items (slice_index levels.new) queue.new.items) }
+    ensures passed { OnOk result (HasPassed world.now (slice_index levels.new) from) }
+{
+    match passages {
+        Some(passages) => pass_to_these(world, levels, queue, from, passages.from(from))?,
+        None => pass_to_all(world, levels, queue, from)?,
+    }
+    Ok(())
+}
+
 /// A round: the cells of the queue from this index on pass their light on. Where those begin that it raised.
 fn round(
     world: &World,
+    passages: Option<&Passages>,
     levels: &mut [u8],
     queue: &mut Vec<Cell>,
     begin: usize,
 ) -> Result<usize, AllocError>
+    requires passages { IfSome passages (λ p. ArePassages world.now p.now) }
     requires cells { length levels.old ≡ cell_count world.now.size }
     requires queued { Queued world.now begin queue.old.items }
+    requires low { AreLow (slice_index levels.old) }
     ensures queued { IfOk result (λ end. Queued world.now end queue.new.items) }
+    ensures low { IfOk result (λ _. AreLow (slice_index levels.new)) }
     ensures relaxes { IfOk result (λ end. Relaxes world.now (slice_index levels.old) queue.old.items begin
         (slice_index levels.new) queue.new.items end) }
 {
     let end = queue.len();
     for index in begin..end {
         let from = queue[index];
-        pass_on(world, levels, queue, from)?;
+        pass_on(world, passages, levels, queue, from)?;
     }
     Ok(end)
 }
 
-/// Lets the light of the cells in the queue spread.
-pub fn relax(world: &World, levels: &mut [u8], queue: &mut Vec<Cell>) -> Result<(), AllocError>
+/// Lets the light of the cells in the queue spread; sooner where the passages of the world are given.
+pub fn relax(
+    world: &World,
+    passages: Option<&Passages>,
+    levels: &mut [u8],
+    queue: &mut Vec<Cell>,
+) -> Result<(), AllocError>
+    requires passages { IfSome passages (λ p. ArePassages world.now p.now) }
     requires cells { length levels.old ≡ cell_count world.now.size }
     requires seeded { IsSeeded world.now (slice_index levels.old) queue.old.items }
     ensures settled { OnOk result (IsSettled world.now
@@ -86,7 +143,7 @@ pub fn relax(world: &World, levels: &mut [u8], queue: &mut Vec<Cell>) -> Result<
 {
     let mut begin = 0;
     for _ in 0..ROUNDS {
-        begin = round(world, levels, queue, begin)?;
+        begin = round(world, passages, levels, queue, begin)?;
     }
     Ok(())
 }

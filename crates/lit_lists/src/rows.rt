@@ -1,5 +1,7 @@
-ghost use Rattle.std.specs.Prelude.{◌≡◌, ◌<◌, [], ◌∷◌, ◌++◌, length, IfOk, OnOk};
-ghost use Rattle.lit_lists.specs.Lists.{AreEmptyRows, IsPushed, row_at};
+ghost use Rattle.std.specs.Prelude.{◌≡◌, ◌<◌, [], ◌∷◌, ◌++◌, length, All, Contains, IfOk, OnOk};
+ghost use Rattle.cave_model.specs.Plan.{AreDistinct};
+ghost use Rattle.lit_lists.specs.Lists.{row_at};
+ghost use Rattle.lit_lists.specs.Rows.{AreEmptyRows, AreOfOneBox, ArePushed, AreTurned, IsMarkedOf, IsPushed};
 
 use std::alloc::{AllocError, Global};
 use std::marker::Model;
@@ -31,12 +33,44 @@ impl Rows {
     }
 
     /// Puts a number at the end of the list of a cell.
-    pub fn push(&mut self, cell: u32, number: u32) -> Result<(), AllocError>
+    fn push(&mut self, cell: u32, number: u32) -> Result<(), AllocError>
         requires inside { cell < length self.old }
         ensures { OnOk result (IsPushed self.old cell number self.new) }
     {
         let row = &mut self.rows[cell as usize];
         row.push(number)?;
+        Ok(())
+    }
+
+    /// Puts a number at the end of the list of each of the cells.
+    fn push_all(&mut self, cells: &[u32], number: u32) -> Result<(), AllocError>
+        requires inside { All (λ cell. cell < length self.old) cells.now }
+        requires once { AreDistinct cells.now }
+        ensures { OnOk result (ArePushed (Contains cells.now) self.old number self.new) }
+    {
+        for cell in cells {
+            self.push(*cell, number)?;
+        }
+        Ok(())
+    }
+
+    /// Puts a number at the end of the list of each of the cells that are marked.
+    pub fn push_marked(
+        &mut self,
+        marks: &[bool],
+        cells: &[u32],
+        number: u32,
+    ) -> Result<(), AllocError>
+        requires wide { length self.old ≡ length marks.now }
+        requires inside { All (λ cell. cell < length marks.now) cells.now }
+        requires once { AreDistinct cells.now }
+        ensures { OnOk result (ArePushed (IsMarkedOf marks.now cells.now) self.old number self.new) }
+    {
+        for cell in cells {
+            if marks[*cell as usize] {
+                self.push(*cell, number)?;
+            }
+        }
         Ok(())
     }
 
@@ -48,5 +82,18 @@ impl Rows {
             Some(row) => row,
             None => &[],
         }
+    }
+
+    /// For each number, the cells whose lists it is in; there are so many cells.
+    pub fn turned(&self, alloc: Global, count: u32) -> Result<Rows, AllocError>
+        requires count { length self.now ≡ count }
+        requires boxed { AreOfOneBox self.now }
+        ensures { IfOk result (AreTurned self.now) }
+    {
+        let mut turned = Rows::new(alloc, count)?;
+        for cell in 0..count {
+            turned.push_all(self.row(cell), cell)?;
+        }
+        Ok(turned)
     }
 }

@@ -11,7 +11,7 @@ use scan_core::{ScanFault, read_scan};
 use std::alloc::Global;
 use std::io::Read;
 use std::test::Fail;
-use torch_plan::{RunFault, read_table, run_dark};
+use torch_plan::{RunFault, Unobserved, read_table, run_dark};
 
 const TABLE: &[u8] =
     b"[[row]]\nname = \"cave:felt\"\nwhen = { wet = \"no\" }\nopacity = 15\nstand = true\n";
@@ -124,6 +124,7 @@ fn run_dark_is_wrong(alloc: Global, pillar: &[u8]) -> bool {
         &mut reader,
         Some(TABLE),
         Rule::new(2, 1),
+        &Unobserved,
         &mut writer,
     );
     let ShortWriter { taken, count } = writer;

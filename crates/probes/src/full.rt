@@ -5,13 +5,20 @@ use cave_files::caves::LARGEST_FLOOR;
 use cave_model::Rule;
 use std::alloc::Global;
 use std::test::Fail;
-use torch_plan::run_dark;
+use torch_plan::{Unobserved, run_dark};
 
 /// How many bytes the dark text of the structure has.
 fn text_length(alloc: Global, bytes: &[u8]) -> Result<usize, Fail> {
     let mut text = Vec::new(alloc);
     let mut reader = bytes;
-    run_dark(alloc, &mut reader, None, Rule::new(2, 1), &mut text)?;
+    run_dark(
+        alloc,
+        &mut reader,
+        None,
+        Rule::new(2, 1),
+        &Unobserved,
+        &mut text,
+    )?;
     Ok(text.len())
 }
 

@@ -46,7 +46,7 @@ fn reaches(alloc: Global, world: &World) -> Result<u32, OutOfMemory> {
 
 /// How many cells torches light, summed over these cells, in one memory for all floods.
 fn lit_from(alloc: Global, world: &World, cells: &[Cell]) -> Result<usize, OutOfMemory> {
-    let mut scratch = Scratch::new(alloc, world.cell_count())?;
+    let mut scratch = Scratch::new(alloc, world)?;
     let mut lit = 0usize;
     for cell in cells {
         if *cell < world.cell_count() {

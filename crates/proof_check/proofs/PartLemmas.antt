@@ -1,15 +1,15 @@
 -- Which cells keep lists from being regions.
-use Rattle.std.proofs.Common.{◌≡◌, ◌≢◌, ℕ, ◌+◌, ◌<◌, ◌⊎◌, inl, inr, List, IsTrue, refl, sym, subst, ◌∙◌, arith}
+use Rattle.std.proofs.Common.{◌≡◌, ◌≢◌, ℕ, ◌+◌, ◌<◌, ◌⊎◌, inl, inr, List, length, IsTrue, refl, sym, subst, ◌∙◌, arith}
 use Rattle.std.specs.Prelude.{Bool, true, false, ◌↔◌, Some, None}
 use Rattle.std.proofs.lemmas.Bool.{cases_eq, cases_lt, true≢false}
 use Rattle.cave_base.specs.Box.{cell_count}
 use Rattle.cave_model.specs.Cave.{Cave}
 use Rattle.cave_model.specs.Spawn.{IsDark}
 use Rattle.cave_model.proofs.LightLemmas.{path_end_inside}
-use Rattle.lit_lists.specs.Lists.{LitLists, AreLitCells, is_marked}
+use Rattle.lit_lists.specs.Lists.{LitLists, AreListsOf, AreLitCells, is_marked, row_at}
 use Rattle.proof_check.specs.Refused.{IsInTwo, IsListed, LightsTwo, IsBadCell}
-use Rattle.proof_check.specs.Homes.{IsHomeOf, Homes, DecidesTwo}
-use Rattle.proof_check.specs.Ends.{home_of, is_unparted, IsNoneBelow, DecidesLights, DecidesBad, NoneBad}
+use Rattle.proof_check.specs.Homes.{IsHomeOf, Homes, AreHomesOf, DecidesTwo}
+use Rattle.proof_check.specs.Ends.{home_of, is_unparted, AreParted, IsNoneBelow, DecidesLights, DecidesBad, NoneBad}
 use Rattle.proof_check.specs.declared.homes.Home.{Home}
 use Rattle.proof_check.specs.declared.homes.Home.TheVariants as home
 
@@ -101,6 +101,12 @@ own_or_lights cave parts cell (inl b) = inl (inl b)
 own_or_lights cave parts cell (inr (inl b)) = inl (inr b)
 own_or_lights cave parts cell (inr (inr b)) = inr b
 
+-- a listed cell that isn't dark is listed wrongly
+own_listed : (cave : Cave) (parts : List (List ℕ)) (cell : ℕ) → IsListed parts cell → (¬ IsDark cave cell)
+    → OwnReason cave parts cell
+unfolding OwnReason
+own_listed cave parts cell l n = inr (l, n)
+
 -- below the first cell none is bad
 pub none_start : (cave : Cave) (lists : LitLists) (regions : Homes) → NoneBad cave lists regions 0
 none_start cave lists regions =
@@ -155,3 +161,59 @@ pub none_all : (cave : Cave) (lists : LitLists) (regions : Homes) (count : ℕ) 
     → NoneBad cave lists regions count → DecidesBad cave lists regions (cell_count cave.size) None
 none_all cave lists regions count e s =
     record { each = λ parts known a whole. subst (IsNoneBelow (IsBadCell cave parts)) e (s.each parts known a whole) }
+
+-- where no cell is listed wrongly
+module _ (cave : Cave) (lists : LitLists) (regions : Homes)
+    (parted : AreParted lists regions (cell_count cave.size)) where
+  -- a listed cell is dark
+  listed_dark : (parts : List (List ℕ)) → AreListsOf cave lists → AreHomesOf parts regions
+      → length regions.homes ≡ cell_count cave.size → (cell : ℕ) → cell < cell_count cave.size → IsListed parts cell
+      → IsDark cave cell
+  listed_dark parts known a whole cell inside l = go (is_marked lists.dark cell) refl where
+    go : (dark : Bool) → is_marked lists.dark cell ≡ dark → IsDark cave cell
+    go true e = (known.dark.exact cell).0 e
+    go false e = absurd (true≢false (sym ((unparted cave parts cell (home_of regions cell) (is_marked lists.dark cell)
+        (a.each cell (omega (arith, whole))) (known.dark.exact cell)).1
+        (own_listed cave parts cell l (λ d. true≢false (sym ((known.dark.exact cell).1 d) ∙ e))))
+        ∙ parted.each cell inside))
+
+  -- a place lights two regions just where the dark cells that it lights have two homes
+  pub lights_parted : (place : ℕ) (cells : List ℕ) (result : Bool) → cells ≡ row_at lists.pairs.lights place
+      → DecidesTwo cells regions result → DecidesLights cave lists regions place result
+  lights_parted place cells result e d = record {
+    each = λ parts known a whole.
+        (let both = (subst (λ (l : List ℕ). DecidesTwo l regions result) e d).each parts a (λ cell h.
+        (let lt = path_end_inside ((known.lights place cell).0 h).lights.1 in omega (arith, whole))) in (
+          λ t. (let w = both.0 t in let p = (known.lights place w.2).0 w.7 in (
+            p.legal,
+            w.0,
+            w.1,
+            w.2,
+            w.3,
+            w.4,
+            w.5,
+            w.6,
+            p.lights,
+            ((known.lights place w.3).0 w.8).lights,
+          )),
+          λ two. both.1 (
+            two.1,
+            two.2,
+            two.3,
+            two.4,
+            two.5,
+            two.6,
+            two.7,
+            (known.lights place two.3).1 (record {
+              legal = two.0;
+              dark = listed_dark parts known a whole two.3 (path_end_inside two.8.1) (two.1, two.6);
+              lights = two.8;
+            }),
+            (known.lights place two.4).1 (record {
+              legal = two.0;
+              dark = listed_dark parts known a whole two.4 (path_end_inside two.9.1) (two.2, two.7);
+              lights = two.9;
+            }),
+          ),
+        ));
+  }

@@ -46,6 +46,10 @@ pub record IsFirstBelow (Kind : ℕ → Type 0) (count cell : ℕ) : Type 0 wher
 abbrev pub IsFirst : (ℕ → Type 0) → ℕ → Option ℕ → Type 0
 IsFirst Kind count result = MatchOption result (IsNoneBelow Kind count) (IsFirstBelow Kind count)
 
+-- in a box of so many cells each dark one stands in just one list, and no other in any
+pub record AreParted (lists : LitLists) (regions : Homes) (count : ℕ) : Type 0 where
+  pub each : (cell : ℕ) → cell < count → is_unparted (home_of regions cell) (is_marked lists.dark cell) ≡ false
+
 -- one of the places is listed
 abbrev pub HasTorch : List ℕ → Homes → Type 0
 HasTorch places torches = (place : ℕ) × Contains places place × IsTrue (is_somewhere (home_of torches place))

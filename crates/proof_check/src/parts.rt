@@ -1,4 +1,4 @@
-ghost use Rattle.std.specs.Prelude.{◌≡◌, ◌<◌, ◌≤◌, length, IfOk};
+ghost use Rattle.std.specs.Prelude.{◌≡◌, ◌↔◌, ◌<◌, ◌≤◌, length, IfOk, IsTrue};
 ghost use Rattle.cave_base.specs.Box.{cell_count};
 ghost use Rattle.lit_lists.specs.Seeded.{AreUnlit};
 ghost use Rattle.proof_check.specs.Ends as ends;
@@ -18,6 +18,32 @@ fn is_unparted(home: Home, needed: bool) -> bool
         Home::Only(_) => !needed,
         Home::Several => true,
     }
+}
+
+/// Whether in a box of so many cells each dark one is in just one list, and no other is in any.
+fn are_parted(lists: &Lists, regions: &Homes, count: Cell) -> bool
+    ensures { IsTrue result ↔ ends.AreParted lists.now regions.now count }
+{
+    for cell in 0..count {
+        if is_unparted(regions.of(cell), lists.is_dark(cell)) {
+            return false;
+        }
+    }
+    true
+}
+
+/// The first place that lights dark cells of two regions. Where the regions part the dark cells, no other cell is
+/// listed, and nothing else can be wrong with them.
+fn first_joining(world: &World, lists: &Lists, regions: &Homes) -> Option<Cell>
+    requires parted { ends.AreParted lists.now regions.now (cell_count world.now.size) }
+    ensures { ends.DecidesBad world.now lists.now regions.now (cell_count world.now.size) result }
+{
+    for place in 0..world.cell_count() {
+        if regions.are_two(lists.lights(place)) {
+            return Some(place);
+        }
+    }
+    None
 }
 
 /// Whether the place lights cells of two regions, dark or not. The levels are a scratch of no light.
@@ -74,6 +100,10 @@ pub fn bad_cell(
 ) -> Result<Option<Cell>, AllocError>
     ensures { IfOk result (ends.DecidesBad world.now lists.now regions.now (cell_count world.now.size)) }
 {
+    if are_parted(lists, regions, world.cell_count()) {
+        return Ok(first_joining(world, lists, regions));
+    }
+    // What a place lights is listed for dark cells alone, so where others are in regions light is followed from it.
     let mut levels = vec![in alloc; 0; world.cell_count() as usize]?;
     let bad = first_bad_cell(alloc, world, levels.as_mut_slice(), lists, regions)?;
     Ok(bad)

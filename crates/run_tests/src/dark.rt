@@ -1,11 +1,11 @@
 //! The worked examples by `dark`.
 
-use crate::running::{prints, refuses, row_of_cells};
+use crate::running::{prints, refuses};
 use cave_files::caves::{
     AIR, BELOW_THE_MIDDLE, CORRIDOR_27, CORRIDOR_28, DUG, EMPTY, IN_A_CORNER, LANTERN, LIT_27,
     PILLAR, ROCK, STAIRS, STAIRS_27, STONE, TORCH, VOID_OF_ONE, VOID_OF_TWO,
 };
-use cave_files::{Block, Entry, Fill, Structure};
+use cave_files::{Block, Entry, Fill, Structure, row_of_cells};
 use std::test::Fail;
 use torch_plan::Rule;
 

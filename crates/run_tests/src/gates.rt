@@ -1,6 +1,6 @@
 //! A gate that holds workers back.
 use std::sync::atomic::{AtomicBool, AtomicU32, Ordering};
-use torch_plan::{Name, Observer};
+use torch_plan::{Name, Observer, Watcher};
 
 /// How often a worker that is held back looks whether the other one has entered.
 const LOOKS: u32 = 1_000_000_000;
@@ -79,3 +79,5 @@ impl Observer for Meeting {
         }
     }
 }
+
+impl Watcher for Meeting {}

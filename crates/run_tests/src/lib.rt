@@ -3,11 +3,11 @@
 #![tactic(auto)]
 
 #[cfg(test)]
-mod answering;
-#[cfg(test)]
 mod check_streams;
 #[cfg(test)]
 mod counted;
+#[cfg(test)]
+mod damaged;
 #[cfg(test)]
 mod dark;
 #[cfg(test)]
@@ -37,16 +37,14 @@ mod rules;
 #[cfg(test)]
 mod running;
 #[cfg(test)]
-mod shelf;
-#[cfg(test)]
 mod streams;
 #[cfg(test)]
 mod tables;
 #[cfg(test)]
 mod through;
 #[cfg(test)]
-mod turns;
+mod told_regions;
 #[cfg(test)]
-mod words;
+mod turns;
 #[cfg(test)]
 mod worlds;

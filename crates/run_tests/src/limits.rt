@@ -27,7 +27,7 @@ fn a_structure_of_the_limit_is_judged_and_one_byte_more_is_too_long_to_each_comm
     let mut text = Vec::new(alloc);
     let mut proof = Vec::new(alloc);
     let mut reader = zeros_of(STRUCTURE_LIMIT);
-    let ended = run_dark(alloc, &mut reader, None, rule, &mut text);
+    let ended = run_dark(alloc, &mut reader, None, rule, &Unobserved, &mut text);
     assert!(rt;
         matches!(
             &ended,
@@ -35,7 +35,7 @@ fn a_structure_of_the_limit_is_judged_and_one_byte_more_is_too_long_to_each_comm
         )
     );
     let mut reader = zeros_of(STRUCTURE_LIMIT + 1);
-    let ended = run_dark(alloc, &mut reader, None, rule, &mut text);
+    let ended = run_dark(alloc, &mut reader, None, rule, &Unobserved, &mut text);
     assert!(rt; matches!(&ended, Err(RunFault::TooLong(Input::StructureInput))));
     let ended = run_plan(
         &rt,
@@ -67,7 +67,14 @@ fn a_reader_without_end_is_left_one_buffer_past_the_limit(rt: HostRuntime) -> Re
     let alloc = rt.alloc();
     let mut reader = zeros_of(usize::MAX);
     let mut written = Vec::new(alloc);
-    let ended = run_dark(alloc, &mut reader, None, Rule::new(2, 1), &mut written);
+    let ended = run_dark(
+        alloc,
+        &mut reader,
+        None,
+        Rule::new(2, 1),
+        &Unobserved,
+        &mut written,
+    );
     assert!(rt; matches!(&ended, Err(RunFault::TooLong(Input::StructureInput))));
     assert!(rt; STRUCTURE_LIMIT < reader.given);
     assert!(rt; reader.given <= STRUCTURE_LIMIT + BUFFER);

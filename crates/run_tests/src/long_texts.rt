@@ -39,7 +39,14 @@ fn a_long_text_of_dark_cells_is_written_byte_by_byte(rt: HostRuntime) -> Result<
     let bytes = hall(alloc)?;
     let mut reader = bytes.as_slice();
     let mut writer = writer_of(alloc, usize::MAX);
-    let ended = run_dark(alloc, &mut reader, None, Rule::new(2, 1), &mut writer);
+    let ended = run_dark(
+        alloc,
+        &mut reader,
+        None,
+        Rule::new(2, 1),
+        &Unobserved,
+        &mut writer,
+    );
     assert!(rt; ended.is_ok());
     let text = text_of_hall(alloc)?;
     assert!(rt; 1000 < text.len());

@@ -2,8 +2,8 @@
 
 use crate::planning::{alone, freely, is_accepted, lines_with, plan_run};
 use cave_files::caves::{
-    AIR, CORRIDOR_27, DUG, EMPTY, FELT, FELT_27, FELT_TABLE, LIT_27, PILLAR, RING, ROCK, STAIRS_27,
-    STONE, TWO_CORRIDORS,
+    AIR, CORRIDOR_27, DUG, EMPTY, FELT, FELT_27, FELT_RING, FELT_TABLE, LIT_27, PILLAR, RING, ROCK,
+    STAIRS_27, STONE, TWO_CORRIDORS,
 };
 use cave_files::{Fill, Structure};
 use std::alloc::Global;
@@ -211,6 +211,27 @@ fn a_million_turns_plan_the_ring_and_one_turn_plans_one_leaf(rt: HostRuntime) ->
         let ended = plan_run(&rt, alloc, &cave.bytes(alloc)?, None, &opts)?;
         assert!(rt; ended.outcome == Some(Outcome::Done));
         assert!(rt; ended.text.starts_with(head.as_bytes()));
+    }
+    Ok(())
+}
+
+// The root is no leaf. Two of its three places light 188, and where one of them is chosen one cell is unlit: three nodes
+// are enough, the root and its two kids, and each that is worked on takes a turn.
+#[test]
+fn three_turns_plan_the_felt_ring_and_two_do_not(rt: HostRuntime) -> Result<(), Fail> {
+    let alloc = rt.alloc();
+    let bytes = FELT_RING.bytes(alloc)?;
+    for (turns, outcome, head) in [
+        (1, Outcome::Stopped, "torches 2 at-least "),
+        (2, Outcome::Stopped, "torches 2 at-least "),
+        (3, Outcome::Done, "torches 2\ndark 28\n"),
+        (4, Outcome::Done, "torches 2\ndark 28\n"),
+    ] {
+        let opts = alone(&rt, Rule::new(2, 1), Some(turns));
+        let ended = plan_run(&rt, alloc, &bytes, Some(FELT_TABLE), &opts)?;
+        assert!(rt; ended.outcome == Some(outcome));
+        assert!(rt; ended.text.starts_with(head.as_bytes()));
+        assert_eq!(rt; ended.proof.is_empty(), outcome == Outcome::Stopped);
     }
     Ok(())
 }

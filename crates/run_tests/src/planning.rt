@@ -6,7 +6,7 @@ use std::process::Abort;
 use std::sync::Wait;
 use std::test::Fail;
 use std::thread::Threads;
-use torch_plan::{Observer, Outcome, PlanOpts, Rule, Unobserved, Workers, run_check, run_plan};
+use torch_plan::{Outcome, PlanOpts, Rule, Unobserved, Watcher, Workers, run_check, run_plan};
 
 /// How a run ended, or its fault line without `torchplan: `; and what was written to both writers.
 #[derive(Drop)]
@@ -29,7 +29,7 @@ pub fn plan_run<X: Threads + Wait + Sync>(
 }
 
 /// Plans these bytes by workers that pass the gate.
-pub fn plan_by<X: Threads + Wait + Sync, G: Observer>(
+pub fn plan_by<X: Threads + Wait + Sync, G: Watcher>(
     rt: &X,
     alloc: Global,
     bytes: &[u8],

@@ -1,9 +1,10 @@
 //! Other rules: headroom 1, under which one free cell is enough, and the rule before 1.18, under which mobs spawn up to
 //! light 7.
 
-use crate::running::{prints, row_of_cells};
+use crate::running::prints;
 use crate::worlds::world_by;
 use cave_files::caves::{CORRIDOR_27, FELT_TABLE, LIT_27, LOW_27, PILLAR};
+use cave_files::row_of_cells;
 use cover_rows::Problem;
 use std::test::Fail;
 use torch_plan::Rule;

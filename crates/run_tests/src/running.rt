@@ -4,7 +4,7 @@ use cave_files::Structure;
 use std::alloc::{AllocError, Global};
 use std::process::Abort;
 use std::test::Fail;
-use torch_plan::{Rule, RunFault, run_dark};
+use torch_plan::{Rule, RunFault, Unobserved, run_dark};
 
 /// The text of a run, or its fault line without `torchplan: `; beside it what was written all the same.
 #[derive(Drop)]
@@ -22,7 +22,7 @@ pub fn dark(
 ) -> Result<Shown, AllocError> {
     let mut reader = bytes;
     let mut written = Vec::new(alloc);
-    let refusal = match run_dark(alloc, &mut reader, table, rule, &mut written) {
+    let refusal = match run_dark(alloc, &mut reader, table, rule, &Unobserved, &mut written) {
         Ok(()) => None,
         Err(fault) => Some(line_of(alloc, &fault)?),
     };
@@ -61,17 +61,4 @@ pub fn refuses(
     assert!(rt; matches!(&shown.refusal, Some(words) if words.as_str() == line));
     assert!(rt; shown.written.is_empty());
     Ok(())
-}
-
-/// The dark text of the cells (x, 1, 1) with x in one of these ranges, both ends included.
-pub fn row_of_cells(alloc: Global, ranges: &[(u32, u32)]) -> Result<String, AllocError> {
-    let mut count = 0u32;
-    let mut lines = String::new(alloc);
-    for (from, to) in ranges {
-        for x in *from..=*to {
-            count = count.wrapping_add(1);
-            lines.push_str(format!(in alloc; "{x} 1 1\n")?.as_str())?;
-        }
-    }
-    format!(in alloc; "dark {count}\n{lines}")
 }

@@ -1,9 +1,9 @@
 //! Runs with a user's table, and what such tables do to light and to torches.
 
-use crate::running::{prints, refuses, row_of_cells};
+use crate::running::{prints, refuses};
 use crate::worlds::world_by;
 use cave_files::caves::{AIR, BELOW_THE_MIDDLE, CORRIDOR_27, DUG, FELT, FELT_TABLE, ROCK, STONE};
-use cave_files::{Block, Fill, Structure};
+use cave_files::{Block, Fill, Structure, row_of_cells};
 use cave_model::Hang;
 use light_flood::reach;
 use std::test::Fail;

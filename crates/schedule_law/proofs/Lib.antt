@@ -5,3 +5,4 @@ pub mod TurnLemmas
 pub mod StepLemmas
 pub mod BestLemmas
 pub mod LawLemmas
+pub mod OrderLemmas

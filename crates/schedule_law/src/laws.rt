@@ -1,5 +1,5 @@
 //! Laws over plain data: what joined results say, whatever the schedule was.
-ghost use Rattle.std.specs.Prelude.{◌≡◌, ◌≤◌, ◌+◌, ℕ, List, ◌∷◌, length};
+ghost use Rattle.std.specs.Prelude.{◌≡◌, ◌≤◌, ◌+◌, ℕ, List, ◌∷◌, length, IsPermutation};
 ghost use Rattle.set_cover.specs.Instance.{Instance};
 ghost use Rattle.proof_tree.specs.Piece.{Subproblem};
 ghost use Rattle.event_core.specs.State.{Begins, State};
@@ -29,4 +29,11 @@ pub fn counts_add_up()
         (left : List Subproblem) → AreJoined region first cell places works left
         → length (all_kids (root_split region cell places ∷ all_opened works))
         ≡ length (all_opened works) + length (all_closed works) + length (all_back works) + length left }
+{}
+
+/// In whatever order the workers' results stand, they are joined results: so all of these laws hold of each order.
+pub fn joined_in_any_order()
+    ensures { (region : Instance) (first : List ℕ) (cell : ℕ) (places : List ℕ) (works others : List Worked)
+        (left : List Subproblem) → IsPermutation works others → AreJoined region first cell places works left
+        → AreJoined region first cell places others left }
 {}

@@ -5,6 +5,8 @@
 #[cfg(test)]
 mod beacons;
 #[cfg(test)]
+mod bit_rows;
+#[cfg(test)]
 mod certificates;
 #[cfg(test)]
 mod cores;
@@ -12,6 +14,8 @@ mod cores;
 mod deques;
 #[cfg(test)]
 mod desks;
+#[cfg(test)]
+mod dominance;
 #[cfg(test)]
 mod felt;
 #[cfg(test)]
@@ -23,5 +27,7 @@ mod making;
 mod pieces;
 #[cfg(test)]
 mod rings;
+#[cfg(test)]
+mod turns;
 
 pub use making::made;

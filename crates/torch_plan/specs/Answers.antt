@@ -118,7 +118,7 @@ RunsCheck sources file proof table rule old new code = (result : Result Verdict 
 -- what was asked for was done: the run of these files, by this table and rule, ended with this status; or the file for
 -- the proof is one that is read, and nothing was done
 abbrev pub Does : Sources → Request → Option (List ℕ) → Option (List ℕ) → ℕ → Type 0
-Does sources (Dark file table rule) old new code =
+Does sources (Dark file table rule progress) old new code =
     RunsDark sources file.now (option_copied table) (rule_of rule) old new code
 Does sources (Plan file table opts proof progress) old new code = (IsSome proof × (code ≡ 2) × Keeps old new)
     ⊎ RunsPlan sources file.now (option_copied table) (rule_of opts.rule) opts.turns opts.workers.number old new code

@@ -37,7 +37,7 @@ on_file name = with_rule (with_rule (with_rule (with_rule (new_app name) (placed
 
 -- the command `dark`
 abbrev pub dark : App
-dark = on_file (codes "dark")
+dark = with_rule (on_file (codes "dark")) (flag (codes "progress"))
 
 -- the command `plan`
 abbrev pub plan : App

@@ -51,9 +51,9 @@ pub record IsFlagOf (value : Option Text) (is_set : Bool) : Type 0 where
 
 -- what the matches of the command of this name ask for
 abbrev pub IsAskedBy : Text → List Row → Request → Type 0
-IsAskedBy name rows (Dark file table rule) = (name ≡ codes "dark")
+IsAskedBy name rows (Dark file table rule progress) = (name ≡ codes "dark")
     × (first_of (codes "FILE") rows ≡ Some file.now) × (first_of (codes "table") rows ≡ option_copied table)
-    × IsRuleOf rows (rule_of rule)
+    × IsRuleOf rows (rule_of rule) × IsFlagOf (one_of (codes "progress") rows) progress
 IsAskedBy name rows (Plan file table opts proof progress) = (name ≡ codes "plan")
     × (first_of (codes "FILE") rows ≡ Some file.now) × (first_of (codes "table") rows ≡ option_copied table)
     × IsRuleOf rows (rule_of opts.rule) × IsCrewOf rows opts.workers.number

@@ -1,11 +1,14 @@
-//! How far a plan has come, and its words.
+//! What a run tells while it goes on, and its words.
 
+use cave_runs::OpenSides;
 use std::fmt;
 use std::marker::Copy;
 
-/// How far the search of a region has come.
+/// How far the search of a region has come; and, before a search, where the box cuts the cave.
 #[derive(Clone, Copy, Debug, PartialEq, Eq)]
 pub enum Advance {
+    /// Free cells lie at these sides of the box.
+    Open(OpenSides),
     /// One worker: no cover has fewer than `floor` places, as it is proved, the smallest so far has `size`.
     Turns {
         region: u64,
@@ -22,9 +25,43 @@ pub enum Advance {
     },
 }
 
+/// The count of a side, if it has any, after a comma where it isn't the first one: whether none was put yet.
+fn put_side<W: fmt::Write>(
+    f: &mut fmt::Formatter<W>,
+    is_first: bool,
+    count: u32,
+    side: &str,
+) -> Result<bool, fmt::Error> {
+    if count == 0 {
+        return Ok(is_first);
+    }
+    if !is_first {
+        f.write_str(", ")?;
+    }
+    write!(f, "{count} {side}")?;
+    Ok(false)
+}
+
+/// The counts of the sides that have any, with commas between.
+fn put_sides<W: fmt::Write>(f: &mut fmt::Formatter<W>, sides: &OpenSides) -> fmt::Result {
+    let is_first = put_side(f, true, sides.west, "west")?;
+    let is_first = put_side(f, is_first, sides.east, "east")?;
+    let is_first = put_side(f, is_first, sides.north, "north")?;
+    let is_first = put_side(f, is_first, sides.south, "south")?;
+    let is_first = put_side(f, is_first, sides.below, "below")?;
+    put_side(f, is_first, sides.above, "above")?;
+    Ok(())
+}
+
 impl fmt::Display for Advance {
     fn fmt<W: fmt::Write>(&self, f: &mut fmt::Formatter<W>) -> fmt::Result {
         match self {
+            Advance::Open(sides) => {
+                f.write_str("free cells lie at the box's edge: ")?;
+                put_sides(f, sides)?;
+                f.write_str("; outside counts as solid nothing, without ground, light or room, ")?;
+                f.write_str("so save a block more of floor, walls and ceiling")
+            }
             Advance::Turns {
                 region,
                 regions,

@@ -8,7 +8,7 @@ use crate::command::{Request, request_of};
 use crate::runs::{answer_check, answer_dark, answer_plan};
 use crate::status::status_of;
 use crate::system::System;
-use cave_runs::{Observer, Outcome, RunFault, Verdict};
+use cave_runs::{Outcome, RunFault, Verdict, Watcher};
 use clap::Error;
 use clap::error::ErrorKind;
 use std::alloc::Global;
@@ -74,7 +74,7 @@ fn is_input<S: System>(system: &S, proof: Option<&str>, file: &str, table: Optio
 }
 
 /// Does what was asked for.
-fn answered<X: Threads + Wait + Sync, S: System, O: Observer, W: Write>(
+fn answered<X: Threads + Wait + Sync, S: System, O: Watcher, W: Write>(
     threads: &X,
     alloc: Global,
     system: &S,
@@ -86,8 +86,14 @@ fn answered<X: Threads + Wait + Sync, S: System, O: Observer, W: Write>(
     ensures silent { IsRefused result → Keeps (W.contents output.old) (W.contents output.new) }
 {
     match *request {
-        Request::Dark { file, table, rule } => {
-            match answer_dark(alloc, system, file, table, rule, output) {
+        Request::Dark {
+            file,
+            table,
+            rule,
+            progress,
+        } => {
+            system.watch(progress);
+            match answer_dark(alloc, system, file, table, rule, observer, output) {
                 Ok(()) => 0,
                 Err(fault) => refused(system, &fault),
             }
@@ -127,8 +133,8 @@ fn answered<X: Threads + Wait + Sync, S: System, O: Observer, W: Write>(
 /// status: 0 done, or help that was asked for; 1 refused input; 2 a mistake in usage; 3 a cell that no torch lights;
 /// 4 a certificate that is rejected; 5 a plan whose turns were spent; 6 reading or writing failed; 7 memory or threads
 /// refused (this project's own). What is asked for is written to the output, help by the system. The observer is told
-/// of a plan while it goes on.
-pub fn answer<X: Threads + Wait + Sync, S: System, O: Observer, W: Write>(
+/// of a plan while it goes on, and where free cells lie at a side of the box, as of dark cells.
+pub fn answer<X: Threads + Wait + Sync, S: System, O: Watcher, W: Write>(
     threads: &X,
     alloc: Global,
     system: &S,

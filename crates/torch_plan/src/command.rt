@@ -16,7 +16,7 @@ use clap::{Arg, ArgAction, ArgMatches, Command, Error};
 use std::alloc::{AllocError, Global};
 
 /// The version, and the toolchain that it was proved with.
-const VERSION: &str = "0.5.0 (proved with rattle-kit-13f)";
+const VERSION: &str = "0.5.0 (proved with rattle-kit-13b)";
 
 /// What the words of a command line ask for. A structure is in the file, or in standard input where that is `-`; its
 /// blocks go by the user's table in that file, where there is one, before the shipped rows.
@@ -27,6 +27,8 @@ pub enum Request<'a> {
         file: &'a str,
         table: Option<&'a str>,
         rule: Rule,
+        /// Whether standard error tells where the box cuts the cave.
+        progress: bool,
     },
     /// The fewest torches of the structure, and a certificate in the file `proof`, where there is one.
     Plan {
@@ -34,7 +36,7 @@ pub enum Request<'a> {
         table: Option<&'a str>,
         opts: PlanOpts,
         proof: Option<&'a str>,
-        /// Whether standard error tells how the plan gets on.
+        /// Whether standard error tells that too, and how the plan gets on.
         progress: bool,
     },
     /// The verdict on the certificate in the file `proof`, which is never standard input.
@@ -134,7 +136,9 @@ fn progress<'a>(alloc: Global) -> Arg<'a>
     Arg::new(alloc, "progress")
         .long("progress")
         .action(ArgAction::SetTrue)
-        .help("Tell on standard error how the plan gets on, once a second [default: at a terminal]")
+        .help(
+            "Tell on standard error where the box cuts the cave, and how a plan gets on [default: at a terminal]",
+        )
 }
 
 fn dark_command<'a>(alloc: Global) -> Result<Command<'a>, AllocError>
@@ -150,7 +154,8 @@ fn dark_command<'a>(alloc: Global) -> Result<Command<'a>, AllocError>
         .arg(file(alloc))?
         .arg(headroom(alloc))?
         .arg(rule(alloc))?
-        .arg(table(alloc))
+        .arg(table(alloc))?
+        .arg(progress(alloc))
 }
 
 fn plan_command<'a>(alloc: Global) -> Result<Command<'a>, AllocError>
@@ -233,6 +238,7 @@ fn dark_of<'a>(matches: &ArgMatches<'a>) -> Option<Request<'a>>
         file: matches.get_str("FILE")?,
         table: matches.get_str("table"),
         rule: rule_of(matches)?,
+        progress: matches.get_flag("progress"),
     })
 }
 

@@ -14,10 +14,10 @@ pub use advance::Advance;
 pub use answering::answer;
 pub use cave_model::Rule;
 pub use cave_runs::{
-    Input, Name, Observer, Outcome, PlanOpts, RunFault, Unkept, Unobserved, Verdict, Workers,
-    read_table, run_check, run_dark,
+    Input, Name, Observer, OpenSides, Outcome, PlanOpts, RunFault, Unkept, Unobserved, Verdict,
+    Watcher, Workers, read_table, run_check, run_dark,
 };
 pub use command::{Request, request_of};
-pub use planner::run_plan;
+pub use planner::{run_plan, run_plan_alone};
 pub use status::status_of;
 pub use system::System;

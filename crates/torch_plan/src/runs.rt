@@ -11,7 +11,7 @@ use crate::planner::run_plan;
 use crate::system::System;
 use cave_model::Rule;
 use cave_runs::{
-    Observer, Outcome, PlanOpts, RunFault, Unkept, Verdict, read_table, run_check, run_dark,
+    Outcome, PlanOpts, RunFault, Unkept, Verdict, Watcher, read_table, run_check, run_dark,
 };
 use std::alloc::Global;
 use std::io::{Read, Write};
@@ -39,12 +39,13 @@ fn table_of<S: System>(
 }
 
 /// The dark cells of a structure.
-pub(crate) fn answer_dark<S: System, W: Write>(
+pub(crate) fn answer_dark<S: System, O: Watcher, W: Write>(
     alloc: Global,
     system: &S,
     file: &str,
     table: Option<&str>,
     rule: Rule,
+    observer: &O,
     output: &mut W,
 ) -> Result<(), RunFault>
     ensures { AnswersDark (S.sources system.now) file.now (option_copied table.entry) (rule_of rule)
@@ -53,16 +54,16 @@ pub(crate) fn answer_dark<S: System, W: Write>(
     let table = table_of(alloc, system, table)?;
     let table = table.as_deref();
     if file == "-" {
-        return run_dark(alloc, &mut system.standard(), table, rule, output);
+        return run_dark(alloc, &mut system.standard(), table, rule, observer, output);
     }
     match system.open(file) {
-        Some(mut input) => run_dark(alloc, &mut input, table, rule, output),
+        Some(mut input) => run_dark(alloc, &mut input, table, rule, observer, output),
         None => Err(RunFault::ReadFailed),
     }
 }
 
 /// Plans what the reader has. The file for the proof is made, or emptied, before it is read.
-fn plan_from<X: Threads + Wait + Sync, S: System, O: Observer, R: Read, W: Write>(
+fn plan_from<X: Threads + Wait + Sync, S: System, O: Watcher, R: Read, W: Write>(
     threads: &X,
     alloc: Global,
     system: &S,
@@ -102,7 +103,7 @@ fn plan_from<X: Threads + Wait + Sync, S: System, O: Observer, R: Read, W: Write
 }
 
 /// The plan of a structure.
-pub(crate) fn answer_plan<X: Threads + Wait + Sync, S: System, O: Observer, W: Write>(
+pub(crate) fn answer_plan<X: Threads + Wait + Sync, S: System, O: Watcher, W: Write>(
     threads: &X,
     alloc: Global,
     system: &S,

@@ -44,6 +44,6 @@ pub trait System {
     /// Prints the line of a fault on standard error.
     fn refuse(&self, fault: &RunFault);
 
-    /// A plan is made next. Whether it was asked for that standard error tells how it gets on.
+    /// A plan is made next, or dark cells are sought. Whether it was asked for that standard error tells of it.
     fn watch(&self, is_asked: bool);
 }

@@ -1,13 +1,13 @@
-//! Lines on standard error while a plan is sought, about once a second at most.
+//! Lines on standard error: where the box cuts a cave, and, about once a second at most, how a plan gets on.
 
 use std::sync::atomic::{AtomicBool, AtomicU64, Ordering};
 use std::time::Clock;
-use torch_plan::{Advance, Name, Observer};
+use torch_plan::{Advance, Name, Observer, OpenSides, Watcher};
 
 /// How many milliseconds lie between two lines at least.
 const BETWEEN: u64 = 1000;
 
-/// Tells how a plan gets on, where that is asked for, and holds no worker back. A plan of less than a second is silent.
+/// Tells of a run, where that is asked for, and holds no worker back. Of the search in less than a second it is silent.
 #[derive(Drop)]
 pub(crate) struct Progress<'r> {
     rt: &'r HostRuntime,
@@ -16,7 +16,7 @@ pub(crate) struct Progress<'r> {
     regions: AtomicU64,
     turns: AtomicU64,
     pieces: AtomicU64,
-    /// When the last line was printed, or when the plan began.
+    /// When the last line of a search was printed, or when the run began.
     last: AtomicU64,
 }
 
@@ -34,7 +34,7 @@ impl<'r> Progress<'r> {
         }
     }
 
-    /// A plan begins, of which is to be told or not.
+    /// A run begins, of which is to be told or not.
     pub(crate) fn begin(&self, is_asked: bool) {
         self.last.store(self.now(), Ordering::SeqCst);
         self.is_asked.store(is_asked, Ordering::SeqCst);
@@ -99,6 +99,14 @@ impl Observer for Progress<'_> {
                 regions: self.regions.load(Ordering::SeqCst),
                 pieces: before.saturating_add(1),
             });
+        }
+    }
+}
+
+impl Watcher for Progress<'_> {
+    fn opened(&self, sides: &OpenSides) {
+        if self.is_asked.load(Ordering::SeqCst) {
+            self.tell(&Advance::Open(*sides));
         }
     }
 }

@@ -15,7 +15,7 @@ returns-in_err-world-clause-fault g c =
 pub returns-in_err-world-clause-refused : goal.returns-in_err-world-clause-refused
 returns-in_err-world-clause-refused g c =
     let p = err_from_is_err_and c.from_residual.result c.from_residual.ensures.1 in
-    rw (p.1, p.2) (cave_unplanned c.args.bytes.now (option_copied c.args.table) (rule_of c.args.opts.now.rule)
+    rw (p.1, p.2) (cave_unplanned c.args.bytes.now (option_copied c.args.table) (rule_of c.args.rule)
     c.in_err-world.field-0.0
     c.in_err-world.ensures.refused c.in_err-world.ensures.only)
 
@@ -32,10 +32,10 @@ pub returns-in_err-outline-clause-refused : goal.returns-in_err-outline-clause-r
 returns-in_err-outline-clause-refused g c =
     let p = err_from_is_err_and c.from_residual-in_err-outline.result c.from_residual-in_err-outline.ensures.1 in
     rw (p.1, p.2) (λ due no. c.in_err-outline.ensures.refused due
-    (unplanned_here c.args.bytes.now (option_copied c.args.table) (rule_of c.args.opts.now.rule) c.in_ok-world.world
+    (unplanned_here c.args.bytes.now (option_copied c.args.table) (rule_of c.args.rule) c.in_ok-world.world
     c.in_ok-world.ensures.refused c.in_ok-world.ensures.only due no))
 
 pub returns-clause-refused : goal.returns-clause-refused
 returns-clause-refused g c = λ due no. c.in_ok-outline.ensures.refused due
-    (unplanned_here c.args.bytes.now (option_copied c.args.table) (rule_of c.args.opts.now.rule) c.in_ok-world.world
+    (unplanned_here c.args.bytes.now (option_copied c.args.table) (rule_of c.args.rule) c.in_ok-world.world
     c.in_ok-world.ensures.refused c.in_ok-world.ensures.only due no)

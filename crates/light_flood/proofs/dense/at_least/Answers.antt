@@ -7,8 +7,8 @@ bounds-levels-cell c = kept_inside c.args.levels.now c.args.lit.now c.requires.k
     c.loop-cell-test.true
 
 pub loop-cell-init : goal.loop-cell-init
-loop-cell-init c = choosing_start c.args.least c.args.levels.now c.args.lit.now c.new-cells.result.items
-    c.new-cells.ensures.items
+loop-cell-init c = choosing_start c.args.least c.args.levels.now c.args.lit.now c.in_ok-cells.cells.items
+    c.in_ok-cells.ensures.items
 
 pub loop-cell-preserved : goal.loop-cell-preserved
 loop-cell-preserved c = elim c.if-least-levels.branch [

@@ -1,5 +1,5 @@
 use Rattle.std.proofs.Common.{◌-◌, ◌+◌, ◌∙◌, slice_index, arith}
-use Rattle.lit_lists.proofs.RelaxLemmas.{rounds_start, rounds_next, rounds_end}
+use Rattle.lit_lists.proofs.RoundLemmas.{rounds_start, rounds_next, rounds_end}
 use Rattle.lit_lists.proofs.relaxing.relax.Goals as goal
 
 pub loop-init : goal.loop-init
@@ -15,7 +15,8 @@ loop-preserved c = record {
   rounds = rounds_next c.args.world.now (slice_index c.args.levels.now) (slice_index c.loop.levels)
       (slice_index c.round.new.levels) c.loop.queue.items c.round.new.queue.items c.loop.begin c.in_ok-begin.begin
       (15 - c.loop.counter) (15 - (c.loop.counter + 1))
-      c.loop.invariant.rounds c.in_ok-begin.ensures.relaxes c.in_ok-begin.ensures.queued (omega arith);
+      c.loop.invariant.rounds c.in_ok-begin.ensures.relaxes c.in_ok-begin.ensures.queued c.in_ok-begin.ensures.low
+      (omega arith);
 }
 
 pub returns : goal.returns

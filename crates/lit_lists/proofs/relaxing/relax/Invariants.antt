@@ -1,6 +1,6 @@
 use Rattle.std.proofs.Common.{◌≡◌, ◌-◌, length, slice_index}
 use Rattle.cave_base.specs.Box.{cell_count}
-use Rattle.lit_lists.proofs.RelaxLemmas.{Rounds}
+use Rattle.lit_lists.proofs.RoundLemmas.{Rounds}
 use Rattle.lit_lists.proofs.relaxing.relax.Given as goal
 
 abbrev pub invariant-loop : goal.invariant-loop

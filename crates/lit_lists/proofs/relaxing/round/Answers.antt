@@ -1,7 +1,7 @@
 use Rattle.std.proofs.Common.{◌≡◌, slice_index, sym, subst, ◌∙◌, ◌<◌, ◌≤◌, arith}
 use Rattle.std.proofs.lemmas.Grind.{get_or_default_zero}
 use Rattle.cave_base.specs.Box.{cell_count}
-use Rattle.lit_lists.proofs.RelaxLemmas.{going_inside, going_next, going_end}
+use Rattle.lit_lists.proofs.RoundLemmas.{going_inside, going_next, going_end}
 use Rattle.lit_lists.proofs.relaxing.round.Goals as goal
 
 pub pass_on-requires-clause-inside : goal.pass_on-requires-clause-inside

@@ -1,6 +1,6 @@
 use Rattle.std.proofs.Common.{◌≡◌, length, slice_index}
 use Rattle.cave_base.specs.Box.{cell_count}
-use Rattle.lit_lists.proofs.RelaxLemmas.{Going}
+use Rattle.lit_lists.proofs.RoundLemmas.{Going}
 use Rattle.lit_lists.proofs.relaxing.round.Given as goal
 
 abbrev pub invariant-loop-index : goal.invariant-loop-index

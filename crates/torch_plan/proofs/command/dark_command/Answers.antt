@@ -13,7 +13,9 @@ returns c =
     let local1 = c.in_ok-arg-2.ensures.globals ∙ neither _ _ local0 c.headroom.ensures.local in
     let shape2 = c.in_ok-arg-3.ensures.shape c.rule.ensures.local ∙ ap₂ with_rule shape1 c.rule.ensures.rule in
     let local2 = c.in_ok-arg-3.ensures.globals ∙ neither _ _ local1 c.rule.ensures.local in
-    IfOk-weaker c.arg-4.result _ _ (λ r h. record {
-      shape = h.shape c.table.ensures.local ∙ ap₂ with_rule shape2 c.table.ensures.rule;
-      local = h.globals ∙ neither _ _ local2 c.table.ensures.local;
-    }) c.arg-4.ensures
+    let shape3 = c.in_ok-arg-4.ensures.shape c.table.ensures.local ∙ ap₂ with_rule shape2 c.table.ensures.rule in
+    let local3 = c.in_ok-arg-4.ensures.globals ∙ neither _ _ local2 c.table.ensures.local in
+    IfOk-weaker c.arg-5.result _ _ (λ r h. record {
+      shape = h.shape c.progress.ensures.local ∙ ap₂ with_rule shape3 c.progress.ensures.rule;
+      local = h.globals ∙ neither _ _ local3 c.progress.ensures.local;
+    }) c.arg-5.ensures

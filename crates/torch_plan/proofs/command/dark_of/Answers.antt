@@ -1,13 +1,19 @@
 use Rattle.std.proofs.Common.{◌∙◌, ap, codes, refl}
 use Rattle.std.specs.Prelude.{option_copied}
 use Rattle.clap.specs.Words.{found_of}
+use Rattle.clap.proofs.WalkLemmas.{one_text-rows}
 use Rattle.torch_plan.proofs.WordLemmas.{text_of}
 use Rattle.torch_plan.proofs.command.dark_of.Goals as goal
 
 pub returns : goal.returns
-returns c = let f = found_of c.args.matches.now in (
+returns c = let f = found_of c.args.matches.now in let flag = one_text-rows f (codes "progress") in (
   refl,
   text_of f (codes "FILE") c.get_str.result c.get_str.ensures ∙ ap option_copied c.in_ok-get_str.was,
   text_of f (codes "table") c.get_str-2.result c.get_str-2.ensures,
   c.in_ok-rule_of.ensures,
+  record {
+    told = λ e. c.get_flag.ensures.value (flag ∙ e);
+    untold = λ e. c.get_flag.ensures.none (flag ∙ e);
+    denied = λ e. c.get_flag.ensures.other (flag ∙ e);
+  },
 )

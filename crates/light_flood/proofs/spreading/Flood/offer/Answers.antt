@@ -12,7 +12,7 @@ returns-in_ok-push-clause-step g c =
     let brought : c.saturating_sub-brought.result ≡ f c.args.from - entering_cost c.args.world.now c.args.to =
     c.saturating_sub-brought.ensures ∙ rw (c.level-level.ensures, c.max-cost.ensures, c.class_of.ensures.class) refl in
     let higher : f c.args.to < c.saturating_sub-brought.result =
-    omega (arith, c.level.ensures, c.if-brought-level.true) in
+    omega (arith, c.level-here.ensures, c.if-brought-here.true) in
     let cost = entering_pos c.args.world.now c.args.to in
     let top = c.requires.flood.flood.low c.args.from in
     record {
@@ -27,8 +27,8 @@ returns-in_ok-push-clause-step g c =
           (omega arith) c.in_ok-raise.ensures.raised c.in_ok-push.ensures;
     }
 
-pub returns-else-brought-level-clause-step : goal.returns-else-brought-level-clause-step
-returns-else-brought-level-clause-step g c =
+pub returns-else-brought-here-clause-step : goal.returns-else-brought-here-clause-step
+returns-else-brought-here-clause-step g c =
     step_none c.args.world.now (g.S.Store.levels c.args.self.now.store c.args.from + 1)
     (g.S.Store.levels c.args.self.now.store c.args.from) (g.S.Store.levels c.args.self.now.store)
     c.args.self.now.waiting c.requires.flood.flood

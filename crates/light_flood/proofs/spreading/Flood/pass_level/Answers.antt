@@ -61,6 +61,6 @@ loop-from-preserved g c = elim c.if-level.branch [
 
 pub returns-clause-step : goal.returns-clause-step
 returns-clause-step g c =
-    level_end c.args.world.now c.args.level (g.S.Store.levels c.args.self.now.store)
+    rw c.keep.ensures (level_end c.args.world.now c.args.level (g.S.Store.levels c.args.self.now.store)
     (g.S.Store.levels c.loop-from.self.store) c.loop-from.self.waiting c.deref-from-items.result.now
-    c.loop-from.from-index c.loop-from-test.false c.loop-from.invariant.passing
+    c.loop-from.from-index c.loop-from-test.false c.loop-from.invariant.passing)

@@ -8,7 +8,7 @@ loop-preserved c = rw c.in_ok-push.ensures.items
     (empty_push c.loop.counter c.loop.cells.items c.new.result c.loop.invariant c.new.ensures.items)
 
 pub invariant_of-result : goal.invariant_of-result
-invariant_of-result c = omega (arith, c.loop.invariant.counted)
+invariant_of-result c = record { counted = omega (arith, c.loop.invariant.counted); spared = c.new-spare.ensures.items }
 
 pub returns : goal.returns
 returns c = all_empty (λ (v : Vec ℕ). v.items) c.loop.cells.items c.loop.invariant.empty
