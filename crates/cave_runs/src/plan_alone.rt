@@ -100,8 +100,8 @@ fn run_by_one<S: Strategy, R: Read, W: Write, V: Write, O: Watcher>(
     put_plan(alloc, &world, &outline, turns, writer, proof)
 }
 
-/// The run of a plan by one worker, the caller's thread: as `run_plan`, but it takes no handle, waits for nobody, and is
-/// proved to return.
+/// The run of a plan by one worker, the caller's thread: as `run_plan`, but it takes no handle, waits for nobody, and
+/// is proved to return.
 pub fn run_plan_alone<S: Strategy, R: Read, W: Write, V: Write, O: Watcher>(
     alloc: Global,
     reader: &mut R,

@@ -53,6 +53,7 @@ pub struct MemoryFile<'a> {
 }
 
 impl<'a> MemoryFile<'a> {
+    /// A file with these bytes.
     pub fn new(bytes: &'a [u8]) -> MemoryFile<'a> {
         MemoryFile { bytes }
     }
