@@ -11,9 +11,13 @@ pub mod TreeLaws
 pub mod FaultLaws
 pub mod RootLaws
 pub mod SkipLemmas
+pub mod FixedItems
 pub mod KindLemmas
 pub mod MemberLemmas
+pub mod FieldLemmas
+pub mod FieldViews
 pub mod ItemLemmas
+pub mod IntItems
 pub mod ViewLemmas
 pub mod NextLemmas
 pub mod ReadRoot

@@ -19,7 +19,7 @@ passed_payload end room kind bytes left within shallow s = record {
 }
 
 -- the value of a payload that was passed over
-passed_value : (end room : ℕ) (kind : Kind) (bytes left : List ℕ) → (s : IsRead (value_at end room kind bytes) left)
+pub passed_value : (end room : ℕ) (kind : Kind) (bytes left : List ℕ) → (s : IsRead (value_at end room kind bytes) left)
     → payload_value end room kind bytes ≡ s.value
 passed_value end room kind bytes left s = ap (read_or (list no_items)) s.is
 

@@ -46,7 +46,7 @@ int_value end room bytes n left h = ap (read_or (list no_items)) (value_leaf end
     ∙ ap (λ (r : Reads ℤ). mapped leaf (mapped values.int r)) h)
 
 -- a fault of the number is one of the Int
-int_fails : (end room : ℕ) (bytes : List ℕ) (e : NbtFault) → Fails e (int_at end bytes)
+pub int_fails : (end room : ℕ) (bytes : List ℕ) (e : NbtFault) → Fails e (int_at end bytes)
     → Fails e (value_at end room (kinds.Leaf leaves.Int) bytes)
 unfolding leaf_at
 int_fails end room bytes e fails = rw (value_leaf end bytes room leaves.Int) (mapped_fails leaf e _

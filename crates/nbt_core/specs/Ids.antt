@@ -1,4 +1,4 @@
--- Which id names which kind.
+-- Which id names which kind, and the kinds of a fixed size.
 -- Source: Minecraft Wiki, "NBT format".
 use Rattle.std.specs.Prelude.{ℕ, List, [], ◌∷◌, Option, Some, None, ◌==◌, if◌then◌else◌}
 use Rattle.nbt_core.specs.declared.kind.Kind.{Kind}
@@ -55,3 +55,13 @@ kind_among id (kind ∷ others) = if id == id_of_items kind then Some kind else 
 -- what an id names, if anything
 unfoldable pub kind_named : ℕ → Option (Option Kind)
 kind_named id = kind_among id all_kinds
+
+-- how many bytes each payload of a kind takes, where all take as many
+abbrev pub fixed_size : Kind → Option ℕ
+fixed_size (kinds.Leaf leaves.Byte) = Some 1
+fixed_size (kinds.Leaf leaves.Short) = Some 2
+fixed_size (kinds.Leaf leaves.Int) = Some 4
+fixed_size (kinds.Leaf leaves.Long) = Some 8
+fixed_size (kinds.Leaf leaves.Float) = Some 4
+fixed_size (kinds.Leaf leaves.Double) = Some 8
+fixed_size kind = None

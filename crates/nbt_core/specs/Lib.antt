@@ -8,6 +8,7 @@ pub mod Ids
 pub mod Spelling
 pub mod Breaking
 pub mod Parts
+pub mod Fields
 pub mod Borrowed
 pub mod Texts
 -- private

@@ -1,5 +1,5 @@
 -- What a value holds, by its kind.
-use Rattle.std.specs.Prelude.{◌≡◌, ℕ, ℤ, Bool, true, false, ◌&&◌, List, [], ◌∷◌, Option, Some, None}
+use Rattle.std.specs.Prelude.{◌≡◌, ◌≢◌, ℕ, ℤ, Bool, true, false, ◌&&◌, List, [], ◌∷◌, Option, Some, None}
 use Rattle.nbt_core.specs.Value.{int, text}
 use Rattle.nbt_core.specs.Value.{Nbt, leaf, list, compound, Members, no_members, member, listed}
 
@@ -42,3 +42,8 @@ are_compounds (t ∷ ts) = is_compound t && are_compounds ts
 abbrev pub IsFrontOf : {X : Type 0} → List X → Option X → List X → Type 0
 IsFrontOf old (Some x) new = old ≡ x ∷ new
 IsFrontOf old None new = (old ≡ []) × (new ≡ [])
+
+-- the number that is taken from the front of a list, and the list that is left; none is taken where there is no Int
+abbrev pub IsIntOfFront : List Nbt → Option ℤ → List Nbt → Type 0
+IsIntOfFront old (Some n) new = old ≡ leaf (int n) ∷ new
+IsIntOfFront old None new = ((n : ℤ) (others : List Nbt) → old ≢ leaf (int n) ∷ others) × (new ≡ old)

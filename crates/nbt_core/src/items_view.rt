@@ -1,4 +1,5 @@
-use crate::kind::Kind;
+use crate::fields::TwoFields;
+use crate::kind::{Kind, LeafKind};
 use crate::reader::Reader;
 use crate::view::View;
 use std::marker::Model;
@@ -31,7 +32,8 @@ impl<'a> Model for ItemsView<'a> {
 
 impl<'a> ItemsView<'a> {
     ghost use Rattle.std.specs.Prelude.{◌≡◌, length};
-    ghost use Rattle.nbt_core.specs.Parts.{are_compounds, IsFrontOf};
+    ghost use Rattle.nbt_core.specs.Parts.{are_compounds, IsFrontOf, IsIntOfFront};
+    ghost use Rattle.nbt_core.specs.Fields.{AreFieldsOfFront};
     ghost use Rattle.nbt_core.specs.Borrowed.{item_values, ArePayloads};
 
     /// So many payloads of this kind at the front of `rest`, bytes that end at the offset `end`, in each of which
@@ -87,5 +89,40 @@ impl<'a> ItemsView<'a> {
         self.rest = reader.rest;
         self.count -= 1;
         Some(View::new(payload, self.end, self.room, self.kind))
+    }
+
+    /// The number of the next item, where it is an Int: else the items stay as they are.
+    pub fn next_int(&mut self) -> Option<i32>
+        ensures { IsIntOfFront self.old result self.new }
+    {
+        if self.count == 0 {
+            return None;
+        }
+        if !self.kind.is_same(Kind::Leaf(LeafKind::Int)) {
+            return None;
+        }
+        let mut reader = Reader::new(self.rest, self.end);
+        let Ok(number) = reader.int() else {
+            return None;
+        };
+        self.rest = reader.rest;
+        self.count -= 1;
+        Some(number)
+    }
+
+    /// The values of the last entries of these two names in the next item, which is passed over in the same walk.
+    pub fn next_fields(&mut self, a: &[u8], b: &[u8]) -> Option<TwoFields<'a>>
+        ensures { AreFieldsOfFront a.now b.now self.old result self.new }
+    {
+        if self.count == 0 {
+            return None;
+        }
+        let mut reader = Reader::new(self.rest, self.end);
+        let Ok(found) = reader.fields_of(self.kind, self.room, a, b) else {
+            return None;
+        };
+        self.rest = reader.rest;
+        self.count -= 1;
+        Some(found)
     }
 }

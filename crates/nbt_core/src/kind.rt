@@ -1,5 +1,5 @@
-ghost use Rattle.std.specs.Prelude.{◌≡◌, ◌↔◌, IsTrue};
-ghost use Rattle.nbt_core.specs.Ids.{kind_named};
+ghost use Rattle.std.specs.Prelude.{◌≡◌, ◌↔◌, ◌≤◌, IfSome, IsTrue};
+ghost use Rattle.nbt_core.specs.Ids.{fixed_size, kind_named};
 
 /// What a payload holds.
 #[derive(Clone, Copy, Debug, PartialEq, Eq)]
@@ -15,6 +15,23 @@ impl Kind {
         ensures { IsTrue result ↔ (self ≡ other) }
     {
         self == other
+    }
+
+    /// How many bytes each payload of this kind takes, where all take as many.
+    pub fn fixed_size(self) -> Option<usize>
+        ensures size { result ≡ fixed_size self }
+        ensures small { IfSome result (λ size. size ≤ 8) }
+    {
+        let Kind::Leaf(kind) = self else {
+            return None;
+        };
+        match kind {
+            LeafKind::Byte => Some(1),
+            LeafKind::Short => Some(2),
+            LeafKind::Int | LeafKind::Float => Some(4),
+            LeafKind::Long | LeafKind::Double => Some(8),
+            _ => None,
+        }
     }
 }
 

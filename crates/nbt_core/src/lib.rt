@@ -17,6 +17,7 @@
 
 mod entries_view;
 mod fault;
+mod fields;
 mod items_view;
 mod judge;
 mod kind;
@@ -32,6 +33,7 @@ mod view;
 
 pub use entries_view::EntriesView;
 pub use fault::NbtFault;
+pub use fields::{FourFields, TwoFields};
 pub use items_view::ItemsView;
 pub use judge::root_view;
 pub use root::read_root;

@@ -117,6 +117,21 @@ impl Reader<'_> {
         ensures shrinks { length self.new.rest.now ≤ length self.old.rest.now }
         ensures no_memory { IfErr result (λ e. e ≢ NbtFault.OutOfMemory) }
     {
+        match kind.fixed_size() {
+            Some(size) => self.skip_run(size * count as usize),
+            None => self.skip_each(kind, count, room),
+        }
+    }
+
+    /// Passes over so many payloads of this kind, one after another.
+    #[cycle(skip)]
+    fn skip_each(&mut self, kind: Kind, count: u32, room: u16) -> Result<(), NbtFault>
+        ensures read { Skips result self.new.rest.now
+            (items_at (value_at self.old.end room kind) count self.old.rest.now) }
+        ensures end { self.new.end ≡ self.old.end }
+        ensures shrinks { length self.new.rest.now ≤ length self.old.rest.now }
+        ensures no_memory { IfErr result (λ e. e ≢ NbtFault.OutOfMemory) }
+    {
         for _ in 0..count {
             self.skip(kind, room)?;
         }

@@ -207,7 +207,8 @@ pub table_from : {X : Type 0} (f : ℕ → X) (n i : ℕ) (d : X) → i < n → 
 table_from f n i d h = table_at f 0 n i d h ∙ ap f (omega arith)
 
 -- the size of a root
-build_size : (root : Nbt) → size_fault root ≡ None → (size : Point) × IsSizeOf root size
+build_size : (root : Nbt) → size_fault (field (codes "size") root) ≡ None
+    → (size : Point) × IsSizeOf (field (codes "size") root) size
 build_size root e =
     let found = of_field (field (codes "size") root) (faults.Missing SizeField)
     (on_triple (Some (faults.WrongType SizeField)) side_fault) e in
@@ -225,14 +226,16 @@ abbrev IsFitting : Point → ℕ → Entry → Type 0
 IsFitting size states entry = IsTrue (is_within size entry.at) × (entry.state < states)
 
 -- the entries of the blocks of a root with this size and palette
-build_blocks : (root : Nbt) (size : Point) (palette : List BlockState) → IsSizeOf root size → IsPaletteOf root palette
-    → blocks_fault (told_size root) (told_states root) root ≡ None
+build_blocks : (root : Nbt) (size : Point) (palette : List BlockState) → IsSizeOf (field (codes "size") root) size
+    → IsPaletteOf (field (codes "palette") root) palette
+    → blocks_fault (told_size root) (told_states root) (field (codes "blocks") root) ≡ None
     → BuiltList IsEntryOf (IsFitting size (length palette)) (field (codes "blocks") root)
 build_blocks root size palette s p e =
     let sizes = size_told root size s.sized in
     let counts = states_told root palette p in
-    let clean = subst (λ (at : Point). blocks_fault at (told_states root) root ≡ None) sizes e in
-    let clean' = subst (λ (n : ℕ). blocks_fault size n root ≡ None) counts clean in
+    let clean = subst (λ (at : Point). blocks_fault at (told_states root) (field (codes "blocks") root) ≡ None)
+    sizes e in
+    let clean' = subst (λ (n : ℕ). blocks_fault size n (field (codes "blocks") root) ≡ None) counts clean in
     build_list IsEntryOf (IsFitting size (length palette)) BlocksField (entry_faults size (length palette))
     (build_entry size (length palette)) (field (codes "blocks") root) clean'
 

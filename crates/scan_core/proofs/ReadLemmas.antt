@@ -27,8 +27,10 @@ no_field None found e h = sym e
 no_field (Some t) found e h = absurd (cc)
 
 -- the parts of a structure
-is_scan : (root : Nbt) (size : Point) (palette : List BlockState) (cells : List (Option ℕ)) → IsSizeOf root size
-    → field (codes "palettes") root ≡ None → IsPaletteOf root palette → AreCellsOf root size (length palette) cells
+is_scan : (root : Nbt) (size : Point) (palette : List BlockState) (cells : List (Option ℕ))
+    → IsSizeOf (field (codes "size") root) size → field (codes "palettes") root ≡ None
+    → IsPaletteOf (field (codes "palette") root) palette
+    → AreCellsOf (field (codes "blocks") root) size (length palette) cells
     → IsScanOf root (record { size = size; palette = palette; cells = cells })
 is_scan root size palette cells s single p c = record {
   sized = s.sized;
@@ -45,13 +47,14 @@ is_scan root size palette cells s single p c = record {
 
 -- the same, as the code comes by them
 pub told_scan : (root : Nbt) (size : Point) (palette : List BlockState) (cells : List (Option ℕ))
-    (palettes : Option Nbt) (there : Bool) (states : ℕ) → IsSizeOf root size
+    (palettes : Option Nbt) (there : Bool) (states : ℕ) → IsSizeOf (field (codes "size") root) size
     → palettes ≡ field (codes "palettes") root → there ≡ is_some palettes → there ≡ false
-    → IsPaletteOf root palette → states ≡ length palette → AreCellsOf root size states cells
+    → IsPaletteOf (field (codes "palette") root) palette → states ≡ length palette
+    → AreCellsOf (field (codes "blocks") root) size states cells
     → IsScanOf root (record { size = size; palette = palette; cells = cells })
 told_scan root size palette cells palettes there states s e h none p count c =
     is_scan root size palette cells s (no_field palettes (field (codes "palettes") root) e (sym h ∙ none)) p
-    (subst (λ (n : ℕ). AreCellsOf root size n cells) count c)
+    (subst (λ (n : ℕ). AreCellsOf (field (codes "blocks") root) size n cells) count c)
 
 -- the fault of the last of four judgements, where the three before it find none
 fourth : (a b c d : Option ScanFault) (fault : ScanFault) → a ≡ None → b ≡ None → c ≡ None → d ≡ Some fault
@@ -64,17 +67,20 @@ fourth a b c d fault p q r s =
 
 -- a fault of the blocks, where the other parts have none
 pub fault_of-blocks : (root : Nbt) (size : Point) (palette : List BlockState) (palettes : Option Nbt) (there : Bool)
-    (states : ℕ) (fault : ScanFault) → IsSizeOf root size → size_fault root ≡ None
+    (states : ℕ) (fault : ScanFault) → IsSizeOf (field (codes "size") root) size
+    → size_fault (field (codes "size") root) ≡ None
     → palettes ≡ field (codes "palettes") root → there ≡ is_some palettes → there ≡ false
-    → IsPaletteOf root palette → palette_fault root ≡ None → states ≡ length palette
-    → blocks_fault size states root ≡ Some fault → fault_of root ≡ Some fault
+    → IsPaletteOf (field (codes "palette") root) palette → palette_fault (field (codes "palette") root) ≡ None
+    → states ≡ length palette
+    → blocks_fault size states (field (codes "blocks") root) ≡ Some fault → fault_of root ≡ Some fault
 fault_of-blocks root size palette palettes there states fault s clean e h none p q count b =
     let single = no_field palettes (field (codes "palettes") root) e (sym h ∙ none) in
     fourth _ _ _ _ fault clean
     (ap (λ (o : Option Nbt). on_field o None (λ (t : Nbt). Some faults.Palettes)) single)
     q
-    (ap (λ (n : ℕ). blocks_fault (told_size root) n root) (states_told root palette p ∙ sym count)
-    ∙ ap (λ (at : Point). blocks_fault at states root) (size_told root size s.sized)
+    (ap (λ (n : ℕ). blocks_fault (told_size root) n (field (codes "blocks") root))
+    (states_told root palette p ∙ sym count)
+    ∙ ap (λ (at : Point). blocks_fault at states (field (codes "blocks") root)) (size_told root size s.sized)
     ∙ b)
 
 -- ---- bytes with a root

@@ -42,10 +42,10 @@ pub compounds_not_read : (t : Nbt) (ts : List Nbt) → Some ts ≡ items_in t �
 compounds_not_read t ts e some = λ us f. ap are_compounds (sym (items_same t ts us e f)) ∙ some
 
 -- three items that are Ints are a list of three Ints
-pub three_read : (t : Nbt) (ts rest1 rest2 rest3 : List Nbt) (x y z : Nbt) (i j k : ℤ) → Some ts ≡ items_in t
-    → length ts ≡ 3 → ts ≡ x ∷ rest1 → rest1 ≡ y ∷ rest2 → rest2 ≡ z ∷ rest3 → x ≡ leaf (values.int i)
-    → y ≡ leaf (values.int j) → z ≡ leaf (values.int k) → t ≡ triple_value (i ∷ j ∷ k ∷ [])
-three_read t ts rest1 rest2 rest3 x y z i j k e len p q r f g h =
+pub three_read : (t : Nbt) (ts rest1 rest2 rest3 : List Nbt) (i j k : ℤ) → Some ts ≡ items_in t → length ts ≡ 3
+    → ts ≡ leaf (values.int i) ∷ rest1 → rest1 ≡ leaf (values.int j) ∷ rest2 → rest2 ≡ leaf (values.int k) ∷ rest3
+    → t ≡ triple_value (i ∷ j ∷ k ∷ [])
+three_read t ts rest1 rest2 rest3 i j k e len p q r =
     let none : rest3 ≡ [] = nil_from_length rest3 (omega (arith, len, ap length p, ap length q, ap length r)) in
     let all : ts ≡ leaf (values.int i) ∷ leaf (values.int j) ∷ leaf (values.int k) ∷ [] = cc in
     list_of t ts e ∙ ap (λ (us : List Nbt). list (items_of us)) all

@@ -1,18 +1,18 @@
 -- What the blocks tell of each cell.
-use Rattle.std.specs.Prelude.{◌≡◌, ℕ, pos, ◌<◌, IsTrue, List, length, All, codes, Option, Some, None, slice_index_or}
-use Rattle.nbt_core.specs.Value.{Nbt, leaf, list, items_of, field}
+use Rattle.std.specs.Prelude.{◌≡◌, ℕ, pos, ◌<◌, IsTrue, List, length, All, Option, Some, None, slice_index_or}
+use Rattle.nbt_core.specs.Value.{Nbt, leaf, list, items_of}
 use Rattle.nbt_core.specs.Value as values
 use Rattle.cave_base.specs.Box.{Point, cell_count, number, is_within}
 use Rattle.scan_core.specs.Scan.{Entry, point_value, last_state, IsEntryOf, AreEach}
 
--- the place of an entry, which lies in the box
-pub record IsPointOf (value : Nbt) (size at : Point) : Type 0 where
-  pub placed : field (codes "pos") value ≡ Some (point_value at)
+-- a place that was found, which lies in the box
+pub record IsPointOf (found : Option Nbt) (size at : Point) : Type 0 where
+  pub placed : found ≡ Some (point_value at)
   pub inside : IsTrue (is_within size at)
 
--- the index of an entry, which is one of so many states
-pub record IsIndexOf (value : Nbt) (states index : ℕ) : Type 0 where
-  pub indexed : field (codes "state") value ≡ Some (leaf (values.int (pos index)))
+-- an index that was found, which is one of so many states
+pub record IsIndexOf (found : Option Nbt) (states index : ℕ) : Type 0 where
+  pub indexed : found ≡ Some (leaf (values.int (pos index)))
   pub known : index < states
 
 -- the number and the index of an entry whose place lies in the box and whose state is known
@@ -33,8 +33,8 @@ pub record ShowEntries (ts : List Nbt) (size : Point) (states : ℕ) (cells : Li
   pub whole : length cells ≡ cell_count size
   pub last : (cell : ℕ) → cell < cell_count size → slice_index_or cells cell None ≡ last_state size cell entries
 
--- the root's blocks, whose entries the cells show
-pub record AreCellsOf (root : Nbt) (size : Point) (states : ℕ) (cells : List (Option ℕ)) : Type 0 where
+-- blocks that were found, whose entries the cells show
+pub record AreCellsOf (found : Option Nbt) (size : Point) (states : ℕ) (cells : List (Option ℕ)) : Type 0 where
   pub values : List Nbt
-  pub listed : field (codes "blocks") root ≡ Some (list (items_of values))
+  pub listed : found ≡ Some (list (items_of values))
   pub shown : ShowEntries values size states cells

@@ -20,13 +20,13 @@ side_fault None = Some faults.BadSize
 side_fault (Some size) = if is_small size then None else Some faults.TooLarge
 
 -- the field of the size: three Ints
-abbrev pub size_fault : Nbt → Option ScanFault
-size_fault root = on_field (field (codes "size") root) (Some (faults.Missing SizeField))
+abbrev pub size_fault : Option Nbt → Option ScanFault
+size_fault found = on_field found (Some (faults.Missing SizeField))
     (on_triple (Some (faults.WrongType SizeField)) side_fault)
 
 -- an entry `palettes`, of whatever type
-abbrev pub palettes_fault : Nbt → Option ScanFault
-palettes_fault root = on_field (field (codes "palettes") root) None (λ t. Some faults.Palettes)
+abbrev pub palettes_fault : Option Nbt → Option ScanFault
+palettes_fault found = on_field found None (λ t. Some faults.Palettes)
 
 -- a list of compounds, and then each of them
 abbrev pub list_fault : Field → (ℕ → Nbt → List (Option ScanFault)) → Option Nbt → Option ScanFault
@@ -39,8 +39,8 @@ name_fault index entry = on_field (field (codes "Name") entry) (Some (faults.Mis
     (on_text (Some (faults.WrongType (NameField index))) None) ∷ []
 
 -- the palette
-abbrev pub palette_fault : Nbt → Option ScanFault
-palette_fault root = list_fault PaletteField name_fault (field (codes "palette") root)
+abbrev pub palette_fault : Option Nbt → Option ScanFault
+palette_fault found = list_fault PaletteField name_fault found
 
 -- the place of an entry of the blocks: in the box
 abbrev pub place_fault : Point → ℕ → Option Point → Option ScanFault
@@ -48,8 +48,8 @@ place_fault size index None = Some (faults.BadPosition index)
 place_fault size index (Some at) = if is_within size at then None else Some (faults.BadPosition index)
 
 -- its field: three Ints
-abbrev pub pos_fault : Point → ℕ → Nbt → Option ScanFault
-pos_fault size index entry = on_field (field (codes "pos") entry) (Some (faults.Missing (PosField index)))
+abbrev pub pos_fault : Point → ℕ → Option Nbt → Option ScanFault
+pos_fault size index found = on_field found (Some (faults.Missing (PosField index)))
     (on_triple (Some (faults.WrongType (PosField index))) (place_fault size index))
 
 -- the index of an entry of the blocks: one of so many states
@@ -58,17 +58,18 @@ index_fault states index (pos n) = if nat_lt n states then None else Some (fault
 index_fault states index (negsuc n) = Some (faults.BadState index)
 
 -- its field: an Int
-abbrev pub state_fault : ℕ → ℕ → Nbt → Option ScanFault
-state_fault states index entry = on_field (field (codes "state") entry) (Some (faults.Missing (StateField index)))
+abbrev pub state_fault : ℕ → ℕ → Option Nbt → Option ScanFault
+state_fault states index found = on_field found (Some (faults.Missing (StateField index)))
     (on_int (Some (faults.WrongType (StateField index))) (index_fault states index))
 
 -- an entry of the blocks: its place, then its index
 abbrev pub entry_faults : Point → ℕ → ℕ → Nbt → List (Option ScanFault)
-entry_faults size states index entry = pos_fault size index entry ∷ state_fault states index entry ∷ []
+entry_faults size states index entry = pos_fault size index (field (codes "pos") entry)
+    ∷ state_fault states index (field (codes "state") entry) ∷ []
 
 -- the blocks of a box of this size, over so many states
-abbrev pub blocks_fault : Point → ℕ → Nbt → Option ScanFault
-blocks_fault size states root = list_fault BlocksField (entry_faults size states) (field (codes "blocks") root)
+abbrev pub blocks_fault : Point → ℕ → Option Nbt → Option ScanFault
+blocks_fault size states found = list_fault BlocksField (entry_faults size states) found
 
 -- the size that a root tells, where it tells one
 abbrev pub told_size : Nbt → Point
@@ -87,10 +88,10 @@ told_states root = on_field (field (codes "palette") root) 0 (on_compounds 0 len
 
 -- the first fault of a root
 abbrev pub fault_of : Nbt → Option ScanFault
-fault_of root = first_fault (size_fault root
-    ∷ palettes_fault root
-    ∷ palette_fault root
-    ∷ blocks_fault (told_size root) (told_states root) root
+fault_of root = first_fault (size_fault (field (codes "size") root)
+    ∷ palettes_fault (field (codes "palettes") root)
+    ∷ palette_fault (field (codes "palette") root)
+    ∷ blocks_fault (told_size root) (told_states root) (field (codes "blocks") root)
     ∷ [])
 
 -- the first fault of a whole input

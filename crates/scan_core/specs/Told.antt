@@ -1,6 +1,6 @@
--- What single values tell, and the size and the palette of a root.
-use Rattle.std.specs.Prelude.{◌≡◌, ◌≢◌, ℤ, pos, true, false, IsTrue, List, Option, Some, None, codes, slice_index_or}
-use Rattle.nbt_core.specs.Value.{Nbt, list, items_of, field}
+-- What single values tell, and a size and a palette that were found.
+use Rattle.std.specs.Prelude.{◌≡◌, ◌≢◌, ℤ, pos, true, false, IsTrue, List, Option, Some, None, slice_index_or}
+use Rattle.nbt_core.specs.Value.{Nbt, list, items_of}
 use Rattle.nbt_core.specs.Parts.{are_compounds}
 use Rattle.cave_base.specs.Box.{Point, is_small}
 use Rattle.scan_core.specs.Scan.{triple, point_value, IsEntryState, IsListOf}
@@ -25,11 +25,11 @@ abbrev pub AreCompoundsOf : Nbt → Option (List Nbt) → Type 0
 AreCompoundsOf t (Some ts) = (t ≡ list (items_of ts)) × (are_compounds ts ≡ true)
 AreCompoundsOf t None = (ts : List Nbt) → t ≡ list (items_of ts) → are_compounds ts ≡ false
 
--- the root's size, which is small
-pub record IsSizeOf (root : Nbt) (size : Point) : Type 0 where
-  pub sized : field (codes "size") root ≡ Some (point_value size)
+-- a size that was found, which is small
+pub record IsSizeOf (found : Option Nbt) (size : Point) : Type 0 where
+  pub sized : found ≡ Some (point_value size)
   pub small : IsTrue (is_small size)
 
--- the root's palette
-abbrev pub IsPaletteOf : Nbt → List BlockState → Type 0
-IsPaletteOf root palette = IsListOf IsEntryState (field (codes "palette") root) palette
+-- a palette that was found
+abbrev pub IsPaletteOf : Option Nbt → List BlockState → Type 0
+IsPaletteOf found palette = IsListOf IsEntryState found palette

@@ -1,4 +1,6 @@
-ghost use Rattle.std.specs.Prelude.{◌≡◌, All, None, length, IsTrue};
+ghost use Rattle.std.specs.Prelude.{◌≡◌, All, None, codes, length, IsTrue};
+ghost use Rattle.nbt_core.specs.Value.{Nbt};
+ghost use Rattle.nbt_core.specs.Fields.{two_fields};
 ghost use Rattle.scan_core.specs.Answer.{TellsOrFaults, TellsInRoom};
 ghost use Rattle.cave_base.specs.Box as grid;
 ghost use Rattle.scan_core.specs.Cells.{AreCellsOf, IsIndexOf, IsPlaced, IsPointOf, ShowEntries};
@@ -15,17 +17,17 @@ use std::alloc::Global;
 /// states, or none.
 pub fn cells_of(
     alloc: Global,
-    root: &View<'_>,
+    found: Option<View<'_>>,
     size: [u32; 3],
     states: usize,
 ) -> Result<Vec<Option<u32>>, ScanFault>
     requires { IsTrue (grid.is_small (grid.point size)) }
-    ensures { let told = root.now in
+    ensures { let told = found.entry in
         let sides = grid.point size in
         TellsInRoom result (λ cells. AreCellsOf told sides states cells.items)
         (blocks_fault sides states told) }
 {
-    let Some(value) = root.field(b"blocks") else {
+    let Some(value) = found else {
         return Err(ScanFault::Missing(Field::BlocksField));
     };
     let Some(entries) = compounds(&value) else {
@@ -53,10 +55,10 @@ fn fill(
         (first_fault (each_from 0 (entry_faults sides states) told)) }
 {
     for index in 0..entries.len() {
-        let Some(entry) = entries.next() else {
+        let Some((pos, state)) = entries.next_fields(b"pos", b"state") else {
             return Ok(());
         };
-        let Placed { cell, state } = placement(size, states, index as usize, &entry)?;
+        let Placed { cell, state } = placement(size, states, index as usize, pos, state)?;
         cells[cell as usize] = Some(state);
     }
     Ok(())
@@ -69,21 +71,22 @@ struct Placed {
     state: u32,
 }
 
-/// What the entry with this index tells.
+/// What the place and the state of the entry with this index tell.
 fn placement(
     size: [u32; 3],
     states: usize,
     index: usize,
-    entry: &View<'_>,
+    pos: Option<View<'_>>,
+    state: Option<View<'_>>,
 ) -> Result<Placed, ScanFault>
     requires { IsTrue (grid.is_small (grid.point size)) }
-    ensures { let told = entry.now in
-        let sides = grid.point size in
+    ensures { (told : Nbt) → (pos.entry, state.entry) ≡ two_fields (codes "pos") (codes "state") told
+        → let sides = grid.point size in
         TellsOrFaults result (λ placed. IsPlaced told sides states placed.cell placed.state)
         (first_fault (entry_faults sides states index told)) }
 {
-    let at = place_of(size, index, entry)?;
-    let state = index_of(states, index, entry)?;
+    let at = place_of(size, index, pos)?;
+    let state = index_of(states, index, state)?;
     Ok(Placed {
         cell: number(size, at),
         state,
@@ -91,12 +94,12 @@ fn placement(
 }
 
 /// The coordinates of the entry with this index.
-fn place_of(size: [u32; 3], index: usize, entry: &View<'_>) -> Result<[u32; 3], ScanFault>
-    ensures { let told = entry.now in
+fn place_of(size: [u32; 3], index: usize, found: Option<View<'_>>) -> Result<[u32; 3], ScanFault>
+    ensures { let told = found.entry in
         let sides = grid.point size in
         TellsOrFaults result (λ at. IsPointOf told sides (grid.point at)) (pos_fault sides index told) }
 {
-    let Some(value) = entry.field(b"pos") else {
+    let Some(value) = found else {
         return Err(ScanFault::Missing(Field::PosField(index)));
     };
     let Some(numbers) = triple(&value) else {
@@ -113,11 +116,11 @@ fn place_of(size: [u32; 3], index: usize, entry: &View<'_>) -> Result<[u32; 3], 
 }
 
 /// The index into so many states of the entry with this index.
-fn index_of(states: usize, index: usize, entry: &View<'_>) -> Result<u32, ScanFault>
-    ensures { let told = entry.now in
+fn index_of(states: usize, index: usize, found: Option<View<'_>>) -> Result<u32, ScanFault>
+    ensures { let told = found.entry in
         TellsOrFaults result (λ state. IsIndexOf told states state) (state_fault states index told) }
 {
-    let Some(value) = entry.field(b"state") else {
+    let Some(value) = found else {
         return Err(ScanFault::Missing(Field::StateField(index)));
     };
     let Some(number) = int(&value) else {

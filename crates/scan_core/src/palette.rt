@@ -1,3 +1,6 @@
+ghost use Rattle.std.specs.Prelude.{◌≡◌, codes};
+ghost use Rattle.nbt_core.specs.Value.{Nbt};
+ghost use Rattle.nbt_core.specs.Fields.{two_fields};
 ghost use Rattle.scan_core.specs.Answer.{TellsInRoom};
 ghost use Rattle.scan_core.specs.Faults.{name_fault, palette_fault};
 ghost use Rattle.scan_core.specs.Judging.{each_from, first_fault};
@@ -12,11 +15,11 @@ use nbt_core::{ItemsView, View};
 use std::alloc::Global;
 
 /// The states that the root's palette tells.
-pub fn palette_of(alloc: Global, root: &View<'_>) -> Result<Vec<BlockState>, ScanFault>
-    ensures { let told = root.now in
+pub fn palette_of(alloc: Global, found: Option<View<'_>>) -> Result<Vec<BlockState>, ScanFault>
+    ensures { let told = found.entry in
         TellsInRoom result (λ states. IsPaletteOf told states.items) (palette_fault told) }
 {
-    let Some(value) = root.field(b"palette") else {
+    let Some(value) = found else {
         return Err(ScanFault::Missing(Field::PaletteField));
     };
     let Some(entries) = compounds(&value) else {
@@ -33,20 +36,25 @@ fn states_of(alloc: Global, mut entries: ItemsView<'_>) -> Result<Vec<BlockState
 {
     let mut states = Vec::new(alloc);
     for index in 0..entries.len() {
-        let Some(entry) = entries.next() else {
+        let Some((name, props)) = entries.next_fields(b"Name", b"Properties") else {
             return Ok(states);
         };
-        states.push(state_of(alloc, index as usize, &entry)?)?;
+        states.push(state_of(alloc, index as usize, name, props)?)?;
     }
     Ok(states)
 }
 
-/// The state that the entry with this index tells.
-fn state_of(alloc: Global, index: usize, entry: &View<'_>) -> Result<BlockState, ScanFault>
-    ensures { let told = entry.now in
-        TellsInRoom result (λ state. IsEntryState told state) (first_fault (name_fault index told)) }
+/// The state that the name and the properties of the entry with this index tell.
+fn state_of(
+    alloc: Global,
+    index: usize,
+    name: Option<View<'_>>,
+    props: Option<View<'_>>,
+) -> Result<BlockState, ScanFault>
+    ensures { (told : Nbt) → (name.entry, props.entry) ≡ two_fields (codes "Name") (codes "Properties") told
+        → TellsInRoom result (λ state. IsEntryState told state) (first_fault (name_fault index told)) }
 {
-    let Some(value) = entry.field(b"Name") else {
+    let Some(value) = name else {
         return Err(ScanFault::Missing(Field::NameField(index)));
     };
     let Some(name) = text(&value) else {
@@ -54,6 +62,6 @@ fn state_of(alloc: Global, index: usize, entry: &View<'_>) -> Result<BlockState,
     };
     Ok(BlockState {
         name: copy(alloc, name)?,
-        props: properties(alloc, entry.field(b"Properties"))?,
+        props: properties(alloc, props)?,
     })
 }

@@ -39,11 +39,17 @@ fn scan_of(alloc: Global, root: &View<'_>) -> Result<Scan, ScanFault>
     ensures { let told = root.now in
         TellsInRoom result (λ s. IsScanOf told s) (fault_of told) }
 {
-    let size = size_of(root)?;
-    if root.field(b"palettes").is_some() {
+    let (sides, palettes, states, blocks) = root.four_fields(
+        b"size",
+        b"palettes",
+        b"palette",
+        b"blocks",
+    );
+    let size = size_of(sides)?;
+    if palettes.is_some() {
         return Err(ScanFault::Palettes);
     }
-    let palette = palette_of(alloc, root)?;
-    let cells = cells_of(alloc, root, size, palette.len())?;
+    let palette = palette_of(alloc, states)?;
+    let cells = cells_of(alloc, blocks, size, palette.len())?;
     Ok(Scan::new(size, palette, cells))
 }

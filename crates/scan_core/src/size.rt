@@ -8,12 +8,12 @@ use crate::value::{natural, triple};
 use cave_base::is_small;
 use nbt_core::View;
 
-/// The sides of the box that the root tells.
-pub fn size_of(root: &View<'_>) -> Result<[u32; 3], ScanFault>
-    ensures { let told = root.now in
+/// The sides of the box that the root's size tells.
+pub fn size_of(found: Option<View<'_>>) -> Result<[u32; 3], ScanFault>
+    ensures { let told = found.entry in
         TellsOrFaults result (λ size. IsSizeOf told (grid.point size)) (size_fault told) }
 {
-    let Some(value) = root.field(b"size") else {
+    let Some(value) = found else {
         return Err(ScanFault::Missing(Field::SizeField));
     };
     let Some(sides) = triple(&value) else {

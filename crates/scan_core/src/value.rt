@@ -29,10 +29,10 @@ pub fn triple(value: &View<'_>) -> Option<[i32; 3]>
     if items.len() != 3 {
         return None;
     }
-    let x = items.next()?;
-    let y = items.next()?;
-    let z = items.next()?;
-    Some([int(&x)?, int(&y)?, int(&z)?])
+    let x = items.next_int()?;
+    let y = items.next_int()?;
+    let z = items.next_int()?;
+    Some([x, y, z])
 }
 
 /// The three numbers, where none is negative.

@@ -1,5 +1,4 @@
-use Rattle.std.proofs.Common.{sym, ◌∙◌, codes}
-use Rattle.nbt_core.specs.Value.{field}
+use Rattle.std.proofs.Common.{◌∙◌}
 use Rattle.cave_base.specs.Box as grid
 use Rattle.scan_core.specs.Faults.{place_fault}
 use Rattle.scan_core.proofs.ScanLemmas.{on_is}
@@ -8,5 +7,5 @@ use Rattle.scan_core.proofs.block.place_of.Goals as goal
 
 pub returns-in_default-triple : goal.returns-in_default-triple
 returns-in_default-triple c =
-    on_is (field (codes "pos") c.args.entry.now) c.in-Some.value _ _ (sym c.in-Some.ensures)
+    on_is c.args.found c.in-Some.value _ _ c.in-Some.is
     ∙ on_triple-wrong _ (place_fault (grid.point c.args.size) c.args.index) c.in-Some.value c.in_default-triple.ensures

@@ -1,5 +1,4 @@
-use Rattle.std.proofs.Common.{inl, codes}
-use Rattle.nbt_core.specs.Value.{field}
+use Rattle.std.proofs.Common.{inl, sym}
 use Rattle.scan_core.specs.Faults.{name_fault}
 use Rattle.scan_core.specs.Scan.{IsEntryState}
 use Rattle.scan_core.specs.declared.fault.Field.TheVariants as fields
@@ -8,11 +7,11 @@ use Rattle.scan_core.proofs.palette.palette_of.Goals as goal
 
 pub returns-in_default-compounds : goal.returns-in_default-compounds
 returns-in_default-compounds c =
-    inl (list_wrong fields.PaletteField name_fault (field (codes "palette") c.args.root.now) c.in-Some.value
-    c.in-Some.ensures c.in_default-compounds.ensures)
+    inl (list_wrong fields.PaletteField name_fault c.args.found c.in-Some.value
+    (sym c.in-Some.is) c.in_default-compounds.ensures)
 
 pub returns : goal.returns
 returns c =
     tells_list IsEntryState (λ states. states.items) fields.PaletteField name_fault
-    (field (codes "palette") c.args.root.now) c.in-Some.value c.in-Some-compounds.entries c.states_of.result
-    c.in-Some.ensures c.in-Some-compounds.ensures c.states_of.ensures
+    c.args.found c.in-Some.value c.in-Some-compounds.entries c.states_of.result
+    (sym c.in-Some.is) c.in-Some-compounds.ensures c.states_of.ensures

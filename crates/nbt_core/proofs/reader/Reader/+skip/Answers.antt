@@ -1,8 +1,9 @@
-use Rattle.std.proofs.Common.{refl, ◌∙◌, arith}
+use Rattle.std.proofs.Common.{◌*◌, refl, sym, ◌∙◌, arith}
 use Rattle.std.proofs.lemmas.Result.{err_from_is_err_and}
 use Rattle.nbt_core.specs.Value.{leaf}
 use Rattle.nbt_core.specs.LeafReading.{leaf_at}
-use Rattle.nbt_core.specs.TreeReading.{value_at}
+use Rattle.nbt_core.specs.TreeReading.{items_at, value_at}
+use Rattle.nbt_core.proofs.FixedItems.{fixed_value, fixed_items, fixed_skips}
 use Rattle.nbt_core.proofs.ItemsLoop.{items_end}
 use Rattle.nbt_core.proofs.MembersLoop.{members_no_kind, members_no_name, members_no_payload}
 use Rattle.nbt_core.proofs.ListLemmas.{list_no_kind, list_no_count, list_bad}
@@ -118,22 +119,22 @@ skip_entries-returns-clause-read t c = members_passed c.args.self.now.end
     (value_at c.args.self.now.end c.args.room) c.loop-kind.self.rest.now _ c.loop-kind.invariant.read
     c.kind.new.self.rest.now (rw (c.in_default.is, c.loop-kind.invariant.end) at c.in_ok-kind.ensures.read)
 
-pub skip_items-loop-init : goal.skip_items-loop-init
-skip_items-loop-init t c = record {
+pub skip_each-loop-init : goal.skip_each-loop-init
+skip_each-loop-init t c = record {
   read = none_passed (value_at c.args.self.now.end c.args.room c.args.kind) c.args.count c.args.self.now.rest.now;
   end = refl;
   shrinks = omega arith;
 }
 
-pub skip_items-returns-in_err-skip-clause-read : goal.skip_items-returns-in_err-skip-clause-read
-skip_items-returns-in_err-skip-clause-read t c =
+pub skip_each-returns-in_err-skip-clause-read : goal.skip_each-returns-in_err-skip-clause-read
+skip_each-returns-in_err-skip-clause-read t c =
     let p = err_from_is_err_and c.from_residual.result c.from_residual.ensures.1 in
     rw (p.1, p.2) (items_end (value_at c.args.self.now.end c.args.room c.args.kind)
     c.loop.invariant.read.front c.args.count c.loop.counter c.loop.self.rest.now _ c.loop.invariant.read.read
     c.in_err-skip.field-0.0 c.loop-test.true (rw c.loop.invariant.end at c.in_err-skip.ensures.read))
 
-pub skip_items-loop-preserved : goal.skip_items-loop-preserved
-skip_items-loop-preserved t c = record {
+pub skip_each-loop-preserved : goal.skip_each-loop-preserved
+skip_each-loop-preserved t c = record {
   read = item_passed (value_at c.args.self.now.end c.args.room c.args.kind) c.args.count c.loop.counter
       c.loop.self.rest.now _ c.loop.invariant.read c.skip.new.self.rest.now c.loop-test.true
       (rw c.loop.invariant.end at c.in_ok-skip.ensures.read);
@@ -141,8 +142,8 @@ skip_items-loop-preserved t c = record {
   shrinks = omega (arith, c.in_ok-skip.ensures.shrinks);
 }
 
-pub skip_items-returns-clause-read : goal.skip_items-returns-clause-read
-skip_items-returns-clause-read t c = items_passed (value_at c.args.self.now.end c.args.room c.args.kind)
+pub skip_each-returns-clause-read : goal.skip_each-returns-clause-read
+skip_each-returns-clause-read t c = items_passed (value_at c.args.self.now.end c.args.room c.args.kind)
     c.args.count c.loop.counter c.loop.self.rest.now _ c.loop.invariant.read c.loop-test.false
 
 pub skip_list-returns-in_err-kind-clause-read : goal.skip_list-returns-in_err-kind-clause-read
@@ -179,3 +180,11 @@ skip_list-returns-in-None-2-clause-read t c =
     (value_at c.args.self.now.end c.args.room) c.args.self.now.rest.now c.kind.new.self.rest.now
     c.in_ok-count.count c.count.new.self.rest.now (rw c.in-None.is at c.in_ok-kind.ensures.read)
     (rw c.in_ok-kind.ensures.end at c.in_ok-count.ensures.read) c.if-count-eq0.false)
+
+pub skip_items-returns-in-Some-clause-read : goal.skip_items-returns-in-Some-clause-read
+skip_items-returns-in-Some-clause-read t c =
+    let one = fixed_value c.args.self.now.end c.args.room c.args.kind c.in-Some.size (sym c.in-Some.ensures.size) in
+    fixed_skips c.args.self.now.end (c.in-Some.size * c.args.count)
+    (items_at (value_at c.args.self.now.end c.args.room c.args.kind) c.args.count) c.skip_run.result
+    c.args.self.now.rest.now c.skip_run.new.self.rest.now
+    (fixed_items c.args.self.now.end c.in-Some.size _ one c.args.count) c.skip_run.ensures.read

@@ -9,11 +9,14 @@ decreases-skip l = 4 * l.room
 abbrev pub decreases-skip_entries : goal.decreases-skip_entries
 decreases-skip_entries l = 4 * l.room + 1
 
+abbrev pub decreases-skip_each : goal.decreases-skip_each
+decreases-skip_each l = 4 * l.room + 1
+
 abbrev pub decreases-skip_items : goal.decreases-skip_items
-decreases-skip_items l = 4 * l.room + 1
+decreases-skip_items l = 4 * l.room + 2
 
 abbrev pub decreases-skip_list : goal.decreases-skip_list
-decreases-skip_list l = 4 * l.room + 2
+decreases-skip_list l = 4 * l.room + 3
 
 abbrev pub invariant-skip_entries-loop-kind : goal.invariant-skip_entries-loop-kind
 invariant-skip_entries-loop-kind l = record {
@@ -26,8 +29,8 @@ invariant-skip_entries-loop-kind l = record {
 abbrev pub decreases-skip_entries-loop-kind : goal.decreases-skip_entries-loop-kind
 decreases-skip_entries-loop-kind l = length l.self.rest.now
 
-abbrev pub invariant-skip_items-loop : goal.invariant-skip_items-loop
-invariant-skip_items-loop l = record {
+abbrev pub invariant-skip_each-loop : goal.invariant-skip_each-loop
+invariant-skip_each-loop l = record {
   read : ItemsPassed (value_at l.fn.self.end l.room l.kind) l.count l.counter l.self.rest.now
       (items_at (value_at l.fn.self.end l.room l.kind) l.count l.fn.self.rest.now);
   end : l.self.end ≡ l.fn.self.end;
