@@ -7,3 +7,8 @@ pub mod BackLemmas
 pub mod PairLemmas
 pub mod LightsLemmas
 pub mod MarkLemmas
+pub mod FillLemmas
+pub mod CountLemmas
+pub mod PartLemmas
+pub mod KeptLemmas
+pub mod TurnLemmas

@@ -1,69 +1,14 @@
 -- Lists by number, in the order in which they grow.
-use Rattle.std.proofs.Common.{◌≡◌, ℕ, ◌+◌, ◌<◌, ◌⊎◌, Bool, false, IsTrue, List, [], ◌∷◌, ◌++◌, length, map, set}
-use Rattle.std.proofs.Common.{get_or, Contains, refl, sym, ap, subst, ◌∙◌, arith, inl, inr}
-use Rattle.std.proofs.Common.{length-append, length-set, get_or-set_same, get_or-set_other}
+use Rattle.std.proofs.Common.{◌≡◌, ℕ, ◌+◌, ◌<◌, ◌⊎◌, List, [], ◌∷◌, ◌++◌, length}
+use Rattle.std.proofs.Common.{Contains, refl, sym, ap, subst, ◌∙◌, arith, inl, inr}
 use Rattle.std.specs.Prelude.{◌↔◌}
 use Rattle.std.specs.List.Sorted.{IsStrictlyIncreasing}
-use Rattle.std.specs.Global.{Vec}
-use Rattle.std.proofs.lemmas.Bool.{cases_eq, cases_lt, cases_Bool, true≢false}
+use Rattle.std.proofs.lemmas.Bool.{cases_eq, cases_lt}
 use Rattle.std.proofs.lemmas.List.Elements.{Contains-append_left, Contains-push, Contains-push_cases}
-use Rattle.std.proofs.lemmas.List.{map-set, length-map, get_or_past, get_or-map, get_or_push, get_or_append_left}
-use Rattle.lit_lists.specs.Lists.{row_at, is_marked}
-use Rattle.lit_lists.specs.Rows.{AreEmptyRows, ArePushed, AreTurned, IsMarkedOf, IsPushed}
+use Rattle.std.proofs.lemmas.List.{get_or_past}
+use Rattle.lit_lists.specs.Lists.{row_at}
+use Rattle.lit_lists.specs.Rows.{AreEmptyRows, ArePushed, AreTurned, IsPushed}
 use Rattle.lit_lists.proofs.PairLemmas.{rising_push}
-use Rattle.lit_lists.proofs.TakeLemmas.{has_or_not}
-
--- one list is replaced by a longer one
-pub pushed : {V : Type 0} (f : V → List ℕ) (lists : List V) (cell number : ℕ) (cells : V) (old : List (List ℕ))
-    → map f lists ≡ old → cell < length old → f cells ≡ row_at old cell ++ number ∷ []
-    → IsPushed old cell number (map f (set lists cell cells))
-pushed f lists cell number cells old e low is =
-    let moved : map f (set lists cell cells) ≡ set old cell (f cells) = map-set f lists cell cells
-    ∙ ap (λ l. set l cell (f cells)) e in
-    record {
-      whole = ap length moved ∙ length-set old cell (f cells);
-      here = ap (λ l. get_or l cell []) moved ∙ get_or-set_same old cell (f cells) [] low ∙ is;
-      others = λ other ne. ap (λ l. get_or l other []) moved ∙ get_or-set_other old cell other (f cells) [] ne;
-    }
-
--- the list of a cell
-pub list_at : {V : Type 0} (f : V → List ℕ) (lists : List V) (cell : ℕ) (d : V) (old : List (List ℕ))
-    → map f lists ≡ old → cell < length lists → f (get_or lists cell d) ≡ row_at old cell
-list_at f lists cell d old e low = sym (get_or-map f lists cell d [] low) ∙ ap (λ l. get_or l cell []) e
-
--- so many empty lists
-pub record AreEmpty (count : ℕ) (lists : List (Vec ℕ)) : Type 0 where
-  pub counted : length lists ≡ count
-  pub empty : (k : ℕ) (d : Vec ℕ) → k < length lists → (get_or lists k d).items ≡ []
-
--- one empty list more
-pub empty_push : (count : ℕ) (lists : List (Vec ℕ)) (v : Vec ℕ) → AreEmpty count lists → v.items ≡ []
-    → AreEmpty (count + 1) (lists ++ v ∷ [])
-empty_push count lists v s e = record {
-  counted = omega (arith, s.counted, length-append lists (v ∷ []));
-  empty = λ k d h. (elim (cases_lt k (length lists)) [
-    | inl lt ↦ ap (λ (v : Vec ℕ). v.items) (get_or_append_left lists (v ∷ []) d k lt) ∙ s.empty k d lt
-    | inr le ↦ (let last : k ≡ length lists = omega (arith, length-append lists (v ∷ [])) in ap (λ (v : Vec ℕ). v.items)
-        (get_or_push lists v d k (sym last)) ∙ e)
-  ]);
-}
-
--- empty lists hold nothing
-all_empty : {V : Type 0} (f : V → List ℕ) (lists : List V)
-    → ((k : ℕ) (d : V) → k < length lists → f (get_or lists k d) ≡ []) → (cell : ℕ) → row_at (map f lists) cell ≡ []
-all_empty f [] empty cell = get_or_past [] cell [] (omega arith)
-all_empty f (v ∷ vs) empty cell = elim (cases_lt cell (length (v ∷ vs))) [
-  | inl lt ↦ get_or-map f (v ∷ vs) cell v [] lt ∙ empty cell v lt
-  | inr le ↦ get_or_past (map f (v ∷ vs)) cell [] (omega (arith, length-map (v ∷ vs) f))
-]
-
--- so many empty lists are that many rows with nothing in them
-pub empty_rows : (count : ℕ) (lists : List (Vec ℕ)) → AreEmpty count lists
-    → AreEmptyRows count (map (λ v. v.items) lists)
-empty_rows count lists s = record {
-  whole = length-map lists (λ (v : Vec ℕ). v.items) ∙ s.counted;
-  empty = all_empty (λ (v : Vec ℕ). v.items) lists s.empty;
-}
 
 -- ---- one number at the end of many lists
 
@@ -117,42 +62,6 @@ with_next done cell other = (
   ]),
 )
 
--- the marked cells so far and the next, which is marked
-pub with_marked : (marks : List Bool) (done : List ℕ) (cell other : ℕ) → IsTrue (is_marked marks cell)
-    → IsMarkedOf marks (done ++ cell ∷ []) other ↔ (IsMarkedOf marks done other ⊎ (cell ≡ other))
-with_marked marks done cell other m = (
-  λ h. (elim (Contains-push_cases done cell other h.0) [ inl was ↦ inl (was, h.1) | inr e ↦ inr e ]),
-  λ h. (elim h [
-    | inl was ↦ (Contains-append_left done (cell ∷ []) other was.0, was.1)
-    | inr e ↦ (
-      subst (Contains (done ++ cell ∷ [])) e (Contains-push done cell),
-      subst (λ (c : ℕ). IsTrue (is_marked marks c)) e m,
-    )
-  ]),
-)
-
--- and where it isn't, they are as before
-pub with_unmarked : (marks : List Bool) (done : List ℕ) (cell other : ℕ) → is_marked marks cell ≡ false
-    → IsMarkedOf marks (done ++ cell ∷ []) other ↔ IsMarkedOf marks done other
-with_unmarked marks done cell other off = (
-  λ h. (elim (Contains-push_cases done cell other h.0) [
-    | inl was ↦ (was, h.1)
-    | inr e ↦ absurd (true≢false (sym h.1 ∙ ap (is_marked marks) (sym e) ∙ off))
-  ]),
-  λ h. (Contains-append_left done (cell ∷ []) other h.0, h.1),
-)
-
--- whether a cell is one of the marked
-pub marked_or_not : (marks : List Bool) (cells : List ℕ) (cell : ℕ)
-    → IsMarkedOf marks cells cell ⊎ (¬ IsMarkedOf marks cells cell)
-marked_or_not marks cells cell = elim (has_or_not cells cell) [
-  | inl has ↦ elim (cases_Bool (is_marked marks cell)) [
-    | inl m ↦ inl (has, m)
-    | inr off ↦ inr (λ b. true≢false (sym b.1 ∙ off))
-  ]
-  | inr none ↦ inr (λ b. none b.0)
-]
-
 -- ---- one number after another
 
 -- the list of each cell has, ascending, the numbers below this one that go with it
@@ -177,19 +86,6 @@ module _ (GoesWith : ℕ → ℕ → Type 0) (count : ℕ) (rows : List (List �
 
   split : (number : ℕ) → number < count + 1 → (number < count) ⊎ (number ≡ count)
   split number h = elim (cases_lt number count) [ inl lt ↦ inl lt | inr le ↦ inr (omega arith) ]
-
-  -- a number that goes with no cell
-  pub below_skip : ((cell : ℕ) → ¬ GoesWith cell count) → AreRowsBelow GoesWith (count + 1) rows
-  below_skip never = record {
-    exact = λ cell number. (
-      λ h. wider cell number ((s.exact cell number).0 h),
-      λ b. (elim (split number b.0) [
-        | inl lt ↦ (s.exact cell number).1 (lt, b.1)
-        | inr e ↦ absurd (never cell (subst (GoesWith cell) e b.1))
-      ]),
-    );
-    ascending = s.ascending;
-  }
 
   -- a number pushed to the cells that it goes with
   pub below_more : (Here : ℕ → Type 0) (next : List (List ℕ)) → ArePushed Here rows count next

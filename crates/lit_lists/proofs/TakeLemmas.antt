@@ -17,7 +17,7 @@ none_in : {A : Type 0} (cell : ℕ) → Contains [] cell → A
 none_in cell h = absurd (omega (arith, h.1))
 
 -- an element is the first or one of the rest
-cons_cases : (x : ℕ) (xs : List ℕ) (y : ℕ) → Contains (x ∷ xs) y → (x ≡ y) ⊎ Contains xs y
+pub cons_cases : (x : ℕ) (xs : List ℕ) (y : ℕ) → Contains (x ∷ xs) y → (x ≡ y) ⊎ Contains xs y
 cons_cases x xs y h = elim (Contains-append_cases (x ∷ []) xs y h) [
   | inl one ↦ elim (Contains-push_cases [] x y one) [
     | inl none ↦ none_in y none

@@ -4,3 +4,4 @@ pub mod Seeded
 pub mod Reached
 pub mod Lists
 pub mod Rows
+pub mod Filling

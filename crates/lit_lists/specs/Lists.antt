@@ -1,6 +1,6 @@
 -- Which cells are dark, which are places, and what a torch at each place lights, by the number of the cell.
 -- This is this project's own.
-use Rattle.std.specs.Prelude.{◌≡◌, ◌↔◌, ℕ, Bool, false, IsTrue, List, [], length, slice_index_or, Contains}
+use Rattle.std.specs.Prelude.{◌≡◌, ◌<◌, ◌↔◌, ℕ, Bool, false, IsTrue, List, [], length, slice_index_or, Contains}
 use Rattle.std.specs.List.Sorted.{IsStrictlyIncreasing}
 use Rattle.cave_base.specs.Box.{cell_count}
 use Rattle.cave_model.specs.Cave.{Cave}
@@ -31,6 +31,12 @@ pub record IsPair (cave : Cave) (place cell : ℕ) : Type 0 where
   pub legal : IsPlace cave place
   pub dark : IsDark cave cell
   pub lights : Lights cave place cell
+
+-- of so many cells the list of each has the places that light it, where it is dark, each once
+pub record ArePlacesOf (cave : Cave) (count : ℕ) (rows : List (List ℕ)) : Type 0 where
+  pub whole : length rows ≡ count
+  pub exact : (place cell : ℕ) → Contains (row_at rows cell) place ↔ ((cell < count) × IsPair cave place cell)
+  pub once : (cell : ℕ) → AreDistinct (row_at rows cell)
 
 -- who lights what, by the number of the cell
 pub record Pairs : Type 0 where

@@ -2,6 +2,8 @@
 //! relaxation, for whoever judges a plan and trusts no flood.
 #![tactic(auto)]
 
+mod counting;
+mod filling;
 mod levels;
 mod lighting;
 mod lists;

@@ -1,11 +1,10 @@
-ghost use Rattle.std.specs.Prelude.{◌≡◌, length, IfOk, OnOk};
+ghost use Rattle.std.specs.Prelude.{◌≡◌, ◌<◌, ◌++◌, length, filter, All, IfOk, OnOk};
 ghost use Rattle.cave_base.specs.Box.{cell_count};
 ghost use Rattle.cave_model.specs.Passages.{ArePassages};
 ghost use Rattle.cave_model.specs.Spawn.{IsDark};
 ghost use Rattle.cave_model.specs.Torches.{IsPlace};
 ghost use Rattle.lit_lists.specs.Seeded.{AreUnlit};
-ghost use Rattle.lit_lists.specs.Lists.{AreLights, AreMarksOf, ArePairsOf, row_at};
-ghost use Rattle.lit_lists.specs.Rows.{AreEmptyRows};
+ghost use Rattle.lit_lists.specs.Lists.{AreLights, AreMarksOf, ArePairsOf, ArePlacesOf, is_marked, row_at};
 
 use crate::lighting::{light_back, reach};
 use crate::rows::Rows;
@@ -45,26 +44,40 @@ impl Pairs {
     }
 }
 
-/// Adds every dark cell to the lists of the places that light it. The levels are a scratch of no light.
-fn add_dark(
+/// Lists, after what is listed, those of the cells that are marked.
+fn list_marked(numbers: &mut Vec<u32>, marks: &[bool], cells: &[u32]) -> Result<(), AllocError>
+    requires inside { All (λ cell. cell < length marks.now) cells.now }
+    ensures { OnOk result (numbers.new.items ≡ numbers.old.items ++ filter (is_marked marks.now) cells.now) }
+{
+    for cell in cells {
+        if marks[*cell as usize] {
+            numbers.push(*cell)?;
+        }
+    }
+    Ok(())
+}
+
+/// Lists, for each cell, the places that light it where it is dark. The levels are a scratch of no light.
+fn find_places(
     alloc: Global,
     world: &World,
     passages: &Passages,
     dark: &[bool],
     places: &[bool],
     levels: &mut [u8],
-    lights: &mut Rows,
-) -> Result<(), AllocError>
+) -> Result<Rows, AllocError>
     requires cells { length levels.old ≡ cell_count world.now.size }
     requires unlit { AreUnlit levels.old }
     requires passages { ArePassages world.now passages.now }
     requires dark { AreMarksOf (cell_count world.now.size) (IsDark world.now) dark.now }
     requires places { AreMarksOf (cell_count world.now.size) (IsPlace world.now) places.now }
-    requires none { AreEmptyRows (cell_count world.now.size) lights.old }
-    ensures { OnOk result (AreLights world.now lights.new) }
+    ensures { IfOk result (ArePlacesOf world.now (cell_count world.now.size)) }
 {
     let mut queue = Vec::new(alloc);
     let mut reached = Vec::new(alloc);
+    let mut starts = Vec::with_capacity(alloc, world.cell_count() as usize + 1)?;
+    let mut found = Vec::new(alloc);
+    starts.push(0)?;
     for cell in 0..world.cell_count() {
         if dark[cell as usize] {
             let light = light_back(world, cell);
@@ -77,10 +90,11 @@ fn add_dark(
                 cell,
                 light,
             )?;
-            lights.push_marked(places, &reached, cell)?;
+            list_marked(&mut found, places, &reached)?;
         }
+        starts.push(found.len())?;
     }
-    Ok(())
+    Ok(Rows::new(starts, found))
 }
 
 /// For each place of the world the dark cells that it lights, ascending.
@@ -97,16 +111,8 @@ fn lights_of(
     ensures { IfOk result (AreLights world.now) }
 {
     let mut levels = vec![in alloc; 0; world.cell_count() as usize]?;
-    let mut lights = Rows::new(alloc, world.cell_count())?;
-    add_dark(
-        alloc,
-        world,
-        passages,
-        dark,
-        places,
-        levels.as_mut_slice(),
-        &mut lights,
-    )?;
+    let found = find_places(alloc, world, passages, dark, places, levels.as_mut_slice())?;
+    let lights = found.turned(alloc, world.cell_count())?;
     Ok(lights)
 }
 

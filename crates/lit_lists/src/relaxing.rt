@@ -28,9 +28,15 @@ fn offer(
         (slice_index levels.old) queue.old.items (slice_index levels.new) queue.new.items) }
     ensures passed { OnOk result (IsPassed world.now (slice_index levels.new) from to) }
 {
+    let level = levels[from as usize];
+    let here = levels[to as usize];
+    // Entering costs one at least. Most neighbours have as much light already, so their cost isn't looked up.
+    if level.saturating_sub(1) <= here {
+        return Ok(());
+    }
     let cost = u8::max(1, world.class_of(to).opacity);
-    let brought = levels[from as usize].saturating_sub(cost);
-    if brought > levels[to as usize] {
+    let brought = level.saturating_sub(cost);
+    if brought > here {
         levels[to as usize] = brought;
         queue.push(to)?;
     }
@@ -96,6 +102,10 @@ fn pass_on(
         (slice_index levels.old) queue.old.items (slice_index levels.new) queue.new.items) }
     ensures passed { OnOk result (HasPassed world.now (slice_index levels.new) from) }
 {
+    // Entering costs one at least, so of so little light nothing is left.
+    if levels[from as usize] <= 1 {
+        return Ok(());
+    }
     match passages {
         Some(passages) => pass_to_these(world, levels, queue, from, passages.from(from))?,
         None => pass_to_all(world, levels, queue, from)?,

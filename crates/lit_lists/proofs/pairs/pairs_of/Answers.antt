@@ -7,4 +7,4 @@ turned-requires-clause-boxed c = lights_boxed c.args.world.now c.args.dark.now c
 
 pub returns : goal.returns
 returns c = pairs_turned c.args.world.now c.in_ok-lights.lights c.in_ok-lit_by.lit_by c.in_ok-lights.ensures
-    c.in_ok-lit_by.ensures
+    c.in_ok-lit_by.ensures.turned

@@ -1,42 +1,77 @@
-use Rattle.std.proofs.Common.{ℕ, List, slice_index, Contains, sym, subst, ◌∙◌, arith}
-use Rattle.std.specs.List.Sorted.{IsStrictlyIncreasing}
-use Rattle.std.proofs.lemmas.Grind.{get_or_default_zero}
-use Rattle.lit_lists.proofs.TakeLemmas.{element_of, has_or_not}
-use Rattle.lit_lists.proofs.PairLemmas.{rising_distinct}
-use Rattle.lit_lists.proofs.RowLemmas.{HasIn, below_none, below_more, turned_all}
+use Rattle.std.proofs.Common.{◌≡◌, ◌<◌, ℕ, List, length, sym, ap, subst, ◌∙◌, arith}
+use Rattle.std.specs.Prelude.{All}
+use Rattle.cave_model.specs.Parts.{parts}
+use Rattle.lit_lists.specs.Filling.{AreCounts, AreSumsOf, lists_in}
+use Rattle.lit_lists.specs.Rows.{AreOfOneBox, AreTurned}
+use Rattle.lit_lists.proofs.PartLemmas.{length-parts}
+use Rattle.lit_lists.proofs.TurnLemmas.{lists_none, numbers_inside, sums_room, turned_parts}
 use Rattle.lit_lists.proofs.rows.Rows.turned.Goals as goal
 
-pub loop-cell-init : goal.loop-cell-init
-loop-cell-init c = record {
-  whole = c.in_ok-turned.ensures.whole;
-  below = below_none (HasIn c.args.self.now) c.args.count c.in_ok-turned.turned c.in_ok-turned.ensures;
-}
+pub counts_of-requires : goal.counts_of-requires
+counts_of-requires c =
+    let starts = c.self.inside.starts.items in
+    let numbers = c.self.inside.numbers.items in
+    let boxed : AreOfOneBox (parts starts numbers) = subst AreOfOneBox (sym c.self.view_is) c.requires.boxed in
+    let inside = numbers_inside starts numbers c.self.invariant boxed in
+    let count : length (parts starts numbers) ≡ c.args.count = ap length c.self.view_is ∙ c.requires.count in
+    record {
+      inside = subst (λ (n : ℕ). All (λ number. number < n) c.deref.result.now) count
+          (subst (λ (l : List ℕ). All (λ number. number < length (parts starts numbers)) l)
+          (sym c.deref.ensures.value) inside);
+    }
 
-pub push_all-requires : goal.push_all-requires
-push_all-requires c = record {
-  inside = λ k d h.
-      (let has = subst (λ (l : List ℕ). Contains l (slice_index c.row.result.now k)) c.row.ensures
-      (element_of c.row.result.now k h) in
-      let lt = c.requires.boxed.inside c.loop-cell.cell (slice_index c.row.result.now k) has in
-      let same = get_or_default_zero c.row.result.now k d h in
-      omega (arith, c.requires.count, c.loop-cell.invariant.whole));
-  once = rising_distinct c.row.result.now
-      (subst IsStrictlyIncreasing (sym c.row.ensures) (c.requires.boxed.ascending c.loop-cell.cell));
-}
+pub fill-requires-clause-lists : goal.fill-requires-clause-lists
+fill-requires-clause-lists c =
+    let starts = c.self.inside.starts.items in
+    let count : length (parts starts c.self.inside.numbers.items) ≡ c.args.count =
+    ap length c.self.view_is ∙ c.requires.count in
+    let long = length-parts starts c.self.inside.numbers.items in
+    let some = c.self.invariant.starting.some in
+    ap length c.deref-3.ensures.value ∙ omega (arith, count, long, some)
 
-pub loop-cell-preserved : goal.loop-cell-preserved
-loop-cell-preserved c = record {
-  whole = c.in_ok-push_all.ensures.whole ∙ c.loop-cell.invariant.whole;
-  below = below_more (HasIn c.args.self.now) c.loop-cell.cell c.loop-cell.turned c.loop-cell.invariant.below
-      (Contains c.row.result.now) c.push_all.new.self c.in_ok-push_all.ensures
-      (λ number. (
-        λ h. subst (λ (l : List ℕ). Contains l number) c.row.ensures h,
-        λ h. subst (λ (l : List ℕ). Contains l number) (sym c.row.ensures) h,
-      ))
-      (has_or_not c.row.result.now);
-}
+pub fill-requires-clause-empty : goal.fill-requires-clause-empty
+fill-requires-clause-empty c = lists_none c.in_ok-filling.filling.starts.items c.in_ok-filling.filling.next.items
+    c.in_ok-filling.filling.numbers.items c.args.count c.in_ok-filling.ensures.empty
+    (omega (arith, c.in_ok-filling.ensures.sums.whole, c.in_ok-counts.ensures.whole, c.deref-2.ensures.len))
 
-pub returns : goal.returns
-returns c = turned_all c.args.self.now c.loop-cell.turned c.loop-cell.cell
-    (omega (arith, c.requires.count))
-    c.loop-cell.invariant.below
+pub fill-requires-clause-room : goal.fill-requires-clause-room
+fill-requires-clause-room c =
+    let counts = c.in_ok-counts.counts.items in
+    let starts = c.in_ok-filling.filling.starts.items in
+    let counted : AreCounts c.args.count c.deref-4.result.now counts =
+    subst (λ (l : List ℕ). AreCounts c.args.count l counts) (c.deref.ensures.value ∙ sym c.deref-4.ensures.value)
+    c.in_ok-counts.ensures in
+    let sums : AreSumsOf counts starts = subst (λ (l : List ℕ). AreSumsOf l starts) c.deref-2.ensures.value
+    c.in_ok-filling.ensures.sums in
+    sums_room c.args.count c.deref-4.result.now counts starts c.in_ok-filling.filling.next.items counted sums
+    c.in_ok-filling.ensures.empty
+
+pub new-requires-2 : goal.new-requires-2
+new-requires-2 c = record { whole = c.fill.new.self.filling.parts }
+
+pub returns-clause-whole : goal.returns-clause-whole
+returns-clause-whole c =
+    let filled = c.fill.new.self in
+    let long = length-parts filled.starts.items filled.numbers.items in
+    let starts : length filled.starts.items ≡ length c.in_ok-filling.filling.starts.items =
+    ap length c.fill.ensures.starts in
+    ap length c.new-2.ensures
+    ∙ omega (
+      arith,
+      long,
+      starts,
+      c.in_ok-filling.ensures.sums.whole,
+      c.in_ok-counts.ensures.whole,
+      c.deref-2.ensures.len,
+      c.requires.count,
+    )
+
+pub returns-clause-turned : goal.returns-clause-turned
+returns-clause-turned c =
+    let filled = c.fill.new.self in
+    let from : parts c.deref-3.result.now c.deref-4.result.now ≡ c.args.self.now =
+    ap (λ (l : List ℕ). parts l c.deref-4.result.now) c.deref-3.ensures.value
+    ∙ ap (parts c.self.inside.starts.items) c.deref-4.ensures.value ∙ c.self.view_is in
+    rw c.new-2.ensures (turned_parts c.args.self.now filled.starts.items filled.next.items filled.numbers.items
+    c.fill.ensures.full (subst (λ (rows : List (List ℕ)). AreTurned rows
+    (lists_in filled.starts.items filled.next.items filled.numbers.items)) from c.fill.ensures.turned))
