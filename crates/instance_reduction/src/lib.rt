@@ -9,10 +9,11 @@ mod dominance;
 mod lists;
 mod reduced_instance;
 mod reduced_zone;
+mod rows_left;
 
 pub use bits::{
     Bits, bit_count, bits_of, clear_all, clear_bit, common_count, drop_all, has_each, is_part,
-    is_set, join_into, keep_all, row_below, row_in, set_bit,
+    is_set, join_into, keep_all, row_below, row_in, set_bit, words_around,
 };
 pub use cyclic_core::CyclicCore;
 pub use dominance::{Dominance, first_dominating, is_dominated, undominated};
