@@ -1,6 +1,6 @@
 -- What a run over files gives, as far as these are known.
-use Rattle.std.proofs.Common.{◌≡◌, ◌≢◌, ◌<◌, ◌∙◌, ℕ, Bool, true, false, List, Option, Some, None, Result, Ok, Err, sym, ap}
-use Rattle.std.proofs.Common.{subst}
+use Rattle.std.proofs.Common.{◌≡◌, ◌≢◌, ◌<◌, ◌∙◌, ℕ, Bool, true, false, List, Option, Some, None, Result, Ok, Err}
+use Rattle.std.proofs.Common.{sym, ap, subst}
 use Rattle.std.specs.Prelude.{IfErr, IfOk, IfSome, OnOk, bytes_eq, codes, if◌then◌else◌}
 use Rattle.cave_model.specs.Rule.{Rule}
 use Rattle.cave_runs.specs.PlanRuns.{IsNoPlanOfInput}
@@ -66,8 +66,8 @@ pub plan_answered : (sources : Sources) (file : List ℕ) (table : Option (List 
     → IfSome remaining (λ bytes. IsNoPlanOfInput bytes read rule e))
     → IfErr result (λ e. e ≡ faults.NoThread → 1 < workers)
     → AnswersPlan sources file table rule turns workers old new result
-plan_answered sources file table rule turns workers old new remaining read (Ok outcome) same told done left fault threads
-    = record {
+plan_answered sources file table rule turns workers old new remaining read (Ok outcome) same told done left fault
+    threads = record {
       done = known (structure_in sources file) remaining (table_in sources table) read
           (λ bytes rows. PlansSome bytes rows rule turns outcome old new) same told done;
       left = left;

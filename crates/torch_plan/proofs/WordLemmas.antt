@@ -1,20 +1,20 @@
 -- What the matches of a command tell.
-use Rattle.std.proofs.Common.{◌≡◌, ◌∙◌, ◌||◌, ℕ, Bool, true, false, List, Option, Some, None, Result, Ok, Err, refl, sym}
-use Rattle.std.proofs.Common.{ap, ap₂, subst}
+use Rattle.std.proofs.Common.{◌≡◌, ◌∙◌, ◌||◌, ℕ, Bool, true, false, List, Option, Some, None, Result, Ok, Err}
+use Rattle.std.proofs.Common.{refl, sym, ap, ap₂, subst}
 use Rattle.std.specs.Prelude.{Box, IfSome, MatchOption, option_copied, option_map}
 use Rattle.std.specs.Box.{box_value}
 use Rattle.std.specs.Borrow.{Bor}
 use Rattle.std.specs.Str.Parse.{ParsesUnsigned}
 use Rattle.clap.specs.Matches.{ReadsOne}
-use Rattle.clap.specs.Words.{Row, Text, first_of, first_value, one_of, one_text, rows_of, subcommand_name_of, subcommand_rows}
-use Rattle.clap.specs.Words.{subcommand_rows_of}
+use Rattle.clap.specs.Words.{Row, Text, first_of, first_value, one_of, one_text, rows_of}
+use Rattle.clap.specs.Words.{subcommand_name_of, subcommand_rows, subcommand_rows_of}
 use Rattle.clap.specs.declared.parser.matches.ArgMatches.{ArgMatches}
 use Rattle.clap.specs.declared.parser.matches.ArgMatches.TheViews.{out-ArgMatches, out-SubCommand}
 use Rattle.clap.specs.declared.parser.matches.Found.{Found}
 use Rattle.clap.specs.declared.parser.matches.SubCommand.{SubCommand}
 use Rattle.clap.proofs.WalkLemmas.{first_value-rows, one_text-rows}
 use Rattle.torch_plan.specs.Requests.{IsAskedBy, IsEntered, Reads, Tells}
-use Rattle.torch_plan.specs.declared.command.Request.{Request}
+use Rattle.torch_plan.specs.declared.request.Request.{Request}
 
 -- neither of two
 pub neither : (a b : Bool) → a ≡ false → b ≡ false → (a || b) ≡ false

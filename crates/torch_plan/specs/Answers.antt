@@ -1,6 +1,6 @@
 -- What a run of the program reads, its exit status and what it writes. This is this project's own.
-use Rattle.std.specs.Prelude.{◌≡◌, ◌≢◌, ◌<◌, ◌⊎◌, ℕ, List, Option, Some, None, Result, Ok, Err, OnOk, IfOk, IfErr, IfSome}
-use Rattle.std.specs.Prelude.{IsSome, bytes_eq, codes, option_copied, option_map, if◌then◌else◌}
+use Rattle.std.specs.Prelude.{◌≡◌, ◌≢◌, ◌<◌, ◌⊎◌, ℕ, List, Option, Some, None, Result, Ok, Err, OnOk, IfOk}
+use Rattle.std.specs.Prelude.{IfErr, IfSome, IsSome, bytes_eq, codes, option_copied, option_map, if◌then◌else◌}
 use Rattle.std.specs.Io.KnownBytes.{Keeps}
 use Rattle.cave_model.specs.Rule.{Rule}
 use Rattle.cave_model.specs.RuleOf.{rule_of}
@@ -15,8 +15,8 @@ use Rattle.cave_runs.specs.declared.plan.Outcome.{Outcome}
 use Rattle.torch_plan.specs.Requests.{IsAsked}
 use Rattle.torch_plan.specs.Sources.{Sources}
 use Rattle.torch_plan.specs.Status.{end_status, judged, status}
-use Rattle.torch_plan.specs.declared.command.Request.{Request}
-use Rattle.torch_plan.specs.declared.command.Request.TheVariants.{Dark, Plan, Check}
+use Rattle.torch_plan.specs.declared.request.Request.{Request}
+use Rattle.torch_plan.specs.declared.request.Request.TheVariants.{Dark, Plan, Check}
 
 -- what is known of a structure: `-` is standard input
 abbrev pub structure_in : Sources → List ℕ → Option (List ℕ)
@@ -125,8 +125,8 @@ Does sources (Plan file table opts proof progress) old new code = (IsSome proof 
 Does sources (Check file proof table rule) old new code =
     RunsCheck sources file.now proof.now (option_copied table) (rule_of rule) old new code
 
--- what the words ask for was done; or nothing was, the system explained help or a mistake in usage, and the status is 0,
--- 2, or that of a failed write or of refused memory
+-- what the words ask for was done; or nothing was, the system explained help or a mistake in usage, and the status is
+-- 0, 2, or that of a failed write or of refused memory
 abbrev pub Answers : Sources → List (List ℕ) → Option (List ℕ) → Option (List ℕ) → ℕ → Type 0
 Answers sources words old new code = ((request : Request) × IsAsked words request × Does sources request old new code)
     ⊎ (Keeps old new × ((code ≡ 0) ⊎ (code ≡ 2) ⊎ (code ≡ 6) ⊎ (code ≡ 7)))

@@ -1,15 +1,15 @@
 -- What the words of a command line ask for. That 2 is the headroom, 1 the number of workers, and no limit that of turns
 -- unless told is this project's own.
-use Rattle.std.specs.Prelude.{◌≡◌, ◌<◌, ◌^◌, ℕ, Bool, true, false, List, Option, Some, None, codes, nat_eq, option_copied}
-use Rattle.std.specs.Prelude.{unwrap_or, if◌then◌else◌}
+use Rattle.std.specs.Prelude.{◌≡◌, ◌<◌, ◌^◌, ℕ, Bool, true, false, List, Option, Some, None, codes}
+use Rattle.std.specs.Prelude.{nat_eq, option_copied, unwrap_or, if◌then◌else◌}
 use Rattle.std.specs.Str.Parse.{IsNumeral, digits_value, without_leading_plus}
 use Rattle.clap.specs.Words.{Row, Text, first_of, one_of, subcommand_of}
 use Rattle.cave_model.specs.Rule.{Rule}
 use Rattle.cave_model.specs.RuleOf.{rule_of}
 use Rattle.torch_plan.specs.Options.{torchplan}
 use Rattle.torch_plan.specs.Versions.{IsNeedFor}
-use Rattle.torch_plan.specs.declared.command.Request.{Request}
-use Rattle.torch_plan.specs.declared.command.Request.TheVariants.{Dark, Plan, Check}
+use Rattle.torch_plan.specs.declared.request.Request.{Request}
+use Rattle.torch_plan.specs.declared.request.Request.TheVariants.{Dark, Plan, Check}
 
 -- a number of so many bits in decimal digits, after a plus or without one; and which
 abbrev pub IsNumber : ℕ → Text → Type 0

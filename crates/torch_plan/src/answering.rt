@@ -4,7 +4,7 @@ ghost use Rattle.std.specs.Io.KnownBytes.{Keeps};
 ghost use Rattle.torch_plan.specs.Answers.{Answers, Does};
 ghost use Rattle.torch_plan.specs.Status.{IsRefused, end_status, judged, status};
 
-use crate::command::{Request, request_of};
+use crate::request::{Request, request_of};
 use crate::runs::{answer_check, answer_dark, answer_plan};
 use crate::status::status_of;
 use crate::system::System;

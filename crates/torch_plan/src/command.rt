@@ -1,52 +1,14 @@
-//! The command line.
-ghost use Rattle.std.specs.Prelude.{◌≡◌, ◌⊎◌, false, IfOk, IfSome, codes, map, string_bytes};
-ghost use Rattle.cave_model.specs.RuleOf.{rule_of};
-ghost use Rattle.clap.specs.Words.{found_of, rows_of, subcommand_rows_of};
+//! The command line: its commands and their options.
+ghost use Rattle.std.specs.Prelude.{◌≡◌, false, IfOk, codes};
 ghost use Rattle.clap.specs.Words as words;
 ghost use Rattle.torch_plan.specs.Options.{IsCommand};
 ghost use Rattle.torch_plan.specs.Options as options;
-ghost use Rattle.torch_plan.specs.Requests.{IsAsked, IsAskedBy, IsCrewOf, IsEntered, IsRuleOf};
-ghost use Rattle.torch_plan.specs.Requests as requests;
 
-use crate::version::need_for;
-use cave_model::Rule;
-use cave_runs::{PlanOpts, Workers};
-use clap::error::ErrorKind;
-use clap::{Arg, ArgAction, ArgMatches, Command, Error};
+use clap::{Arg, ArgAction, Command};
 use std::alloc::{AllocError, Global};
 
 /// The version, and the toolchain that it was proved with.
-const VERSION: &str = "0.5.0 (proved with rattle-kit-13b)";
-
-/// What the words of a command line ask for. A structure is in the file, or in standard input where that is `-`; its
-/// blocks go by the user's table in that file, where there is one, before the shipped rows.
-#[derive(Clone, Copy, Debug, PartialEq, Eq)]
-pub enum Request<'a> {
-    /// The dark cells of the structure.
-    Dark {
-        file: &'a str,
-        table: Option<&'a str>,
-        rule: Rule,
-        /// Whether standard error tells where the box cuts the cave.
-        progress: bool,
-    },
-    /// The fewest torches of the structure, and a certificate in the file `proof`, where there is one.
-    Plan {
-        file: &'a str,
-        table: Option<&'a str>,
-        opts: PlanOpts,
-        proof: Option<&'a str>,
-        /// Whether standard error tells that too, and how the plan gets on.
-        progress: bool,
-    },
-    /// The verdict on the certificate in the file `proof`, which is never standard input.
-    Check {
-        file: &'a str,
-        proof: &'a str,
-        table: Option<&'a str>,
-        rule: Rule,
-    },
-}
+const VERSION: &str = "0.5.0 (proved with rattle-kit-13f)";
 
 fn file<'a>(alloc: Global) -> Arg<'a>
     ensures rule { words.rule_of result ≡ options.placed (codes "FILE") }
@@ -195,7 +157,8 @@ fn check_command<'a>(alloc: Global) -> Result<Command<'a>, AllocError>
         .arg(table(alloc))
 }
 
-fn command<'a>(alloc: Global) -> Result<Command<'a>, AllocError>
+/// The program's command.
+pub(crate) fn command<'a>(alloc: Global) -> Result<Command<'a>, AllocError>
     ensures { IfOk result (IsCommand options.torchplan) }
 {
     Command::new(alloc, "torchplan")
@@ -209,99 +172,4 @@ fn command<'a>(alloc: Global) -> Result<Command<'a>, AllocError>
         .subcommand(dark_command(alloc)?)?
         .subcommand(plan_command(alloc)?)?
         .subcommand(check_command(alloc)?)
-}
-
-/// Headroom 1 where that is told, and else 2.
-fn headroom_by(told: Option<u8>) -> u8
-    ensures headroom { result ≡ requests.headroom_by told }
-    ensures one_or_two { (result ≡ 1) ⊎ (result ≡ 2) }
-{
-    match told {
-        Some(told) if told == 1 => 1,
-        _ => 2,
-    }
-}
-
-/// The rule that the words name: headroom 2 and version 1.18 unless told. None for another version.
-fn rule_of(matches: &ArgMatches) -> Option<Rule>
-    ensures { IfSome result (λ rule. IsRuleOf (rows_of (found_of matches.now)) (rule_of rule)) }
-{
-    let need = need_for(matches.get_str("rule"))?;
-    let headroom = headroom_by(matches.get_one::<u8>("headroom"));
-    Some(Rule::new(headroom, need))
-}
-
-fn dark_of<'a>(matches: &ArgMatches<'a>) -> Option<Request<'a>>
-    ensures { IfSome result (IsAskedBy (codes "dark") (rows_of (found_of matches.now))) }
-{
-    Some(Request::Dark {
-        file: matches.get_str("FILE")?,
-        table: matches.get_str("table"),
-        rule: rule_of(matches)?,
-        progress: matches.get_flag("progress"),
-    })
-}
-
-/// How many workers the words name: one unless told.
-fn workers_of(matches: &ArgMatches) -> Option<Workers>
-    ensures { IfSome result (λ workers. IsCrewOf (rows_of (found_of matches.now)) workers.number) }
-{
-    let told = matches.get_one::<u8>("workers");
-    Workers::new(u32::from(told.unwrap_or(1)))
-}
-
-fn plan_of<'a>(matches: &ArgMatches<'a>) -> Option<Request<'a>>
-    ensures { IfSome result (IsAskedBy (codes "plan") (rows_of (found_of matches.now))) }
-{
-    Some(Request::Plan {
-        file: matches.get_str("FILE")?,
-        table: matches.get_str("table"),
-        opts: PlanOpts {
-            rule: rule_of(matches)?,
-            workers: workers_of(matches)?,
-            turns: matches.get_one::<u64>("turns"),
-        },
-        proof: matches.get_str("proof"),
-        progress: matches.get_flag("progress"),
-    })
-}
-
-fn check_of<'a>(matches: &ArgMatches<'a>) -> Option<Request<'a>>
-    ensures { IfSome result (IsAskedBy (codes "check") (rows_of (found_of matches.now))) }
-{
-    Some(Request::Check {
-        file: matches.get_str("FILE")?,
-        proof: matches.get_str("PROOF")?,
-        table: matches.get_str("table"),
-        rule: rule_of(matches)?,
-    })
-}
-
-/// What the command that was entered asks for.
-fn asked<'a>(matches: &ArgMatches<'a>) -> Option<Request<'a>>
-    ensures { IfSome result (IsEntered (subcommand_rows_of matches.now)) }
-{
-    if let Some(dark) = matches.subcommand_matches("dark") {
-        return dark_of(dark);
-    }
-    if let Some(plan) = matches.subcommand_matches("plan") {
-        return plan_of(plan);
-    }
-    if let Some(check) = matches.subcommand_matches("check") {
-        return check_of(check);
-    }
-    None
-}
-
-/// What the words ask for; the first is the program's name. An error has the text for the user: help where that was
-/// asked for, else the mistake and the usage.
-pub fn request_of<'a>(alloc: Global, words: &'a [String]) -> Result<Request<'a>, Error>
-    ensures { IfOk result (IsAsked (map (λ word. string_bytes word) words.entry.now)) }
-{
-    let mut command = command(alloc)?;
-    let matches = command.try_get_matches_from_mut(words)?;
-    match asked(&matches) {
-        Some(request) => Ok(request),
-        None => Err(command.error(ErrorKind::InvalidValue, "--rule is 1.18 or 1.17")?),
-    }
 }

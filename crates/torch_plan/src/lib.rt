@@ -5,6 +5,7 @@ mod advance;
 mod answering;
 mod command;
 mod planner;
+mod request;
 mod runs;
 mod status;
 mod system;
@@ -17,7 +18,7 @@ pub use cave_runs::{
     Input, Name, Observer, OpenSides, Outcome, PlanOpts, RunFault, Unkept, Unobserved, Verdict,
     Watcher, Workers, read_table, run_check, run_dark,
 };
-pub use command::{Request, request_of};
 pub use planner::{run_plan, run_plan_alone};
+pub use request::{Request, request_of};
 pub use status::status_of;
 pub use system::System;

@@ -2,7 +2,7 @@ use Rattle.std.proofs.Common.{◌∙◌, ap, codes, refl}
 use Rattle.std.specs.Prelude.{option_copied}
 use Rattle.clap.specs.Words.{found_of}
 use Rattle.torch_plan.proofs.WordLemmas.{text_of}
-use Rattle.torch_plan.proofs.command.check_of.Goals as goal
+use Rattle.torch_plan.proofs.request.check_of.Goals as goal
 
 pub returns : goal.returns
 returns c = let f = found_of c.args.matches.now in (

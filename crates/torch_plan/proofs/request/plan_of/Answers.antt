@@ -4,7 +4,7 @@ use Rattle.std.specs.Str.Parse.{ParsesUnsigned, ExplainsUnsignedError, HasUnsign
 use Rattle.clap.specs.Words.{found_of}
 use Rattle.clap.proofs.WalkLemmas.{one_text-rows}
 use Rattle.torch_plan.proofs.WordLemmas.{text_of, told_by}
-use Rattle.torch_plan.proofs.command.plan_of.Goals as goal
+use Rattle.torch_plan.proofs.request.plan_of.Goals as goal
 
 pub returns : goal.returns
 returns c = let f = found_of c.args.matches.now in let flag = one_text-rows f (codes "progress") in (

@@ -4,7 +4,7 @@ use Rattle.clap.specs.Words.{App, Row, Text, is_simple, subcommand_of}
 use Rattle.clap.proofs.OnLiterals.{clap_on_literals}
 use Rattle.torch_plan.specs.Options.{torchplan}
 use Rattle.torch_plan.specs.Requests.{IsEntered}
-use Rattle.torch_plan.proofs.command.request_of.Goals as goal
+use Rattle.torch_plan.proofs.request.request_of.Goals as goal
 
 -- the command is one of which the words give the matches
 simple : is_simple torchplan ≡ true

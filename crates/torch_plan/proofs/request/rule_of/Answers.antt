@@ -3,7 +3,7 @@ use Rattle.std.specs.Str.Parse.{ParsesUnsigned, ExplainsUnsignedError, HasUnsign
 use Rattle.clap.specs.Words.{Text, first_of, found_of, rows_of}
 use Rattle.torch_plan.specs.Versions.{IsNeedFor}
 use Rattle.torch_plan.proofs.WordLemmas.{text_of, told_by}
-use Rattle.torch_plan.proofs.command.rule_of.Goals as goal
+use Rattle.torch_plan.proofs.request.rule_of.Goals as goal
 
 pub returns : goal.returns
 returns c =

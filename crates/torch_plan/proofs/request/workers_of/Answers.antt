@@ -2,7 +2,7 @@ use Rattle.std.proofs.Common.{◌∙◌, codes}
 use Rattle.std.specs.Str.Parse.{ParsesUnsigned, ExplainsUnsignedError, HasUnsignedDigitsIfOk}
 use Rattle.clap.specs.Words.{found_of}
 use Rattle.torch_plan.proofs.WordLemmas.{some_of, told_by}
-use Rattle.torch_plan.proofs.command.workers_of.Goals as goal
+use Rattle.torch_plan.proofs.request.workers_of.Goals as goal
 
 pub returns : goal.returns
 returns c =

@@ -1,7 +1,7 @@
 use Rattle.std.proofs.Common.{codes, refl}
 use Rattle.clap.specs.Words.{found_of, rows_of}
 use Rattle.torch_plan.proofs.WordLemmas.{entered_by}
-use Rattle.torch_plan.proofs.command.asked.Goals as goal
+use Rattle.torch_plan.proofs.request.asked.Goals as goal
 
 pub returns-in-Some : goal.returns-in-Some
 returns-in-Some c =

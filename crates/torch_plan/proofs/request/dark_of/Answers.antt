@@ -3,7 +3,7 @@ use Rattle.std.specs.Prelude.{option_copied}
 use Rattle.clap.specs.Words.{found_of}
 use Rattle.clap.proofs.WalkLemmas.{one_text-rows}
 use Rattle.torch_plan.proofs.WordLemmas.{text_of}
-use Rattle.torch_plan.proofs.command.dark_of.Goals as goal
+use Rattle.torch_plan.proofs.request.dark_of.Goals as goal
 
 pub returns : goal.returns
 returns c = let f = found_of c.args.matches.now in let flag = one_text-rows f (codes "progress") in (
