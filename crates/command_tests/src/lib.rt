@@ -1,18 +1,9 @@
-//! The command line: each command, status and mistake over files that lie in memory, and whole outputs.
+//! The command line, of what no file of cases can say: what words ask for, help that can't be printed, and the proof's
+//! file against the run's own.
 #![tactic(auto)]
 
 #[cfg(test)]
 mod answering;
-#[cfg(test)]
-mod compared;
-#[cfg(test)]
-mod edges;
-#[cfg(test)]
-mod outputs;
-#[cfg(test)]
-mod planned;
-#[cfg(test)]
-mod proof_files;
 #[cfg(test)]
 mod shelf;
 #[cfg(test)]

@@ -1,49 +1,51 @@
 //! A system whose files lie in memory.
 
 use clap::Error;
-use std::alloc::Global;
-use std::io::{self, Read};
-use std::sync::atomic::{AtomicU64, Ordering};
+use std::alloc::{AllocError, Global};
+use std::cell::Cell;
+use std::io::{self, Error as Failed, ErrorKind, Read, Write};
 use torch_plan::{RunFault, System};
 
-/// The files by their paths, and what was said. A path `locked` can't be made.
+/// What was told and written: how often help and a fault were told, and what stands in the file that was made.
 #[derive(Drop)]
-pub struct Shelf<'a> {
-    pub alloc: Global,
-    pub files: &'a [(&'a str, &'a [u8])],
-    pub input: &'a [u8],
-    /// Whether help and mistakes can be printed.
-    pub is_heard: bool,
-    pub explained: AtomicU64,
-    pub objected: AtomicU64,
-    pub refused: AtomicU64,
-    pub watched: AtomicU64,
+pub struct Notes {
+    alloc: Global,
+    pub explained: Cell<u32>,
+    pub refused: Cell<u32>,
+    kept: Cell<Vec<u8>>,
 }
 
-impl<'a> Shelf<'a> {
-    /// Nothing was said yet.
-    pub fn new(alloc: Global, files: &'a [(&'a str, &'a [u8])], input: &'a [u8]) -> Shelf<'a> {
-        Shelf {
+impl Notes {
+    /// Nothing was told or written yet.
+    pub fn new(alloc: Global) -> Notes {
+        Notes {
             alloc,
-            files,
-            input,
-            is_heard: true,
-            explained: AtomicU64::new(0),
-            objected: AtomicU64::new(0),
-            refused: AtomicU64::new(0),
-            watched: AtomicU64::new(0),
+            explained: Cell::new(0),
+            refused: Cell::new(0),
+            kept: Cell::new(Vec::new(alloc)),
         }
     }
 
-    /// How often help or a mistake, an objection, and a fault were printed, and how many runs were to be told of.
-    pub fn said(&self) -> [u64; 4] {
-        [
-            self.explained.load(Ordering::SeqCst),
-            self.objected.load(Ordering::SeqCst),
-            self.refused.load(Ordering::SeqCst),
-            self.watched.load(Ordering::SeqCst),
-        ]
+    fn keep(&self, bytes: &[u8]) -> Result<(), AllocError> {
+        let mut kept = self.kept.replace(Vec::new(self.alloc));
+        let ended = kept.extend_from_slice(bytes);
+        self.kept.set(kept);
+        ended
     }
+
+    /// What was written to the file.
+    pub fn kept(&self) -> Vec<u8> {
+        self.kept.replace(Vec::new(self.alloc))
+    }
+}
+
+/// The files by their names, and standard input; and whether help can be printed.
+#[derive(Drop)]
+pub struct Shelf<'a> {
+    pub files: &'a [(&'a str, &'a [u8])],
+    pub input: &'a [u8],
+    pub is_heard: bool,
+    pub notes: &'a Notes,
 }
 
 /// A file in memory, of whose bytes nothing is known to contracts, as of those of a host.
@@ -52,16 +54,28 @@ pub struct MemoryFile<'a> {
     bytes: &'a [u8],
 }
 
-impl<'a> MemoryFile<'a> {
-    /// A file with these bytes.
-    pub fn new(bytes: &'a [u8]) -> MemoryFile<'a> {
-        MemoryFile { bytes }
-    }
-}
-
 impl Read for MemoryFile<'_> {
     fn read(&mut self, buffer: &mut [u8]) -> io::Result<usize> {
         self.bytes.read(buffer)
+    }
+}
+
+/// The file that is made.
+#[derive(Drop)]
+pub struct Kept<'a> {
+    notes: &'a Notes,
+}
+
+impl Write for Kept<'_> {
+    fn write(&mut self, buf: &[u8]) -> io::Result<usize> {
+        match self.notes.keep(buf) {
+            Ok(()) => Ok(buf.len()),
+            Err(_) => Err(Failed::from(ErrorKind::OutOfMemory)),
+        }
+    }
+
+    fn flush(&mut self) -> io::Result<()> {
+        Ok(())
     }
 }
 
@@ -74,26 +88,23 @@ impl<'a> System for Shelf<'a> {
 
     type Standard = MemoryFile<'a>;
 
-    type Kept = Vec<u8>;
+    type Kept = Kept<'a>;
 
     fn open(&self, path: &str) -> Option<MemoryFile<'a>> {
         for (name, bytes) in self.files {
             if *name == path {
-                return Some(MemoryFile::new(*bytes));
+                return Some(MemoryFile { bytes: *bytes });
             }
         }
         None
     }
 
     fn standard(&self) -> MemoryFile<'a> {
-        MemoryFile::new(self.input)
+        MemoryFile { bytes: self.input }
     }
 
-    fn create(&self, path: &str) -> Option<Vec<u8>> {
-        if path == "locked" {
-            return None;
-        }
-        Some(Vec::new(self.alloc))
+    fn create(&self, _path: &str) -> Option<Kept<'a>> {
+        Some(Kept { notes: self.notes })
     }
 
     fn is_same(&self, path: &str, other: &str) -> bool {
@@ -101,20 +112,19 @@ impl<'a> System for Shelf<'a> {
     }
 
     fn explain(&self, _error: &Error) -> bool {
-        self.explained.fetch_add(1, Ordering::SeqCst);
+        self.notes
+            .explained
+            .set(self.notes.explained.get().wrapping_add(1));
         self.is_heard
     }
 
-    fn object(&self, _mistake: &str) {
-        self.objected.fetch_add(1, Ordering::SeqCst);
-    }
+    fn object(&self, _mistake: &str) {}
 
     fn refuse(&self, _fault: &RunFault) {
-        self.refused.fetch_add(1, Ordering::SeqCst);
+        self.notes
+            .refused
+            .set(self.notes.refused.get().wrapping_add(1));
     }
 
-    fn watch(&self, is_asked: bool) {
-        self.watched
-            .fetch_add(u64::from(is_asked), Ordering::SeqCst);
-    }
+    fn watch(&self, _is_asked: bool) {}
 }

@@ -1,5 +1,5 @@
 //! What no clause of the reader, the scan, the table, the cave and the checker shows: the values that bytes from
-//! outside mean, each fault and its text, and memory; and the worked certificates, judged.
+//! outside mean, each fault and its text, and memory.
 #![tactic(auto)]
 
 #[cfg(test)]

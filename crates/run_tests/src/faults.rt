@@ -1,12 +1,12 @@
 //! The exact words of faults and of what is told beside them, and the statuses of faults.
 
-use crate::running::line_of;
+use crate::planning::line_of;
 use block_rows::{RowFault, RowsFault};
 use cover_rows::CoverFault;
 use nbt_core::NbtFault;
 use scan_core::{Field, ScanFault};
 use std::test::Fail;
-use torch_plan::{Advance, Input, RunFault, Verdict, status_of};
+use torch_plan::{Advance, Input, OpenSides, RunFault, Verdict, status_of};
 
 /// A fault of a structure, and its words.
 #[derive(Clone, Copy)]
@@ -160,5 +160,40 @@ fn standings_verdicts_and_faults_of_coverage_have_their_words(rt: HostRuntime) -
     assert_eq!(rt; line.as_str(), "accepted 262144");
     let line = format!(in alloc; "{}", CoverFault::Unlightable { cell: u32::MAX })?;
     assert_eq!(rt; line.as_str(), "unlightable 4294967295");
+    Ok(())
+}
+
+#[test]
+fn open_sides_have_their_words(rt: HostRuntime) -> Result<(), Fail> {
+    let alloc = rt.alloc();
+    let all = OpenSides {
+        west: 4,
+        east: 1,
+        north: 262_144,
+        south: 2,
+        below: 12,
+        above: u32::MAX,
+    };
+    let line = format!(in alloc; "{}", Advance::Open(all))?;
+    assert_eq!(rt;
+        line.as_str(),
+        "free cells lie at the box's edge: 4 west, 1 east, 262144 north, 2 south, 12 below, \
+        4294967295 above; outside counts as solid nothing, without ground, light or room, so save a block more of \
+        floor, walls and ceiling"
+    );
+    let two = OpenSides {
+        west: 4,
+        east: 0,
+        north: 0,
+        south: 0,
+        below: 12,
+        above: 0,
+    };
+    let line = format!(in alloc; "{}", Advance::Open(two))?;
+    assert_eq!(rt;
+        line.as_str(),
+        "free cells lie at the box's edge: 4 west, 12 below; outside counts as solid nothing, \
+        without ground, light or room, so save a block more of floor, walls and ceiling"
+    );
     Ok(())
 }

@@ -1,5 +1,5 @@
-//! The worked examples: caves built byte by byte, run through the library, and compared text by text; and rings planned
-//! by many workers, which gates hold back until others have work too.
+//! Runs from bytes to bytes, of what no file of cases can say: streams that fail, inputs at their limits, long texts,
+//! and the words of faults; and rings planned by many workers, which gates hold back until others have work too.
 #![tactic(auto)]
 
 #[cfg(test)]
@@ -7,17 +7,11 @@ mod check_streams;
 #[cfg(test)]
 mod counted;
 #[cfg(test)]
-mod damaged;
-#[cfg(test)]
-mod dark;
+mod dark_streams;
 #[cfg(test)]
 mod entering;
 #[cfg(test)]
-mod failing_once;
-#[cfg(test)]
 mod faults;
-#[cfg(test)]
-mod fewest;
 #[cfg(test)]
 mod gates;
 #[cfg(test)]
@@ -25,21 +19,13 @@ mod limits;
 #[cfg(test)]
 mod long_texts;
 #[cfg(test)]
-mod plan;
-#[cfg(test)]
 mod plan_streams;
 #[cfg(test)]
 mod planning;
 #[cfg(test)]
+mod reached;
+#[cfg(test)]
 mod ring_caves;
-#[cfg(test)]
-mod rules;
-#[cfg(test)]
-mod running;
-#[cfg(test)]
-mod streams;
-#[cfg(test)]
-mod tables;
 #[cfg(test)]
 mod through;
 #[cfg(test)]

@@ -1,8 +1,6 @@
 //! Inputs at their limits and past them, a reader without end, and a table without bytes.
 
 use crate::planning::freely;
-use crate::running::prints;
-use cave_files::caves::PILLAR;
 use cave_files::streams::zeros_of;
 use nbt_core::NbtFault;
 use scan_core::ScanFault;
@@ -92,8 +90,6 @@ fn a_table_may_be_empty_or_of_the_limit(rt: HostRuntime) -> Result<(), Fail> {
     let alloc = rt.alloc();
     let table = read_table(alloc, &mut zeros_of(0))?;
     assert!(rt; table.is_empty());
-    let rule = Rule::new(2, 1);
-    prints(&rt, alloc, &PILLAR, Some(&table), rule, "dark 1\n0 1 0\n")?;
     let mut spaces = Vec::new(alloc);
     for _ in 0..TABLE_LIMIT {
         spaces.push(b' ')?;

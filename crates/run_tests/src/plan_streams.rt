@@ -1,6 +1,6 @@
 //! Readers and writers that fail, by `plan`.
 
-use crate::planning::{alone, freely, plan_run};
+use crate::planning::{alone, freely, lines_with, plan_run};
 use cave_files::caves::{PILLAR, RING};
 use cave_files::streams::{idle_writer, reader_of, writer_of};
 use std::alloc::{AllocError, Global};
@@ -33,23 +33,6 @@ fn proof_of<X: Threads + Wait + Sync>(
 ) -> Result<Vec<u8>, AllocError> {
     let whole = plan_run(rt, alloc, bytes, None, opts)?;
     Ok(whole.proof)
-}
-
-#[test]
-fn all_may_go_byte_by_byte(rt: HostRuntime) -> Result<(), Fail> {
-    let alloc = rt.alloc();
-    let bytes = PILLAR.bytes(alloc)?;
-    let opts = freely(&rt);
-    let whole = proof_of(&rt, alloc, &bytes, &opts)?;
-    let mut reader = reader_of(&bytes, usize::MAX);
-    let mut writer = writer_of(alloc, usize::MAX);
-    let mut proof = writer_of(alloc, usize::MAX);
-    let ended = run_over(&rt, alloc, &mut reader, &opts, &mut writer, &mut proof);
-    assert!(rt; matches!(&ended, Ok(Outcome::Done)));
-    assert_eq!(rt; writer.taken.as_slice(), PLAN);
-    assert_eq!(rt; proof.taken.as_slice(), whole.as_slice());
-    assert!(rt; whole.ends_with(b"\nend\n"));
-    Ok(())
 }
 
 #[test]
@@ -132,7 +115,7 @@ fn writers_of_a_plan_that_take_nothing_have_failed(rt: HostRuntime) -> Result<()
 }
 
 #[test]
-fn a_failed_write_of_a_stopped_plan_leaves_a_beginning_and_no_certificate(
+fn one_turn_stops_the_ring_and_a_failed_write_of_that_leaves_a_beginning_and_no_certificate(
     rt: HostRuntime,
 ) -> Result<(), Fail> {
     let alloc = rt.alloc();
@@ -140,6 +123,13 @@ fn a_failed_write_of_a_stopped_plan_leaves_a_beginning_and_no_certificate(
     let opts = alone(&rt, Rule::new(2, 1), Some(1));
     let whole = plan_run(&rt, alloc, &bytes, None, &opts)?;
     assert!(rt; whole.outcome == Some(Outcome::Stopped));
+    assert!(rt; whole.proof.is_empty());
+    assert!(rt; lines_with(&whole.text, b'T') >= 2);
+    let first = whole.text.split(|byte| *byte == b'\n').next();
+    let Some(line) = first else {
+        return Err(Fail::from("no line"));
+    };
+    assert!(rt; line.ends_with(b" at-least 1") || line.ends_with(b" at-least 2"));
     for fails_at in 0..40usize {
         let mut reader = bytes.as_slice();
         let mut writer = writer_of(alloc, fails_at);

@@ -1,12 +1,13 @@
 //! One run of `plan`, and what is expected of it.
 
-use crate::running::line_of;
 use std::alloc::{AllocError, Global};
 use std::process::Abort;
 use std::sync::Wait;
 use std::test::Fail;
 use std::thread::Threads;
-use torch_plan::{Outcome, PlanOpts, Rule, Unobserved, Watcher, Workers, run_check, run_plan};
+use torch_plan::{
+    Outcome, PlanOpts, Rule, RunFault, Unobserved, Watcher, Workers, run_check, run_plan,
+};
 
 /// How a run ended, or its fault line without `torchplan: `; and what was written to both writers.
 #[derive(Drop)]
@@ -63,6 +64,11 @@ pub fn plan_by<X: Threads + Wait + Sync, G: Watcher>(
             proof,
         }),
     }
+}
+
+/// The words of a fault.
+pub fn line_of(alloc: Global, fault: &RunFault) -> Result<String, AllocError> {
+    format!(in alloc; "{fault}")
 }
 
 /// So many workers, which are 1 to 64.

@@ -26,12 +26,6 @@ pub const LANTERN: Block<'static> = Block {
     props: &[],
 };
 
-/// A block that no shipped row names.
-pub const STAIRS: Block<'static> = Block {
-    name: "minecraft:oak_stairs",
-    props: &[],
-};
-
 /// A block that holds no torch and lets no light through, known by the table below alone.
 pub const FELT: Block<'static> = Block {
     name: "cave:felt",

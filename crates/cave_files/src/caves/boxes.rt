@@ -1,6 +1,6 @@
 //! The smallest caves, and the largest.
 
-use super::blocks::{AIR, STAIRS, STONE};
+use super::blocks::{AIR, STONE};
 use crate::structure::{Fill, Structure};
 
 /// A box without a cell.
@@ -15,25 +15,6 @@ pub const EMPTY: Structure<'static> = Structure {
 pub const PILLAR: Structure<'static> = Structure {
     size: [1, 3, 1],
     palette: &[STONE, AIR],
-    fills: &[
-        Fill {
-            from: [0, 0, 0],
-            to: [0, 0, 0],
-            state: Some(0),
-        },
-        Fill {
-            from: [0, 1, 0],
-            to: [0, 2, 0],
-            state: Some(1),
-        },
-    ],
-    more: &[],
-};
-
-/// The same with a block at the bottom that no row knows.
-pub const ON_STAIRS: Structure<'static> = Structure {
-    size: [1, 3, 1],
-    palette: &[STAIRS, AIR],
     fills: &[
         Fill {
             from: [0, 0, 0],

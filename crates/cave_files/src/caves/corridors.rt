@@ -1,6 +1,6 @@
 //! Corridors, two high but for one, and the parts of a corridor of 27 cells.
 
-use super::blocks::{AIR, FELT, STAIRS, STONE, TORCH};
+use super::blocks::{AIR, STONE, TORCH};
 use crate::structure::{Fill, Structure};
 
 /// All of the box of a corridor of 27 cells.
@@ -17,32 +17,11 @@ pub const DUG: Fill = Fill {
     state: Some(1),
 };
 
-/// The palette's third state in a corner of the box.
-pub const IN_A_CORNER: Fill = Fill {
-    from: [0, 0, 0],
-    to: [0, 0, 0],
-    state: Some(2),
-};
-
-/// The same in the ground of the corridor's middle.
+/// The palette's third state in the ground of the corridor's middle.
 pub const BELOW_THE_MIDDLE: Fill = Fill {
     from: [14, 0, 1],
     to: [14, 0, 1],
     state: Some(2),
-};
-
-/// No entry in the lower cell of the corridor's middle.
-pub const VOID_OF_ONE: Fill = Fill {
-    from: [14, 1, 1],
-    to: [14, 1, 1],
-    state: None,
-};
-
-/// No entry in both cells of the corridor's middle.
-pub const VOID_OF_TWO: Fill = Fill {
-    from: [14, 1, 1],
-    to: [14, 2, 1],
-    state: None,
 };
 
 /// A corridor of 27 cells, two high, which one torch lights.
@@ -69,14 +48,6 @@ pub const LIT_27: Structure<'static> = Structure {
     more: &[],
 };
 
-/// A corridor of 27 cells in felt, where nothing holds a torch.
-pub const FELT_27: Structure<'static> = Structure {
-    size: [29, 4, 3],
-    palette: &[FELT, AIR],
-    fills: &[ROCK, DUG],
-    more: &[],
-};
-
 /// A corridor of 27 cells, one high.
 pub const LOW_27: Structure<'static> = Structure {
     size: [29, 4, 3],
@@ -89,14 +60,6 @@ pub const LOW_27: Structure<'static> = Structure {
             state: Some(1),
         },
     ],
-    more: &[],
-};
-
-/// A corridor of 27 cells with a block in a corner of its box that no shipped row names.
-pub const STAIRS_27: Structure<'static> = Structure {
-    size: [29, 4, 3],
-    palette: &[STONE, AIR, STAIRS],
-    fills: &[ROCK, DUG, IN_A_CORNER],
     more: &[],
 };
 
