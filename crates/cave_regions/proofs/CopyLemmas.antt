@@ -6,28 +6,26 @@ use Rattle.std.proofs.lemmas.Bool.{cases_lt}
 use Rattle.set_cover.specs.Bits.{Has, IsWith, IsNext, HasNoneFrom}
 use Rattle.set_cover.specs.Instance.{Instance, LightsAt, row_of, words_for}
 use Rattle.set_cover.proofs.OrderLemmas.{element_at, element_of}
-use Rattle.cave_regions.specs.Restricting.{IsSelfContained, Copies, HasRoom, AreCopied, AreRanks, AreEmpty}
+use Rattle.cave_regions.specs.Restricting.{IsSelfContained, Moves, Copies, HasRoom, AreCopied, AreRanks, AreEmpty}
 
 -- ---- one row
 
--- the bits of the row before this one are copied
-pub record CopiedTo (old row ranks : List ℕ) (base from : ℕ) (new : List ℕ) : Type 0 where
+-- the bits of the row before this one are moved
+pub record MovedTo (old row : List ℕ) (moved : ℕ → ℕ) (from : ℕ) (new : List ℕ) : Type 0 where
   pub whole : length new ≡ length old
-  pub exact : (bit : ℕ) → Has new bit
-      ↔ (Has old bit ⊎ ((c : ℕ) × (c < from) × Has row c × (bit ≡ base + slice_index ranks c)))
+  pub exact : (bit : ℕ) → Has new bit ↔ (Has old bit ⊎ ((c : ℕ) × (c < from) × Has row c × (bit ≡ moved c)))
 
--- before the first bit nothing is copied
-pub copied_none : (old row ranks : List ℕ) (base : ℕ) → CopiedTo old row ranks base 0 old
-copied_none old row ranks base = record {
+-- before the first bit nothing is moved
+pub moved_none : (old row : List ℕ) (moved : ℕ → ℕ) → MovedTo old row moved 0 old
+moved_none old row moved = record {
   whole = refl;
   exact = λ bit. (λ h. inl h, λ h. elim h [ inl was ↦ was | inr some ↦ absurd (omega (arith, some.1)) ]);
 }
 
--- the next bit of the row is copied to its rank
-pub copied_next : (old row ranks new next : List ℕ) (base from bit : ℕ) → IsNext row from bit
-    → IsWith new (base + slice_index ranks bit) next → CopiedTo old row ranks base from new
-    → CopiedTo old row ranks base (bit + 1) next
-copied_next old row ranks new next base from bit is more s = record {
+-- the next bit of the row is moved
+pub moved_next : (old row : List ℕ) (moved : ℕ → ℕ) (new next : List ℕ) (from bit : ℕ) → IsNext row from bit
+    → IsWith new (moved bit) next → MovedTo old row moved from new → MovedTo old row moved (bit + 1) next
+moved_next old row moved new next from bit is more s = record {
   whole = more.whole ∙ s.whole;
   exact = λ other. (
     λ h. (elim ((more.exact other).0 h) [
@@ -42,17 +40,16 @@ copied_next old row ranks new next base from bit is more s = record {
       | inr some ↦ (elim (cases_lt some.0 from) [
         | inl lt ↦ inl ((s.exact other).1 (inr (some.0, lt, some.2, some.3)))
         | inr le ↦ (let low = is.least some.0 le some.2 in
-            let same : some.0 ≡ bit = omega (arith, some.1) in
-            inr (some.3 ∙ ap (λ (c : ℕ). base + slice_index ranks c) same))
+            let same : some.0 ≡ bit = omega (arith, some.1) in inr (some.3 ∙ ap moved same))
       ])
     ]),
   );
 }
 
--- after the last the whole row is copied
-pub copied_all : (old row ranks new : List ℕ) (base from : ℕ) → HasNoneFrom row from
-    → CopiedTo old row ranks base from new → Copies old row ranks base new
-copied_all old row ranks new base from none s = record {
+-- after the last the whole row is moved
+pub moved_all : (old row : List ℕ) (moved : ℕ → ℕ) (new : List ℕ) (from : ℕ) → HasNoneFrom row from
+    → MovedTo old row moved from new → Moves old row moved new
+moved_all old row moved new from none s = record {
   whole = s.whole;
   exact = λ bit. (
     λ h. (elim ((s.exact bit).0 h) [
@@ -72,7 +69,7 @@ copied_all old row ranks new base from none s = record {
 -- ---- all rows
 
 -- a bit stands in one row, at one cell
-same_row : (width p q c d : ℕ) → c < 64 * width → d < 64 * width → 64 * (p * width) + c ≡ 64 * (q * width) + d
+pub same_row : (width p q c d : ℕ) → c < 64 * width → d < 64 * width → 64 * (p * width) + c ≡ 64 * (q * width) + d
     → (p ≡ q) × (c ≡ d)
 same_row width p q c d small_c small_d e = elim (cases_lt p q) [
   | inl lt ↦ (let more : width * (p + 1) ≤ width * q = mul-le-mul_left width (omega arith) in absurd (omega arith))

@@ -2,6 +2,7 @@ pub mod FlatLemmas
 pub mod CaveLemmas
 pub mod CoverLemmas
 pub mod CopyLemmas
+pub mod ColumnLemmas
 pub mod RestrictLemmas
 pub mod PartLemmas
 pub mod WholeLemmas

@@ -1,5 +1,6 @@
 -- public clauses cite
 pub mod Region
+pub mod Columns
 pub mod Cover
 pub mod Splitting
 -- private

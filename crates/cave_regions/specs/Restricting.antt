@@ -28,16 +28,24 @@ pub record IsRestriction (instance : Instance) (own placed : List ℕ) (region :
   pub lit : (place cell : ℕ) → place < length placed → cell < length own
       → LightsAt region place cell ↔ LightsAt instance (slice_index placed place) (slice_index own cell)
 
--- a bit of the row, by its rank, from a base on
-pub record IsCopyOf (row ranks : List ℕ) (base bit : ℕ) : Type 0 where
+-- a bit of the row, moved
+pub record IsMoved (row : List ℕ) (moved : ℕ → ℕ) (bit : ℕ) : Type 0 where
   pub from : ℕ
   pub had : Has row from
-  pub there : bit ≡ base + slice_index ranks from
+  pub there : bit ≡ moved from
 
 -- these bits are set too
-pub record Copies (old row ranks : List ℕ) (base : ℕ) (new : List ℕ) : Type 0 where
+pub record Moves (old row : List ℕ) (moved : ℕ → ℕ) (new : List ℕ) : Type 0 where
   pub whole : length new ≡ length old
-  pub exact : (bit : ℕ) → Has new bit ↔ (Has old bit ⊎ IsCopyOf row ranks base bit)
+  pub exact : (bit : ℕ) → Has new bit ↔ (Has old bit ⊎ IsMoved row moved bit)
+
+-- to its rank, from a base on
+abbrev pub to_rank : List ℕ → ℕ → ℕ → ℕ
+to_rank ranks base bit = base + slice_index ranks bit
+
+-- the ranks of the row's bits are set too
+abbrev pub Copies : List ℕ → List ℕ → List ℕ → ℕ → List ℕ → Type 0
+Copies old row ranks base new = Moves old row (to_rank ranks base) new
 
 -- each bit of the row has a rank, and room for it
 pub record HasRoom (row ranks : List ℕ) (base : ℕ) (words : List ℕ) : Type 0 where

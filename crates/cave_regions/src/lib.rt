@@ -2,6 +2,7 @@
 #![tactic(auto)]
 
 mod buckets;
+mod columns;
 mod copying;
 mod cover;
 mod entire;

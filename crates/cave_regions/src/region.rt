@@ -1,20 +1,27 @@
-ghost use Rattle.std.specs.Prelude.{◌≡◌, ◌<◌, ◌↔◌, Contains, IsTrue, length};
+ghost use Rattle.std.specs.Prelude.{◌≡◌, ◌<◌, ◌^◌, ◌↔◌, Contains, IsTrue, length, IfOk};
 ghost use Rattle.set_cover.specs.Instance.{IsRowAt, LightsIn, row_of};
+ghost use Rattle.cave_regions.specs.Columns.{IsColumn};
 ghost use Rattle.cave_regions.specs.Region.{IsRegion};
 
+use crate::columns::{columns_of, height};
 use cave_base::Cell;
 use set_cover::Instance;
+use std::alloc::{AllocError, Global};
 use std::marker::Model;
 
-/// A part of a set cover instance that may be planned by itself: some cells, the places that light one of them, and
-/// for each place the row of the cells that it lights. Regions are shared by `Arc`.
+/// A part of a set cover instance that may be planned by itself: some cells, the places that light one of them, for
+/// each place the row of the cells that it lights, and for each cell the column of the places that light it. Regions
+/// are shared by `Arc`.
 #[derive(Debug, Drop)]
 pub struct Region {
     instance: Instance,
+    columns: Vec<u64>,
 }
 
 impl Model for Region {
+    ghost use Rattle.std.specs.Prelude.{length};
     ghost use Rattle.set_cover.specs.Instance.{Instance, instance_coded};
+    ghost use Rattle.cave_regions.specs.Columns.{AreColumns};
     ghost use Rattle.cave_regions.specs.Region.{IsRegion};
 
     ghost Value = { Instance };
@@ -23,16 +30,18 @@ impl Model for Region {
 
     ghost view = { λ r. r.instance };
 
-    ghost invariant = { λ r. IsRegion r.instance };
+    ghost invariant = { λ r. IsRegion r.instance
+        × AreColumns r.instance (length r.instance.places) r.columns.items };
 }
 
 impl Region {
-    /// The instance as a region.
-    pub fn new(instance: Instance) -> Region
+    /// The instance as a region, with its columns.
+    pub fn new(alloc: Global, instance: Instance) -> Result<Region, AllocError>
         requires { IsRegion instance }
-        ensures { result ≡ instance }
+        ensures { IfOk result (λ region. region ≡ instance) }
     {
-        Region { instance }
+        let columns = columns_of(alloc, &instance)?;
+        Ok(Region { instance, columns })
     }
 
     /// The set cover instance that the region is.
@@ -75,6 +84,18 @@ impl Region {
         ensures whole { length result.now ≡ self.now.width }
     {
         self.instance.row_at(index)
+    }
+
+    /// The column of the cell with this index: bit `i % 64` of word `i / 64` is set exactly where the place with the
+    /// index i lights it.
+    pub fn column(&self, cell: usize) -> &[u64]
+        requires inside { cell < length self.now.cells }
+        ensures column { IsColumn self.now cell result.now }
+        ensures short { length result.now < 2 ^ 32 }
+    {
+        let height = height(&self.instance);
+        let start = cell * height;
+        &self.columns[start..start + height]
     }
 
     /// The row of a place.

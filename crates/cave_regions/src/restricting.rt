@@ -58,5 +58,6 @@ pub fn restrict(
     let own_cells = chosen(alloc, cells, own)?;
     let own_places = chosen(alloc, instance.places(), placed)?;
     let width = own.len().div_ceil(64);
-    Ok(Region::new(Instance::new(own_cells, own_places, width, words)))
+    let region = Region::new(alloc, Instance::new(own_cells, own_places, width, words))?;
+    Ok(region)
 }

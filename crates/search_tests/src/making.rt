@@ -24,7 +24,8 @@ pub fn made(alloc: Global, count: usize, rows: &[[u32; 2]]) -> Result<Option<Reg
     if !are_rows(count, rows.len(), width, &words) {
         return Ok(None);
     }
-    Ok(Some(Region::new(Instance::new(cells, places, width, words))))
+    let region = Region::new(alloc, Instance::new(cells, places, width, words))?;
+    Ok(Some(region))
 }
 
 /// The numbers from 0, so many.

@@ -9,10 +9,10 @@ use Rattle.std.proofs.lemmas.Bool.{cases_lt, cases_eq}
 use Rattle.std.proofs.lemmas.Bool.Decides.{nat_tests}
 use Rattle.std.proofs.lemmas.List.{get_or_past}
 use Rattle.std.proofs.lemmas.Nat.Bits.{bit_at-zero, bit_at-lt, bit_at_and, bit_at_not, bit_at_set_same}
-use Rattle.std.proofs.lemmas.Nat.Bits.{bit_at_set_other, bit_at-pow_other}
+use Rattle.std.proofs.lemmas.Nat.Bits.{bit_at_set_other}
 use Rattle.std.specs.Prelude.{[], ◌∷◌, ◌++◌, Contains}
 use Rattle.std.proofs.lemmas.List.Elements.{Contains-push, Contains-push_cases, Contains-append_left}
-use Rattle.set_cover.specs.Bits.{IsRowOf, has_bit, Has, IsWith, IsWithout, HasOneBit}
+use Rattle.set_cover.specs.Bits.{IsRowOf, has_bit, Has, IsWith, IsWithout}
 
 -- ---- a bit of a row, by its word
 
@@ -159,19 +159,6 @@ cleared_all old row new whole small s = record {
     | inr past ↦ (λ h. absurd (not_past new bit (omega arith) h), λ h. absurd (not_past old bit past h.0))
   ]);
 }
-
--- ---- one bit of a word
-
--- a power of two has one bit
-pub one_bit : (word k : ℕ) → k < 64 → word ≡ 2 ^ k → HasOneBit word
-one_bit word k lt e a b ha hb = at a ha ∙ sym (at b hb)
-  where
-    at : (i : ℕ) → bit_at word i ≡ 1 → i ≡ k
-    at i h = elim (cases_eq i k) [
-      | inl e ↦ e
-      | inr ne ↦ (let none : bit_at word i ≡ 0 = ap (λ (n : ℕ). bit_at n i) e ∙ bit_at-pow_other k i ne in
-          absurd (omega arith))
-    ]
 
 -- ---- rows of lists
 

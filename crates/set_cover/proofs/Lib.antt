@@ -1,6 +1,7 @@
 pub mod ListLemmas
 pub mod BitLemmas
 pub mod WordLemmas
+pub mod ApartLemmas
 pub mod CountLemmas
 pub mod WalkLemmas
 pub mod OrderLemmas

@@ -11,10 +11,10 @@ mod numbering;
 mod search;
 mod walk;
 
-pub use change::{add, clear, empty};
+pub use change::{add, add_apart, clear, empty};
 pub use counting::{count, count_common};
 pub use instance::Instance;
-pub use look::{first, has, is_within, meet, share_at_most_one};
+pub use look::{first, has, is_within, meet};
 pub use numbering::number;
 pub use search::find;
 pub use walk::next;

@@ -1,6 +1,6 @@
 //! Looking at rows.
 ghost use Rattle.std.specs.Prelude.{◌≡◌, ◌↔◌, ℕ, ◌*◌, ◌+◌, ◌<◌, ◌^◌, IsTrue, length, MatchOption};
-ghost use Rattle.set_cover.specs.Bits.{Has, HasOneBit, Meet, ShareAtMostOne, IsWithin};
+ghost use Rattle.set_cover.specs.Bits.{Has, Meet, IsWithin};
 
 /// Whether the row has the bit.
 pub fn has(words: &[u64], bit: usize) -> bool
@@ -36,24 +36,6 @@ pub fn meet(one: &[u64], two: &[u64]) -> bool
     false
 }
 
-/// Whether no two bits are in both rows.
-pub fn share_at_most_one(one: &[u64], two: &[u64]) -> bool
-    requires { length one.now ≡ length two.now }
-    ensures { IsTrue result → ShareAtMostOne one.now two.now }
-{
-    let mut found = false;
-    for index in 0..one.len() {
-        let common = one[index] & two[index];
-        if common != 0 {
-            if found || !is_single(common) {
-                return false;
-            }
-            found = true;
-        }
-    }
-    true
-}
-
 /// Whether what both the row and the part have is in the other row too.
 pub fn is_within(row: &[u64], part: &[u64], other: &[u64]) -> bool
     requires part { length part.now ≡ length row.now }
@@ -66,11 +48,4 @@ pub fn is_within(row: &[u64], part: &[u64], other: &[u64]) -> bool
         }
     }
     true
-}
-
-/// Whether a word that isn't 0 has one bit and no more.
-fn is_single(word: u64) -> bool
-    ensures { IsTrue result → HasOneBit word }
-{
-    word != 0 && word == 1 << word.trailing_zeros()
 }

@@ -4,4 +4,3 @@ pub mod Kids
 pub mod Thinning
 -- private
 pub mod Weighted
-pub mod Lists

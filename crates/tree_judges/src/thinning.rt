@@ -44,7 +44,8 @@ fn with_places(alloc: Global, region: &Region, kept: &[u32]) -> Result<Region, A
     let cells = Vec::from_slice(alloc, region.cells())?;
     let places = places_at(alloc, region, kept)?;
     let words = rows_at(alloc, region, kept)?;
-    Ok(Region::new(Instance::new(cells, places, region.width(), words)))
+    let less = Region::new(alloc, Instance::new(cells, places, region.width(), words))?;
+    Ok(less)
 }
 
 /// The numbers of these places.

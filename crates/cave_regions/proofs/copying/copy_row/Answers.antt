@@ -1,19 +1,20 @@
 use Rattle.std.proofs.Common.{arith}
 use Rattle.set_cover.proofs.BitLemmas.{has_inside}
-use Rattle.cave_regions.proofs.CopyLemmas.{copied_none, copied_next, copied_all}
+use Rattle.cave_regions.specs.Restricting.{to_rank}
+use Rattle.cave_regions.proofs.CopyLemmas.{moved_none, moved_next, moved_all}
 use Rattle.cave_regions.proofs.copying.copy_row.Goals as goal
 
 pub loop-bit-init : goal.loop-bit-init
-loop-bit-init c = copied_none c.args.words.now c.args.row.now c.args.ranks.now c.args.base
+loop-bit-init c = moved_none c.args.words.now c.args.row.now (to_rank c.args.ranks.now c.args.base)
 
 pub loop-bit-preserved : goal.loop-bit-preserved
-loop-bit-preserved c =
-    copied_next c.args.words.now c.args.row.now c.args.ranks.now c.loop-bit.words c.add.new.words c.args.base
-    c.loop-bit.from c.in-Some.bit c.in-Some.ensures c.add.ensures c.loop-bit.invariant
+loop-bit-preserved c = moved_next c.args.words.now c.args.row.now (to_rank c.args.ranks.now c.args.base)
+    c.loop-bit.words c.add.new.words c.loop-bit.from c.in-Some.bit c.in-Some.ensures c.add.ensures
+    c.loop-bit.invariant
 
 pub returns : goal.returns
-returns c = copied_all c.args.words.now c.args.row.now c.args.ranks.now c.loop-bit.words c.args.base c.loop-bit.from
-    c.in_default.ensures c.loop-bit.invariant
+returns c = moved_all c.args.words.now c.args.row.now (to_rank c.args.ranks.now c.args.base) c.loop-bit.words
+    c.loop-bit.from c.in_default.ensures c.loop-bit.invariant
 
 pub loop-bit-smaller : goal.loop-bit-smaller
 loop-bit-smaller c =

@@ -1,8 +1,6 @@
-use Rattle.std.proofs.Common.{ℕ, ◌<◌}
-use Rattle.set_cover.specs.Bits.{Has, ShareAtMostOne}
-use Rattle.set_cover.specs.Instance.{row_of}
+use Rattle.std.proofs.Common.{take}
+use Rattle.pack_bound.proofs.JudgeLemmas.{AreLitApart}
 use Rattle.pack_bound.proofs.judge.are_apart.Given as goal
 
-abbrev pub invariant-loop-place : goal.invariant-loop-place
-invariant-loop-place l = (place : ℕ) → place < l.place → (¬ Has l.node.barred place)
-    → ShareAtMostOne (row_of l.region place) l.marks
+abbrev pub invariant-loop-cell : goal.invariant-loop-cell
+invariant-loop-cell l = AreLitApart l.region l.node.barred (take l.cell-index l.cells) l.lighting

@@ -31,4 +31,4 @@ new-requires-2 c =
 pub returns : goal.returns
 returns c =
     let before = (goal.at.returns c).After-width in
-    c.new-2.ensures ∙ c.new.ensures ∙ same before
+    c.in_ok-less.ensures ∙ c.new.ensures ∙ same before
