@@ -12,8 +12,8 @@ use Rattle.certificate_lines.proofs.Lift.{at_weighted, at_omit, weighted_small, 
 use Rattle.certificate_lines.proofs.Lift.{start_small, box_small, headroom_small, need_small, regions_small}
 use Rattle.certificate_lines.proofs.Lift.{end_small, region_small, dark_small, torches_small, leaf_small}
 use Rattle.certificate_lines.proofs.Lift.{branch_small, bar_small}
-use Rattle.certificate_lines.specs.declared.kind.Kind.{Kind}
-use Rattle.certificate_lines.specs.declared.kind.Kind.TheVariants as kind
+use Rattle.certificate_lines.specs.declared.kind.LineKind.{LineKind}
+use Rattle.certificate_lines.specs.declared.kind.LineKind.TheVariants as kind
 use Rattle.certificate_lines.specs.declared.stage.Stage.{Stage}
 use Rattle.certificate_lines.specs.declared.stage.Stage.TheVariants as stage
 
@@ -25,7 +25,7 @@ not_equal a b off e = true≢false (sym (eq-eqb a b e) ∙ off)
 node_decides : (rank count to_come pending : ℕ) (text : List ℕ) (r : Option Stage) (b d w o : Bool)
     → nat_eq (get_or text 0 0) 66 ≡ b → nat_eq (get_or text 0 0) 69 ≡ d
     → nat_eq (get_or text 0 0) 87 ≡ w → nat_eq (get_or text 0 0) 68 ≡ o
-    → (k : Kind) → k ≡ (if b then kind.Branch else
+    → (k : LineKind) → k ≡ (if b then kind.Branch else
     if d then kind.Bar else
     if w then kind.Weighted else
     if o then kind.Omit else
@@ -33,7 +33,8 @@ node_decides : (rank count to_come pending : ℕ) (text : List ℕ) (r : Option 
     → Decides r (Says (word_of k) (MeansAt (stage.Node rank count to_come pending) k) text)
     → Decides r (Takes (stage.Node rank count to_come pending) text)
 node_decides rank count to_come pending text r b d w o p q s t k is h = go b d w o p q s t
-    (subst (λ (k : Kind). Decides r (Says (word_of k) (MeansAt (stage.Node rank count to_come pending) k) text)) is h)
+    (subst (λ (k : LineKind). Decides r (Says (word_of k) (MeansAt (stage.Node rank count to_come pending) k) text)) is
+    h)
   where
     go : (b d w o : Bool) → nat_eq (get_or text 0 0) 66 ≡ b → nat_eq (get_or text 0 0) 69 ≡ d
         → nat_eq (get_or text 0 0) 87 ≡ w → nat_eq (get_or text 0 0) 68 ≡ o
@@ -85,7 +86,7 @@ kind_decides stage.Done text None h = record { none = λ other t. t }
 kind_decides stage.Done text (Some next) h = absurd h.is.2
 
 -- the numbers of a node that fits are small
-node_small : (rank : ℕ) (count to_come pending : ℕ) (k : Kind) → count ≤ 262144
+node_small : (rank : ℕ) (count to_come pending : ℕ) (k : LineKind) → count ≤ 262144
     → AreSmall (MeansAt (stage.Node rank count to_come pending) k)
 node_small rank count to_come pending kind.Branch few = branch_small rank count to_come pending few
 node_small rank count to_come pending kind.Bar few = bar_small rank count to_come pending few
@@ -104,7 +105,7 @@ node_small rank count to_come pending kind.Omit few = omit_small rank count to_c
 node_small rank count to_come pending kind.End few = leaf_small rank count to_come pending few
 
 -- the number of regions, of a line that fits, is small
-a_region_small : (rank : ℕ) (count to_come : ℕ) (k : Kind) → count ≤ 262144
+a_region_small : (rank : ℕ) (count to_come : ℕ) (k : LineKind) → count ≤ 262144
     → AreSmall (MeansAt (stage.Region rank count to_come) k)
 a_region_small rank count to_come kind.Version few = region_small rank count to_come few
 a_region_small rank count to_come kind.Size few = region_small rank count to_come few
@@ -123,7 +124,7 @@ a_region_small rank count to_come kind.Omit few = region_small rank count to_com
 a_region_small rank count to_come kind.End few = end_small to_come
 
 -- what the numbers of a region's line mean, and of a leaf's
-pub region_means : (rank : ℕ) (count to_come : ℕ) (numbers : List ℕ) (r : Option Stage) (k : Kind) → (k ≢ kind.End)
+pub region_means : (rank : ℕ) (count to_come : ℕ) (numbers : List ℕ) (r : Option Stage) (k : LineKind) → (k ≢ kind.End)
     → Decides r (RegionMeans rank count to_come numbers)
     → Decides r (MeansAt (stage.Region rank count to_come) k numbers)
 region_means rank count to_come numbers r kind.Version other h = h
@@ -143,7 +144,7 @@ region_means rank count to_come numbers r kind.Omit other h = h
 region_means rank count to_come numbers r kind.End other h = absurd (other refl)
 
 -- among nodes, what is no branch, no bar, no weighted leaf and no omission means a leaf
-pub leaf_means : (rank count to_come pending : ℕ) (numbers : List ℕ) (r : Option Stage) (k : Kind)
+pub leaf_means : (rank count to_come pending : ℕ) (numbers : List ℕ) (r : Option Stage) (k : LineKind)
     → (k ≢ kind.Branch) → (k ≢ kind.Bar) → (k ≢ kind.Weighted) → (k ≢ kind.Omit)
     → Decides r (LeafMeans rank count to_come pending numbers)
     → Decides r (MeansAt (stage.Node rank count to_come pending) k numbers)
@@ -180,18 +181,19 @@ kind_small (stage.Group rank count to_come pending left from) text i = group_sma
 kind_small stage.Done text i = record { each = λ ns next m. absurd m; few = λ ns next m. absurd m }
 
 -- a line of the kind that may come fits where its numbers mean something
-pub line_fits : (s : Stage) (k : Kind) (text numbers : List ℕ) (r : Option Stage) → IsSoundStage s → k ≡ kind_at s text
+pub line_fits : (s : Stage) (k : LineKind) (text numbers : List ℕ) (r : Option Stage) → IsSoundStage s
+    → k ≡ kind_at s text
     → IsLineOf text (word_of k) numbers → Decides r (MeansAt s k numbers) → Decides r (Takes s text)
 line_fits s k text numbers r sound is l h =
     let small = kind_small s text sound in
-    kind_decides s text r (subst (λ (j : Kind). Decides r (Says (word_of j) (MeansAt s j) text)) is
+    kind_decides s text r (subst (λ (j : LineKind). Decides r (Says (word_of j) (MeansAt s j) text)) is
     (lift (word_of k) text numbers (MeansAt s k) r
-    (subst (λ (j : Kind). AreSmall (MeansAt s j)) (sym is) small) l h))
+    (subst (λ (j : LineKind). AreSmall (MeansAt s j)) (sym is) small) l h))
 
 -- a line that isn't of that kind doesn't fit
-pub line_fits_not : (s : Stage) (k : Kind) (text : List ℕ) → IsSoundStage s → k ≡ kind_at s text
+pub line_fits_not : (s : Stage) (k : LineKind) (text : List ℕ) → IsSoundStage s → k ≡ kind_at s text
     → IsNoLineOf text (word_of k) → IsNone (Takes s text)
 line_fits_not s k text sound is l =
     let small = kind_small s text sound in
     kind_decides s text None (lift_none (word_of (kind_at s text)) text (MeansAt s (kind_at s text)) small
-    (subst (λ (j : Kind). IsNoLineOf text (word_of j)) is l))
+    (subst (λ (j : LineKind). IsNoLineOf text (word_of j)) is l))

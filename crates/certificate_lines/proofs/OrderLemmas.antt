@@ -11,8 +11,8 @@ use Rattle.certificate_lines.specs.Kinds.{kind_at, node_kind, region_kind}
 use Rattle.certificate_lines.specs.Orders.{is_dark, is_region, awaits_dark, IsOrdered, last_kind, AreInOrder}
 use Rattle.certificate_lines.specs.Said.{Said, said, group_said, tree_said, forest_said, section_said, said_of}
 use Rattle.certificate_lines.specs.Steps.{Takes, after_headroom}
-use Rattle.certificate_lines.specs.declared.kind.Kind.{Kind}
-use Rattle.certificate_lines.specs.declared.kind.Kind.TheVariants as kind
+use Rattle.certificate_lines.specs.declared.kind.LineKind.{LineKind}
+use Rattle.certificate_lines.specs.declared.kind.LineKind.TheVariants as kind
 use Rattle.certificate_lines.specs.declared.stage.Stage.{Stage}
 use Rattle.certificate_lines.specs.declared.stage.Stage.TheVariants as stage
 
@@ -20,7 +20,7 @@ use Rattle.certificate_lines.specs.declared.stage.Stage.TheVariants as stage
 
 -- they stand so after whatever line isn't a region's first
 abbrev IsFree : List Said → Type 0
-IsFree all = (k : Kind) → is_region k ≡ false → IsOrdered k all
+IsFree all = (k : LineKind) → is_region k ≡ false → IsOrdered k all
 
 -- the lines of groups
 groups_free : (gs : List Group) (after : List Said) → IsFree after → IsFree (map group_said gs ++ after)
@@ -73,18 +73,18 @@ said_ordered c = go c.version where
 -- ---- a line more
 
 -- a line after others
-ordered_push : (before : Kind) (all : List Said) (s : Said) → IsOrdered before all
+ordered_push : (before : LineKind) (all : List Said) (s : Said) → IsOrdered before all
     → is_dark s.kind ≡ is_region (last_kind before all) → IsOrdered before (all ++ s ∷ [])
 ordered_push before [] s o e = (e, tt)
 ordered_push before (x ∷ all) s o e = (o.0, ordered_push x.kind all s o.1 e)
 
 -- is the last
-last_push : (before : Kind) (all : List Said) (s : Said) → last_kind before (all ++ s ∷ []) ≡ s.kind
+last_push : (before : LineKind) (all : List Said) (s : Said) → last_kind before (all ++ s ∷ []) ≡ s.kind
 last_push before [] s = refl
 last_push before (x ∷ all) s = last_push x.kind all s
 
 -- the kind of a node's line, by the tests of its first byte
-abbrev one_of : Bool → Bool → Bool → Bool → Kind
+abbrev one_of : Bool → Bool → Bool → Bool → LineKind
 one_of b d w o =
     if b then kind.Branch else
     if d then kind.Bar else
@@ -177,7 +177,7 @@ pub order_none : AreInOrder stage.Start []
 order_none = record { ordered = tt; last = refl }
 
 -- one more
-pub order_push : (s next : Stage) (all : List Said) (text numbers : List ℕ) (k : Kind) → AreInOrder s all
+pub order_push : (s next : Stage) (all : List Said) (text numbers : List ℕ) (k : LineKind) → AreInOrder s all
     → k ≡ kind_at s text → Takes s text next → AreInOrder next (all ++ said k numbers ∷ [])
 order_push s next all text numbers k o e t = record {
   ordered = ordered_push kind.End all (said k numbers) o.ordered (ap is_dark e ∙ dark_kind s text ∙ o.last);

@@ -18,7 +18,7 @@ use Rattle.certificate_lines.proofs.Misfit.{walk_start, start_before, walk_more,
 use Rattle.certificate_lines.proofs.Misfit.{unended, whole, whole_lines}
 use Rattle.certificate_lines.proofs.OrderLemmas.{order_none, order_push}
 use Rattle.certificate_lines.proofs.SaidLemmas.{said_push, said_is}
-use Rattle.certificate_lines.specs.declared.kind.Kind.{Kind}
+use Rattle.certificate_lines.specs.declared.kind.LineKind.{LineKind}
 use Rattle.certificate_lines.specs.declared.stage.Stage.{Stage}
 use Rattle.certificate_lines.specs.declared.stage.Stage.TheVariants as stage
 
@@ -171,7 +171,7 @@ ends_stuck piece text after line old mid new s taken none cut k is n e = record 
       }));
 }
 
-pub takes_line : (piece text after line : List ℕ) (k : Kind) (old mid new : HeldText) → old.misfit ≡ None
+pub takes_line : (piece text after line : List ℕ) (k : LineKind) (old mid new : HeldText) → old.misfit ≡ None
     → IsCutLine piece text after → IsKeptOn text old mid → line ≡ mid.last
     → Fits line k new.numbers mid.stage new.stage mid.taken new.taken → new.misfit ≡ mid.misfit → new.last ≡ []
     → TakesLine piece after k old new

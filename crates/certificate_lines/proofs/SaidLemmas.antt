@@ -21,13 +21,13 @@ use Rattle.cave_base.specs.Box.{cell_count}
 use Rattle.certificate_lines.proofs.Lift.{sides, group_numbers_small}
 use Rattle.certificate_lines.proofs.Walk.{count_small}
 use Rattle.certificate_lines.proofs.Whole.{magic_first, magic_second, magic_third}
-use Rattle.certificate_lines.specs.declared.kind.Kind.{Kind}
-use Rattle.certificate_lines.specs.declared.kind.Kind.TheVariants as kind
+use Rattle.certificate_lines.specs.declared.kind.LineKind.{LineKind}
+use Rattle.certificate_lines.specs.declared.kind.LineKind.TheVariants as kind
 
 -- ---- the kind of a line, by two of its bytes
 
 -- a number for each kind, and one for the two with the same word
-code_of : Kind → ℕ
+code_of : LineKind → ℕ
 code_of kind.Version = 116
 code_of kind.Size = 98
 code_of kind.Headroom = 104
@@ -45,7 +45,7 @@ code_of kind.Omit = 68
 code_of kind.End = 101
 
 -- the kind of such a number, if it is that of dark cells or isn't
-from_code : Bool → ℕ → Kind
+from_code : Bool → ℕ → LineKind
 from_code true n = kind.Dark
 from_code false n =
     if nat_eq n 116 then kind.Version else
@@ -69,7 +69,7 @@ code_at text = if nat_eq (get_or text 0 0) 114 then (if nat_eq (get_or text 6 0)
     else get_or text 0 0
 
 -- the bytes of a line tell the number of its kind
-coded : (k : Kind) (numbers : List ℕ) → code_at (line (word_of k) numbers) ≡ code_of k
+coded : (k : LineKind) (numbers : List ℕ) → code_at (line (word_of k) numbers) ≡ code_of k
 unfolding code_at code_of
 coded kind.Version numbers = refl
 coded kind.Size numbers = refl
@@ -89,7 +89,7 @@ coded kind.Omit numbers = refl
 coded kind.End numbers = refl
 
 -- the number of a kind tells the kind, if it is told whether it is that of dark cells
-back : (k : Kind) → from_code (is_dark k) (code_of k) ≡ k
+back : (k : LineKind) → from_code (is_dark k) (code_of k) ≡ k
 unfolding from_code code_of
 back kind.Version = refl
 back kind.Size = refl
@@ -108,7 +108,7 @@ back kind.Omit = refl
 back kind.End = refl
 
 -- lines with the same text are of one kind, if both are those of dark cells or neither is
-one_kind : (j k : Kind) (a b : List ℕ) → is_dark j ≡ is_dark k → line (word_of j) a ≡ line (word_of k) b → j ≡ k
+one_kind : (j k : LineKind) (a b : List ℕ) → is_dark j ≡ is_dark k → line (word_of j) a ≡ line (word_of k) b → j ≡ k
 one_kind j k a b d e = sym (back j) ∙ ap (λ (x : Bool). from_code x (code_of j)) d
     ∙ ap (from_code (is_dark k)) (sym (coded j a) ∙ ap code_at e ∙ coded k b) ∙ back k
 
@@ -119,11 +119,11 @@ AreAllSmall : List Said → Type 0
 AreAllSmall all = All (λ s. All IsSmall s.numbers) all
 
 -- of the same kind, the same numbers say the same
-same_said : (j k : Kind) (a b : List ℕ) → j ≡ k → a ≡ b → said j a ≡ said k b
+same_said : (j k : LineKind) (a b : List ℕ) → j ≡ k → a ≡ b → said j a ≡ said k b
 same_said j k a b e f = cc
 
 -- lines say one thing, where those of dark cells stand in order
-pub one_said : (before : Kind) (lines : List (List ℕ)) (all others : List Said) → AreSaid lines all
+pub one_said : (before : LineKind) (lines : List (List ℕ)) (all others : List Said) → AreSaid lines all
     → IsOrdered before all → IsOrdered before others
     → All (λ s. All IsSmall s.numbers) others → lines ≡ map text_of others → others ≡ all
 one_said before [] [] [] a p q small e = refl
@@ -136,14 +136,14 @@ one_said before (t ∷ ts) (s ∷ all) (o ∷ os) a p q small e =
     let later : ts ≡ map text_of os = cc in
     let kinds : o.kind ≡ s.kind = one_kind o.kind s.kind o.numbers s.numbers (q.0 ∙ sym p.0) (sym here ∙ a.0.is) in
     let numbers : o.numbers ≡ s.numbers = a.0.only o.numbers (All-head (λ (s : Said). All IsSmall s.numbers) o os small)
-    (here ∙ ap (λ (k : Kind). line (word_of k) o.numbers) kinds) in
-    let rest : os ≡ all = one_said s.kind ts all os a.1 p.1 (subst (λ (k : Kind). IsOrdered k os) kinds q.1)
+    (here ∙ ap (λ (k : LineKind). line (word_of k) o.numbers) kinds) in
+    let rest : os ≡ all = one_said s.kind ts all os a.1 p.1 (subst (λ (k : LineKind). IsOrdered k os) kinds q.1)
     (All-tail (λ (s : Said). All IsSmall s.numbers) o os small) later in
     let first : o ≡ s = same_said o.kind s.kind o.numbers s.numbers kinds numbers in
     cc
 
 -- a line more says its kind and its numbers
-pub said_push : (lines : List (List ℕ)) (all : List Said) (text : List ℕ) (k : Kind) (numbers : List ℕ)
+pub said_push : (lines : List (List ℕ)) (all : List Said) (text : List ℕ) (k : LineKind) (numbers : List ℕ)
     → AreSaid lines all → IsLineOf text (word_of k) numbers → AreSaid (lines ++ text ∷ []) (all ++ said k numbers ∷ [])
 said_push [] [] text k numbers a l = (l, tt)
 said_push [] (s ∷ all) text k numbers a l = absurd a

@@ -9,7 +9,7 @@ use Rattle.certificate_lines.specs.Orders.{AreInOrder}
 use Rattle.certificate_lines.specs.Said.{Said, said, said_of, AreSaid}
 use Rattle.certificate_lines.specs.Steps.{Takes}
 use Rattle.certificate_lines.specs.Walked.{Walked}
-use Rattle.certificate_lines.specs.declared.kind.Kind.{Kind}
+use Rattle.certificate_lines.specs.declared.kind.LineKind.{LineKind}
 use Rattle.certificate_lines.specs.declared.stage.Stage.{Stage}
 
 -- what is kept of a text: what the next line has to be, how many lines were taken, the beginning of the next one,
@@ -63,7 +63,7 @@ abbrev pub Holds : List ℕ → List Said → HeldText → Type 0
 Holds bytes all kept = HoldsOr bytes all kept kept.misfit
 
 -- a line that ends in the piece was taken, and this is what comes after it
-pub record TakesLine (piece after : List ℕ) (k : Kind) (old new : HeldText) : Type 0 where
+pub record TakesLine (piece after : List ℕ) (k : LineKind) (old new : HeldText) : Type 0 where
   pub front : List ℕ
   pub parts : piece ≡ front ++ after
   pub some : 0 < length front

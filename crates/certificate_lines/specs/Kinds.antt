@@ -2,13 +2,13 @@
 use Rattle.std.specs.Prelude.{ℕ, List, codes, nat_eq, slice_index_or, if◌then◌else◌}
 use Rattle.certificate_lines.specs.Nodes as nodes
 use Rattle.certificate_lines.specs.Steps as steps
-use Rattle.certificate_lines.specs.declared.kind.Kind.{Kind}
-use Rattle.certificate_lines.specs.declared.kind.Kind.TheVariants as kind
+use Rattle.certificate_lines.specs.declared.kind.LineKind.{LineKind}
+use Rattle.certificate_lines.specs.declared.kind.LineKind.TheVariants as kind
 use Rattle.certificate_lines.specs.declared.stage.Stage.{Stage}
 use Rattle.certificate_lines.specs.declared.stage.Stage.TheVariants as stage
 
 -- the word with which such a line begins
-abbrev pub word_of : Kind → List ℕ
+abbrev pub word_of : LineKind → List ℕ
 word_of kind.Version = codes "torchproof"
 word_of kind.Size = codes "box"
 word_of kind.Headroom = codes "headroom"
@@ -26,11 +26,11 @@ word_of kind.Omit = codes "D"
 word_of kind.End = codes "end"
 
 -- a region's first line, or the end where none is to come
-abbrev pub region_kind : ℕ → Kind
+abbrev pub region_kind : ℕ → LineKind
 region_kind to_come = if nat_eq to_come 0 then kind.End else kind.Region
 
 -- a node's line, by its first byte
-abbrev pub node_kind : ℕ → Kind
+abbrev pub node_kind : ℕ → LineKind
 node_kind head =
     if nat_eq head 66 then kind.Branch else
     if nat_eq head 69 then kind.Bar else
@@ -39,7 +39,7 @@ node_kind head =
     kind.Leaf
 
 -- the one kind of line that may come at the stage and begin as the text does
-abbrev pub kind_at : Stage → List ℕ → Kind
+abbrev pub kind_at : Stage → List ℕ → LineKind
 kind_at stage.Start text = kind.Version
 kind_at (stage.Box rank) text = kind.Size
 kind_at (stage.Headroom rank count) text = kind.Headroom
@@ -53,7 +53,7 @@ kind_at (stage.Group rank count to_come pending left from) text = kind.Group
 kind_at stage.Done text = kind.End
 
 -- what the numbers of such a line mean at the stage
-abbrev pub MeansAt : Stage → Kind → List ℕ → Stage → Type 0
+abbrev pub MeansAt : Stage → LineKind → List ℕ → Stage → Type 0
 MeansAt stage.Start k numbers next = steps.StartMeans numbers next
 MeansAt (stage.Box rank) k numbers next = steps.BoxMeans rank numbers next
 MeansAt (stage.Headroom rank count) k numbers next = steps.HeadroomMeans rank count numbers next

@@ -3,11 +3,11 @@ use Rattle.std.specs.Prelude.{◌≡◌, ℕ, ◌+◌, List}
 use Rattle.certificate_lines.specs.Steps.{Takes}
 use Rattle.certificate_lines.specs.Decides.{IsJust, IsNone, IsLineOf}
 use Rattle.certificate_lines.specs.Kinds.{word_of, kind_at}
-use Rattle.certificate_lines.specs.declared.kind.Kind.{Kind}
+use Rattle.certificate_lines.specs.declared.kind.LineKind.{LineKind}
 use Rattle.certificate_lines.specs.declared.stage.Stage.{Stage}
 
 -- the line fits, and this is the one stage that it leads to
-pub record Fits (text : List ℕ) (kind : Kind) (numbers : List ℕ) (old new : Stage)
+pub record Fits (text : List ℕ) (kind : LineKind) (numbers : List ℕ) (old new : Stage)
     (taken now_taken : ℕ) : Type 0 where
   pub one : IsJust (Takes old text) new
   -- it is of the kind that may come there

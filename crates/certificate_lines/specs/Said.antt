@@ -7,16 +7,16 @@ use Rattle.proof_rules.specs.Certificate.{Section, Version, first, second, third
 use Rattle.proof_rules.specs.Text.{line}
 use Rattle.certificate_lines.specs.Kinds.{word_of}
 use Rattle.certificate_lines.specs.Decides.{IsLineOf}
-use Rattle.certificate_lines.specs.declared.kind.Kind.{Kind}
-use Rattle.certificate_lines.specs.declared.kind.Kind.TheVariants as kind
+use Rattle.certificate_lines.specs.declared.kind.LineKind.{LineKind}
+use Rattle.certificate_lines.specs.declared.kind.LineKind.TheVariants as kind
 
 -- what a line says
 pub record Said : Type 0 where
-  pub kind : Kind
+  pub kind : LineKind
   pub numbers : List ℕ
 
 -- a line of this kind with these numbers
-abbrev pub said : Kind → List ℕ → Said
+abbrev pub said : LineKind → List ℕ → Said
 said k numbers = record { kind = k; numbers = numbers }
 
 -- the line's text: the word of its kind, and its numbers, each after a space

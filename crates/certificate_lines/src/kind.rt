@@ -5,7 +5,7 @@ use crate::stage::Stage;
 
 /// What kind of line it is.
 #[derive(Clone, Copy, Debug, PartialEq, Eq)]
-pub enum Kind {
+pub enum LineKind {
     Version,
     Size,
     Headroom,
@@ -23,73 +23,73 @@ pub enum Kind {
     End,
 }
 
-impl Kind {
+impl LineKind {
     /// The word with which such a line begins.
     pub fn word(self) -> &'static [u8]
         ensures { result.now ≡ kinds.word_of self }
     {
         match self {
-            Kind::Version => b"torchproof",
-            Kind::Size => b"box",
-            Kind::Headroom => b"headroom",
-            Kind::Need => b"need",
-            Kind::Regions => b"regions",
-            Kind::Region => b"region",
-            Kind::Dark => b"D",
-            Kind::Torches => b"T",
-            Kind::Leaf => b"L",
-            Kind::Branch => b"B",
-            Kind::Bar => b"E",
-            Kind::Weighted => b"W",
-            Kind::Group => b"G",
-            Kind::Omit => b"D",
-            Kind::End => b"end",
+            LineKind::Version => b"torchproof",
+            LineKind::Size => b"box",
+            LineKind::Headroom => b"headroom",
+            LineKind::Need => b"need",
+            LineKind::Regions => b"regions",
+            LineKind::Region => b"region",
+            LineKind::Dark => b"D",
+            LineKind::Torches => b"T",
+            LineKind::Leaf => b"L",
+            LineKind::Branch => b"B",
+            LineKind::Bar => b"E",
+            LineKind::Weighted => b"W",
+            LineKind::Group => b"G",
+            LineKind::Omit => b"D",
+            LineKind::End => b"end",
         }
     }
 }
 
 /// The one kind of line that may come at the stage and begin as the text does.
-pub fn kind_at(stage: Stage, text: &[u8]) -> Kind
+pub fn kind_at(stage: Stage, text: &[u8]) -> LineKind
     ensures { result ≡ kinds.kind_at stage text.now }
 {
     match stage {
-        Stage::Start => Kind::Version,
-        Stage::Box { .. } => Kind::Size,
-        Stage::Headroom { .. } => Kind::Headroom,
-        Stage::Need { .. } => Kind::Need,
-        Stage::Regions { .. } => Kind::Regions,
+        Stage::Start => LineKind::Version,
+        Stage::Box { .. } => LineKind::Size,
+        Stage::Headroom { .. } => LineKind::Headroom,
+        Stage::Need { .. } => LineKind::Need,
+        Stage::Regions { .. } => LineKind::Regions,
         Stage::Region { to_come, .. } => region_kind(to_come),
-        Stage::Dark { .. } => Kind::Dark,
-        Stage::Torches { .. } => Kind::Torches,
+        Stage::Dark { .. } => LineKind::Dark,
+        Stage::Torches { .. } => LineKind::Torches,
         Stage::Node { .. } => node_kind(first_byte(text)),
-        Stage::Group { .. } => Kind::Group,
-        Stage::Done => Kind::End,
+        Stage::Group { .. } => LineKind::Group,
+        Stage::Done => LineKind::End,
     }
 }
 
-fn region_kind(to_come: u32) -> Kind
+fn region_kind(to_come: u32) -> LineKind
     ensures { result ≡ kinds.region_kind to_come }
 {
     if to_come == 0 {
-        Kind::End
+        LineKind::End
     } else {
-        Kind::Region
+        LineKind::Region
     }
 }
 
-fn node_kind(head: u8) -> Kind
+fn node_kind(head: u8) -> LineKind
     ensures { result ≡ kinds.node_kind head }
 {
     if head == b'B' {
-        Kind::Branch
+        LineKind::Branch
     } else if head == b'E' {
-        Kind::Bar
+        LineKind::Bar
     } else if head == b'W' {
-        Kind::Weighted
+        LineKind::Weighted
     } else if head == b'D' {
-        Kind::Omit
+        LineKind::Omit
     } else {
-        Kind::Leaf
+        LineKind::Leaf
     }
 }
 

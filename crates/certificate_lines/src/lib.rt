@@ -17,7 +17,7 @@ mod stage;
 mod step;
 
 pub use cut::cut_line;
-pub use kind::Kind;
+pub use kind::LineKind;
 pub use lines::{Lines, is_done};
 pub use pieces::Pieces;
 pub use read::first_misfit;

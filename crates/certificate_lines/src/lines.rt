@@ -3,7 +3,7 @@ ghost use Rattle.certificate_lines.specs.Sound.{IsSoundStage, pending_of};
 ghost use Rattle.certificate_lines.specs.Moves.{Fits, FitsNot};
 ghost use Rattle.certificate_lines.specs.declared.stage.Stage.TheVariants as stages;
 
-use crate::kind::{Kind, kind_at};
+use crate::kind::{LineKind, kind_at};
 use crate::stage::Stage;
 use crate::step::next_stage;
 use std::alloc::{AllocError, Global};
@@ -33,7 +33,7 @@ impl Lines {
     }
 
     /// Takes the next line, without its line feed, if it fits: what kind of line it is.
-    pub fn take(&mut self, text: &[u8]) -> Result<Option<Kind>, AllocError>
+    pub fn take(&mut self, text: &[u8]) -> Result<Option<LineKind>, AllocError>
         requires sound { IsSoundStage self.old.stage }
         requires few { pending_of self.old.stage + 262144 < 2 ^ 128 }
         requires room { self.old.taken + 1 < 2 ^ 64 }

@@ -3,7 +3,7 @@ ghost use Rattle.certificate_lines.specs.Held.{EndsPiece, HasRoom, Holds, HeldTe
 ghost use Rattle.certificate_lines.specs.Keeping.{IsOverlong, IsKeptOn};
 
 use crate::cut::cut_line;
-use crate::kind::Kind;
+use crate::kind::LineKind;
 use crate::lines::{Lines, is_done};
 use std::alloc::{AllocError, Global};
 use std::marker::Model;
@@ -80,7 +80,7 @@ impl Pieces {
 
     /// Takes the next line that ends in the piece: its kind, and what comes after it. Where none does, the beginning of
     /// one is kept.
-    pub fn line<'a>(&mut self, piece: &'a [u8]) -> Result<Option<(Kind, &'a [u8])>, AllocError>
+    pub fn line<'a>(&mut self, piece: &'a [u8]) -> Result<Option<(LineKind, &'a [u8])>, AllocError>
         requires { HasRoom self.old (length piece.now) }
         ensures { IfOk result (λ r. MatchOption r (EndsPiece piece.now self.old self.new)
             (λ l. TakesLine piece.now l.1.now l.0 self.old self.new)) }

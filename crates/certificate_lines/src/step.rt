@@ -4,7 +4,7 @@ ghost use Rattle.certificate_lines.specs.Sound.{IsSoundStage, pending_of};
 ghost use Rattle.certificate_lines.specs.Decides.{Decides, IsLineOf};
 ghost use Rattle.certificate_lines.specs.Kinds as kinds;
 
-use crate::kind::Kind;
+use crate::kind::LineKind;
 use crate::line::read_line;
 use crate::meaning::{
     after_box, after_dark, after_end, after_headroom, after_need, after_region, after_regions,
@@ -19,7 +19,7 @@ use std::alloc::AllocError;
 /// What stage the line leads to, if it fits; its numbers go into the buffer.
 pub fn next_stage(
     stage: Stage,
-    kind: Kind,
+    kind: LineKind,
     text: &[u8],
     numbers: &mut Vec<u32>,
 ) -> Result<Option<Stage>, AllocError>
@@ -36,7 +36,7 @@ pub fn next_stage(
 }
 
 /// What stage the numbers of such a line lead to.
-fn after(stage: Stage, kind: Kind, numbers: &[u32]) -> Option<Stage>
+fn after(stage: Stage, kind: LineKind, numbers: &[u32]) -> Option<Stage>
     requires sound { IsSoundStage stage }
     requires room { pending_of stage + 262144 < 2 ^ 128 }
     ensures { Decides result (kinds.MeansAt stage kind numbers.now) }
@@ -52,7 +52,7 @@ fn after(stage: Stage, kind: Kind, numbers: &[u32]) -> Option<Stage>
             count,
             to_come,
         } => match kind {
-            Kind::End => after_end(to_come, numbers),
+            LineKind::End => after_end(to_come, numbers),
             _ => after_region(rank, count, to_come, numbers),
         },
         Stage::Dark {
@@ -106,17 +106,17 @@ fn after(stage: Stage, kind: Kind, numbers: &[u32]) -> Option<Stage>
 }
 
 /// What stage the numbers of a node's line lead to.
-fn after_node_line(trees: Trees, kind: Kind, numbers: &[u32]) -> Option<Stage>
+fn after_node_line(trees: Trees, kind: LineKind, numbers: &[u32]) -> Option<Stage>
     requires few { trees.count ≤ 262144 }
     requires room { trees.pending + 262144 < 2 ^ 128 }
     ensures { Decides result (kinds.MeansAt
         (kinds.node_stage trees.rank trees.count trees.to_come trees.pending) kind numbers.now) }
 {
     match kind {
-        Kind::Branch => after_branch(trees, numbers),
-        Kind::Bar => after_bar(trees, numbers),
-        Kind::Weighted => after_weighted(trees, numbers),
-        Kind::Omit => after_omit(trees, numbers),
+        LineKind::Branch => after_branch(trees, numbers),
+        LineKind::Bar => after_bar(trees, numbers),
+        LineKind::Weighted => after_weighted(trees, numbers),
+        LineKind::Omit => after_omit(trees, numbers),
         _ => after_leaf(trees, numbers),
     }
 }

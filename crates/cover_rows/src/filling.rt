@@ -15,7 +15,7 @@ use std::alloc::Global;
 
 /// The rows of the places, one after another, and the row of the cells that some place lights.
 #[derive(Drop)]
-pub struct Rows {
+pub struct CoverRows {
     pub words: Vec<u64>,
     pub covered: Vec<u64>,
 }
@@ -26,7 +26,7 @@ pub fn rows_of(
     world: &World,
     cells: &[Cell],
     places: &[Cell],
-) -> Result<Rows, OutOfMemory>
+) -> Result<CoverRows, OutOfMemory>
     requires cells { IsListed world.now cells.now }
     requires places { IsListed world.now places.now }
     requires legal { ArePlaces world.now places.now }
@@ -45,7 +45,7 @@ pub fn rows_of(
         words.as_mut_slice(),
         covered.as_mut_slice(),
     )?;
-    Ok(Rows { words, covered })
+    Ok(CoverRows { words, covered })
 }
 
 /// Cells that a torch would light this one from: all the places among them, and perhaps cells that are no place.

@@ -5,7 +5,7 @@ ghost use Rattle.cover_rows.specs.Coverage.{IsProblemOf, IsUnlightableFault};
 ghost use Rattle.cover_rows.specs.declared.fault.CoverFault.{CoverFault};
 
 use crate::fault::CoverFault;
-use crate::filling::{Rows, rows_of};
+use crate::filling::{CoverRows, rows_of};
 use crate::places::legal_places;
 use crate::search::first_unlit;
 use cave_base::Cell;
@@ -48,7 +48,7 @@ impl Problem {
         let levels = light(alloc, world)?;
         let cells = dark_cells(alloc, world, &levels)?;
         let places = legal_places(alloc, world)?;
-        let Rows { words, covered } = rows_of(alloc, world, &cells, &places)?;
+        let CoverRows { words, covered } = rows_of(alloc, world, &cells, &places)?;
         match first_unlit(&covered, &cells) {
             Some(cell) => Err(CoverFault::Unlightable { cell }),
             None => {

@@ -2,6 +2,7 @@
 //! relaxation, for whoever judges a plan and trusts no flood.
 #![tactic(auto)]
 
+mod cell_lists;
 mod counting;
 mod filling;
 mod levels;
@@ -10,7 +11,6 @@ mod lists;
 mod marking;
 mod pairs;
 mod relaxing;
-mod rows;
 
 pub use lighting::lit_cells;
 pub use lists::Lists;

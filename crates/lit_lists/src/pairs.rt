@@ -6,8 +6,8 @@ ghost use Rattle.cave_model.specs.Torches.{IsPlace};
 ghost use Rattle.lit_lists.specs.Seeded.{AreUnlit};
 ghost use Rattle.lit_lists.specs.Lists.{AreLights, AreMarksOf, ArePairsOf, ArePlacesOf, is_marked, row_at};
 
+use crate::cell_lists::CellLists;
 use crate::lighting::{light_back, reach};
-use crate::rows::Rows;
 use cave_base::Cell;
 use cave_model::{Passages, World};
 use std::alloc::{AllocError, Global};
@@ -16,8 +16,8 @@ use std::marker::Model;
 /// Which places light which dark cells, as lists both ways.
 #[derive(Debug, Drop)]
 pub struct Pairs {
-    lights: Rows,
-    lit_by: Rows,
+    lights: CellLists,
+    lit_by: CellLists,
 }
 
 impl Model for Pairs {
@@ -65,7 +65,7 @@ fn find_places(
     dark: &[bool],
     places: &[bool],
     levels: &mut [u8],
-) -> Result<Rows, AllocError>
+) -> Result<CellLists, AllocError>
     requires cells { length levels.old ≡ cell_count world.now.size }
     requires unlit { AreUnlit levels.old }
     requires passages { ArePassages world.now passages.now }
@@ -94,7 +94,7 @@ fn find_places(
         }
         starts.push(found.len())?;
     }
-    Ok(Rows::new(starts, found))
+    Ok(CellLists::new(starts, found))
 }
 
 /// For each place of the world the dark cells that it lights, ascending.
@@ -104,7 +104,7 @@ fn lights_of(
     passages: &Passages,
     dark: &[bool],
     places: &[bool],
-) -> Result<Rows, AllocError>
+) -> Result<CellLists, AllocError>
     requires passages { ArePassages world.now passages.now }
     requires dark { AreMarksOf (cell_count world.now.size) (IsDark world.now) dark.now }
     requires places { AreMarksOf (cell_count world.now.size) (IsPlace world.now) places.now }

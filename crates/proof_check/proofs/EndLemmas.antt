@@ -64,8 +64,8 @@ listed_below count (r ∷ rs) zero cell a h = at_member (λ c. c < count) r cell
 listed_below count (r ∷ rs) (suc i) cell a h = listed_below count rs i cell (All-tail (AreListed count) r rs a) h
 
 -- the first of a kind is the least
-pub least_of : (Kind : ℕ → Type 0) (count cell : ℕ) → IsFirstBelow Kind count cell → IsLeast Kind cell
-least_of Kind count cell f = record {
+pub least_of : (LineKind : ℕ → Type 0) (count cell : ℕ) → IsFirstBelow LineKind count cell → IsLeast LineKind cell
+least_of LineKind count cell f = record {
   is = f.is;
   first = λ n k. elim (cases_lt n cell) [ inl lt ↦ absurd (f.before.each n lt k) | inr le ↦ le ];
 }

@@ -6,7 +6,7 @@ use Rattle.std.proofs.lemmas.List.{take_all}
 use Rattle.proof_rules.specs.declared.groups.Share.{Share}
 use Rattle.proof_rules.specs.declared.groups.Group.{Group}
 use Rattle.lit_lists.specs.Lists.{LitLists}
-use Rattle.certificate_lines.specs.declared.kind.Kind.TheVariants as kind
+use Rattle.certificate_lines.specs.declared.kind.LineKind.TheVariants as kind
 use Rattle.proof_check.specs.Judged.{at, idle, next_line, WeightedSteps, shares_of}
 use Rattle.proof_check.specs.Kept.{IsIn, IsWeighing, JudgesWeighted, JudgesGroup, JudgesOmission, StepsOn}
 use Rattle.proof_check.specs.declared.nodes.NodeJudge.{NodeJudge}

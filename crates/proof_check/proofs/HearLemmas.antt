@@ -9,8 +9,8 @@ use Rattle.cave_model.specs.Cave.{Cave}
 use Rattle.cave_model.specs.Spawn.{IsDark}
 use Rattle.lit_lists.specs.Lists.{LitLists, AreListsOf}
 use Rattle.certificate_lines.specs.Said.{Said, said}
-use Rattle.certificate_lines.specs.declared.kind.Kind.{Kind}
-use Rattle.certificate_lines.specs.declared.kind.Kind.TheVariants as kind
+use Rattle.certificate_lines.specs.declared.kind.LineKind.{LineKind}
+use Rattle.certificate_lines.specs.declared.kind.LineKind.TheVariants as kind
 use Rattle.proof_check.specs.Refused.{IsListed}
 use Rattle.proof_check.specs.Judged.{JudgeState, Judged, at, stuck, NodeSteps, Runs, start}
 use Rattle.proof_check.specs.Kept.{IsWide, Keeps, Judges}
@@ -41,7 +41,7 @@ pub torch_push : (all : List Said) (numbers : List ℕ)
 torch_push all numbers = flat_push (λ s. part_if (is_torch_line s.kind) s.numbers) all (said kind.Torches numbers)
 
 -- any other kind is no line of dark cells
-dark_other : (k : Kind) → (k ≢ kind.Dark) → is_dark_line k ≡ false
+dark_other : (k : LineKind) → (k ≢ kind.Dark) → is_dark_line k ≡ false
 dark_other kind.Version ne = refl
 dark_other kind.Size ne = refl
 dark_other kind.Headroom ne = refl
@@ -59,7 +59,7 @@ dark_other kind.Omit ne = refl
 dark_other kind.End ne = refl
 
 -- any other kind is no line of torches
-torch_other : (k : Kind) → (k ≢ kind.Torches) → is_torch_line k ≡ false
+torch_other : (k : LineKind) → (k ≢ kind.Torches) → is_torch_line k ≡ false
 torch_other kind.Version ne = refl
 torch_other kind.Size ne = refl
 torch_other kind.Headroom ne = refl
@@ -77,13 +77,13 @@ torch_other kind.Omit ne = refl
 torch_other kind.End ne = refl
 
 -- a line of another kind leaves the regions as they were
-pub no_dark : (all : List Said) (k : Kind) (numbers : List ℕ) → (k ≢ kind.Dark)
+pub no_dark : (all : List Said) (k : LineKind) (numbers : List ℕ) → (k ≢ kind.Dark)
     → dark_parts (all ++ said k numbers ∷ []) ≡ dark_parts all
 no_dark all k numbers ne = flat_push (λ s. part_if (is_dark_line s.kind) s.numbers) all (said k numbers)
     ∙ ap (λ (b : Bool). dark_parts all ++ part_if b numbers) (dark_other k ne) ∙ append-nil (dark_parts all)
 
 -- a line of another kind leaves the torches as they were
-pub no_torch : (all : List Said) (k : Kind) (numbers : List ℕ) → (k ≢ kind.Torches)
+pub no_torch : (all : List Said) (k : LineKind) (numbers : List ℕ) → (k ≢ kind.Torches)
     → torch_parts (all ++ said k numbers ∷ []) ≡ torch_parts all
 no_torch all k numbers ne = flat_push (λ s. part_if (is_torch_line s.kind) s.numbers) all (said k numbers)
     ∙ ap (λ (b : Bool). torch_parts all ++ part_if b numbers) (torch_other k ne) ∙ append-nil (torch_parts all)
@@ -108,9 +108,9 @@ listed_before all s cell l = (
 )
 
 -- the cells of a line of dark cells are listed in a region
-listed_now : (all : List Said) (k : Kind) (numbers : List ℕ) (cell : ℕ) → k ≡ kind.Dark → Contains numbers cell
+listed_now : (all : List Said) (k : LineKind) (numbers : List ℕ) (cell : ℕ) → k ≡ kind.Dark → Contains numbers cell
     → IsListed (dark_parts (all ++ said k numbers ∷ [])) cell
-listed_now all k numbers cell e h = subst (λ (j : Kind). IsListed (dark_parts (all ++ said j numbers ∷ [])) cell)
+listed_now all k numbers cell e h = subst (λ (j : LineKind). IsListed (dark_parts (all ++ said j numbers ∷ [])) cell)
     (sym e) (
       length (dark_parts all),
       subst (λ (p : List (List ℕ)). Stands p (length (dark_parts all)) cell)
@@ -123,7 +123,7 @@ line_of (at s) = s.line
 line_of (stuck bad) = 0
 
 -- after a step the next line is expected
-step_line : (cave : Cave) (k : Kind) (numbers : List ℕ) (s : JudgeState) (j : Judged) → NodeSteps cave k numbers s j
+step_line : (cave : Cave) (k : LineKind) (numbers : List ℕ) (s : JudgeState) (j : Judged) → NodeSteps cave k numbers s j
     → IsBefore j (s.line + 1)
 unfolding line_of
 step_line cave k numbers s (stuck bad) h = tt
@@ -163,7 +163,7 @@ step_line cave kind.Omit (n ∷ ns) s (at t) (inl h) = ap line_of h.1
 step_line cave kind.Omit (n ∷ ns) s (at t) (inr h) = absurd (let e = h.1 in cc)
 
 -- a line more, judged by its kind, leads the judge of nodes on
-pub nodes_led : (cave : Cave) (old new : Judge) (all : List Said) (k : Kind) (numbers : List ℕ) (line : ℕ)
+pub nodes_led : (cave : Cave) (old new : Judge) (all : List Said) (k : LineKind) (numbers : List ℕ) (line : ℕ)
     → new.lists ≡ old.lists → AreListsOf cave old.lists → Judges old.lists k numbers line old.nodes new.nodes
     → line ≡ length all + 1
     → (((cell : ℕ) → IsListed (dark_parts all) cell → IsDark cave cell) → IsLed cave old all)
@@ -198,7 +198,7 @@ nodes_led cave old new all k numbers line same known judges e led dark = go was.
 -- ---- a line more
 
 -- the judge has heard a line once nodes, torches and regions have
-pub hears_by : (k : Kind) (numbers : List ℕ) (line : ℕ) (old new : Judge) → new.lists ≡ old.lists
+pub hears_by : (k : LineKind) (numbers : List ℕ) (line : ℕ) (old new : Judge) → new.lists ≡ old.lists
     → Judges old.lists k numbers line old.nodes new.nodes → IsWide old.lists new.nodes
     → ((all : List Said) → AreHomesOf (torch_parts all) old.torches
     → AreHomesOf (torch_parts (all ++ said k numbers ∷ [])) new.torches)
@@ -219,26 +219,26 @@ hears_by k numbers line old new same judges wide torches regions t r = record {
 }
 
 -- cells that join as the next list are the next region
-pub regions_join : (all : List Said) (k : Kind) (numbers : List ℕ) (old new : Homes) → k ≡ kind.Dark
+pub regions_join : (all : List Said) (k : LineKind) (numbers : List ℕ) (old new : Homes) → k ≡ kind.Dark
     → Joins numbers old new → AreHomesOf (dark_parts all) old → AreHomesOf (dark_parts (all ++ said k numbers ∷ [])) new
 regions_join all k numbers old new e j a =
-    subst (λ (x : Kind). AreHomesOf (dark_parts (all ++ said x numbers ∷ [])) new) (sym e)
+    subst (λ (x : LineKind). AreHomesOf (dark_parts (all ++ said x numbers ∷ [])) new) (sym e)
     (subst (λ (p : List (List ℕ)). AreHomesOf p new) (sym (dark_push all numbers)) (j.each (dark_parts all) a))
 
 -- torches that join as the next list are the next list of torches
-pub torches_join : (all : List Said) (k : Kind) (numbers : List ℕ) (old new : Homes) → k ≡ kind.Torches
+pub torches_join : (all : List Said) (k : LineKind) (numbers : List ℕ) (old new : Homes) → k ≡ kind.Torches
     → Joins numbers old new → AreHomesOf (torch_parts all) old
     → AreHomesOf (torch_parts (all ++ said k numbers ∷ [])) new
 torches_join all k numbers old new e j a =
-    subst (λ (x : Kind). AreHomesOf (torch_parts (all ++ said x numbers ∷ [])) new) (sym e)
+    subst (λ (x : LineKind). AreHomesOf (torch_parts (all ++ said x numbers ∷ [])) new) (sym e)
     (subst (λ (p : List (List ℕ)). AreHomesOf p new) (sym (torch_push all numbers)) (j.each (torch_parts all) a))
 
 -- the homes of the regions stay at a line of another kind
-pub regions_stay : (all : List Said) (k : Kind) (numbers : List ℕ) (h : Homes) → (k ≢ kind.Dark)
+pub regions_stay : (all : List Said) (k : LineKind) (numbers : List ℕ) (h : Homes) → (k ≢ kind.Dark)
     → AreHomesOf (dark_parts all) h → AreHomesOf (dark_parts (all ++ said k numbers ∷ [])) h
 regions_stay all k numbers h ne a = subst (λ (p : List (List ℕ)). AreHomesOf p h) (sym (no_dark all k numbers ne)) a
 
 -- the homes of the torches stay at a line of another kind
-pub torches_stay : (all : List Said) (k : Kind) (numbers : List ℕ) (h : Homes) → (k ≢ kind.Torches)
+pub torches_stay : (all : List Said) (k : LineKind) (numbers : List ℕ) (h : Homes) → (k ≢ kind.Torches)
     → AreHomesOf (torch_parts all) h → AreHomesOf (torch_parts (all ++ said k numbers ∷ [])) h
 torches_stay all k numbers h ne a = subst (λ (p : List (List ℕ)). AreHomesOf p h) (sym (no_torch all k numbers ne)) a

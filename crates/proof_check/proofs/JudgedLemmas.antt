@@ -21,7 +21,7 @@ use Rattle.proof_rules.specs.Certificate.{Section, Version, first, second, third
 use Rattle.proof_rules.specs.Certificate.{AreTreesIn, IsSectionIn}
 use Rattle.certificate_lines.specs.Said.{Said, said, share_numbers, group_said, tree_said, forest_said, section_said}
 use Rattle.certificate_lines.specs.Said.{said_of}
-use Rattle.certificate_lines.specs.declared.kind.Kind.TheVariants as kind
+use Rattle.certificate_lines.specs.declared.kind.LineKind.TheVariants as kind
 use Rattle.proof_check.specs.Accepted.{AreProved}
 use Rattle.proof_check.specs.Refused.{IsBadAt, AreBadAt, IsFirstBad, weak_leaf, weak_leaf_of, first_weak, start_line}
 use Rattle.proof_check.specs.Judged.{Frame, Spot, outset, Weighing, idle, JudgeState, Judged, at, stuck, enter, close}

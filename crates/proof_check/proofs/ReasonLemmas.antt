@@ -13,8 +13,8 @@ use Rattle.proof_check.specs.declared.reason.Reason.TheVariants.{BadNode, TooWea
 use Rattle.proof_check.proofs.RefusalLemmas.{open_once, bad_proves_none, first_bad, bad_torch, left_dark, bad_cell}
 
 -- a kind of cell has one least cell
-one_least : {Kind : ℕ → Type 0} {a b : ℕ} → IsLeast Kind a → IsLeast Kind b → a ≡ b
-one_least {Kind} {a} {b} p q = omega (arith, p.first b q.is, q.first a p.is)
+one_least : {LineKind : ℕ → Type 0} {a b : ℕ} → IsLeast LineKind a → IsLeast LineKind b → a ≡ b
+one_least {LineKind} {a} {b} p q = omega (arith, p.first b q.is, q.first a p.is)
 
 -- ---- the first bad line
 

@@ -13,7 +13,7 @@ use Rattle.proof_rules.specs.Certificate.{IsSectionIn}
 use Rattle.proof_rules.specs.Certificate.{need_of, regions_of, torch_lists}
 use Rattle.certificate_lines.specs.Said.{Said, said, share_numbers, group_said, tree_said, forest_said, section_said}
 use Rattle.certificate_lines.specs.Said.{said_of}
-use Rattle.certificate_lines.specs.declared.kind.Kind.TheVariants as kind
+use Rattle.certificate_lines.specs.declared.kind.LineKind.TheVariants as kind
 use Rattle.proof_check.specs.Accepted.{IsOfCave}
 use Rattle.proof_check.specs.Heard.{part_if, is_dark_line, is_torch_line, dark_parts, torch_parts}
 use Rattle.proof_check.specs.Tried.{AgreesWithSaid, Differs}

@@ -6,8 +6,8 @@ use Rattle.cave_model.specs.Cave.{Cave}
 use Rattle.cave_model.specs.Spawn.{IsDark}
 use Rattle.lit_lists.specs.Lists.{LitLists}
 use Rattle.lit_lists.proofs.PairLemmas.{marked_inside}
-use Rattle.certificate_lines.specs.declared.kind.Kind.{Kind}
-use Rattle.certificate_lines.specs.declared.kind.Kind.TheVariants as kind
+use Rattle.certificate_lines.specs.declared.kind.LineKind.{LineKind}
+use Rattle.certificate_lines.specs.declared.kind.LineKind.TheVariants as kind
 use Rattle.proof_check.specs.Judged.{JudgeState, at, outset, next_line, NodeSteps}
 use Rattle.proof_check.specs.Track.{IsAt}
 use Rattle.proof_check.specs.Kept.{IsWide, IsWeighing, JudgesLeaf, StepsOn, BeginsRegion, Expects}
@@ -17,11 +17,11 @@ use Rattle.proof_check.specs.declared.weighing.Weighing as held
 use Rattle.node_judges.specs.Tally.{Tally}
 
 -- a line that says nothing of nodes
-abbrev SaysNothing : Kind → List ℕ → Type 0
+abbrev SaysNothing : LineKind → List ℕ → Type 0
 SaysNothing k numbers = (cave : Cave) (s : JudgeState) → NodeSteps cave k numbers s (at (next_line s))
 
 -- a line by which no state changes but its number leaves the nodes as they are
-pub nothing_said : (lists : LitLists) (k : Kind) (numbers : List ℕ) (line : ℕ) (nodes : NodeJudge)
+pub nothing_said : (lists : LitLists) (k : LineKind) (numbers : List ℕ) (line : ℕ) (nodes : NodeJudge)
     → ((cave : Cave) (s : JudgeState) → NodeSteps cave k numbers s (at (next_line s)))
     → StepsOn lists k numbers line nodes nodes
 nothing_said lists k numbers line nodes f = record {
@@ -75,7 +75,8 @@ leaf_steps lists (n ∷ ns) line old new h j =
     record { each = λ cave s known i e d. here.each cave s known i e }
 
 -- a line of no kind of node says nothing of nodes
-pub other_nothing : (lists : LitLists) (k : Kind) (numbers : List ℕ) (line : ℕ) (nodes : NodeJudge) → (k ≢ kind.Dark)
+pub other_nothing : (lists : LitLists) (k : LineKind) (numbers : List ℕ) (line : ℕ) (nodes : NodeJudge)
+    → (k ≢ kind.Dark)
     → (k ≢ kind.Torches) → (k ≢ kind.Leaf) → (k ≢ kind.Branch) → (k ≢ kind.Bar)
     → (k ≢ kind.Weighted) → (k ≢ kind.Group) → (k ≢ kind.Omit)
     → StepsOn lists k numbers line nodes nodes

@@ -14,8 +14,8 @@ use Rattle.certificate_lines.specs.Numbers.{numbers_text}
 use Rattle.certificate_lines.specs.Said.{Said, said, AreSaid}
 use Rattle.certificate_lines.proofs.Pushing.{going}
 use Rattle.certificate_lines.proofs.SaidLemmas.{said_many}
-use Rattle.certificate_lines.specs.declared.kind.Kind.{Kind}
-use Rattle.certificate_lines.specs.declared.kind.Kind.TheVariants as kind
+use Rattle.certificate_lines.specs.declared.kind.LineKind.{LineKind}
+use Rattle.certificate_lines.specs.declared.kind.LineKind.TheVariants as kind
 use Rattle.proof_check.specs.Heard.{part_if, is_dark_line, is_torch_line, torch_parts, Hears}
 use Rattle.proof_check.specs.Kept.{IsWide}
 use Rattle.node_judges.specs.Tests.{AreAscending}
@@ -62,7 +62,7 @@ part_few true ns more = omega arith
 part_few false ns more = omega arith
 
 -- there are at most as many lists as lines
-parts_few : (is : Kind → Bool) (all : List Said)
+parts_few : (is : LineKind → Bool) (all : List Said)
     → length (flat_map (λ s. part_if (is s.kind) s.numbers) all) ≤ length all
 parts_few is [] = omega arith
 parts_few is (s ∷ all) = omega
@@ -94,7 +94,7 @@ torches_fit bytes all kept e h =
     )
 
 -- the torches of a line are those that it is counted with
-on_length : (k : Kind) (ns : List ℕ) → length (all_cells (part_if (is_torch_line k) ns)) ≡ torches_on k ns
+on_length : (k : LineKind) (ns : List ℕ) → length (all_cells (part_if (is_torch_line k) ns)) ≡ torches_on k ns
 on_length kind.Version ns = refl
 on_length kind.Size ns = refl
 on_length kind.Headroom ns = refl
@@ -112,7 +112,7 @@ on_length kind.Omit ns = refl
 on_length kind.End ns = refl
 
 -- a line more adds its torches to the number
-torches_push : (all : List Said) (k : Kind) (ns : List ℕ)
+torches_push : (all : List Said) (k : LineKind) (ns : List ℕ)
     → length (all_cells (torch_parts (all ++ said k ns ∷ []))) ≡ length (all_cells (torch_parts all)) + torches_on k ns
 torches_push all k ns =
     let e = ap (λ (p : List (List ℕ)). length (all_cells p))
@@ -128,7 +128,7 @@ torches_push all k ns =
 
 -- ---- before a line is heard
 
-module _ (cave : Cave) (t : Trial) (k : Kind) (b : IsBehind cave t k) (same : t.differs ≡ false) where
+module _ (cave : Cave) (t : Trial) (k : LineKind) (b : IsBehind cave t k) (same : t.differs ≡ false) where
   heard : IsHeard cave t.judge t.torches b.all
   heard = subst (λ (d : Bool). MatchBool d (Differs cave b.all) (IsHeard cave t.judge t.torches b.all)) same b.follows
 
@@ -178,7 +178,7 @@ differs_more cave all s d = record {
 }
 
 -- once something differs, nothing more is heard
-pub catches_differing : (cave : Cave) (k : Kind) (t : Trial) → t.differs ≡ true → Catches cave k t t
+pub catches_differing : (cave : Cave) (k : LineKind) (t : Trial) → t.differs ≡ true → Catches cave k t t
 catches_differing cave k t e = record {
   each = λ all n f.
       let d = subst (λ (d : Bool). MatchBool d (Differs cave all) (IsHeard cave t.judge t.torches all)) e f in
@@ -188,7 +188,7 @@ catches_differing cave k t e = record {
 }
 
 -- a line that differs from the cave is caught
-pub catches_other : (cave : Cave) (k : Kind) (old new : Trial) → new.differs ≡ true
+pub catches_other : (cave : Cave) (k : LineKind) (old new : Trial) → new.differs ≡ true
     → (¬ AgreesOn cave k old.pieces.numbers) → Catches cave k old new
 catches_other cave k old new e no_other = record {
   each = λ all n f.
@@ -202,7 +202,7 @@ catches_other cave k old new e no_other = record {
 }
 
 -- a line that agrees is heard by the judge, and its torches are counted
-pub catches_line : (cave : Cave) (k : Kind) (line : ℕ) (old new : Trial) → old.differs ≡ false → new.differs ≡ false
+pub catches_line : (cave : Cave) (k : LineKind) (line : ℕ) (old new : Trial) → old.differs ≡ false → new.differs ≡ false
     → AgreesOn cave k old.pieces.numbers → new.torches ≡ old.torches + torches_on k old.pieces.numbers
     → line ≡ old.pieces.taken
     → Hears k old.pieces.numbers line old.judge new.judge → Catches cave k old new
@@ -243,7 +243,7 @@ ends_piece cave piece old new e f g ends = record {
 }
 
 -- a line that was just taken is one that the judge hasn't heard yet
-pub is_behind : (cave : Cave) (piece after : List ℕ) (k : Kind) (old mid : Trial) → HasRoom cave old (length piece)
+pub is_behind : (cave : Cave) (piece after : List ℕ) (k : LineKind) (old mid : Trial) → HasRoom cave old (length piece)
     → mid.judge ≡ old.judge → mid.differs ≡ old.differs → mid.torches ≡ old.torches
     → TakesLine piece after k old.pieces mid.pieces → IsBehind cave mid k
 is_behind cave piece after k old mid r e f g takes = record {
@@ -262,7 +262,7 @@ is_behind cave piece after k old mid r e f g takes = record {
 }
 
 -- the line taken from a piece was heard
-pub hears_to : (cave : Cave) (piece after : List ℕ) (k : Kind) (old mid new : Trial) → mid.judge ≡ old.judge
+pub hears_to : (cave : Cave) (piece after : List ℕ) (k : LineKind) (old mid new : Trial) → mid.judge ≡ old.judge
     → mid.differs ≡ old.differs → mid.torches ≡ old.torches → TakesLine piece after k old.pieces mid.pieces
     → new.pieces ≡ mid.pieces → Catches cave k mid new → HearsTo cave piece after old new
 hears_to cave piece after k old mid new e f g takes same catches = record {

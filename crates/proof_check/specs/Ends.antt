@@ -33,18 +33,18 @@ is_unparted (home.Only i) needed = not needed
 is_unparted home.Several needed = true
 
 -- it holds of no cell of a box of so many
-pub record IsNoneBelow (Kind : ℕ → Type 0) (count : ℕ) : Type 0 where
-  pub each : (cell : ℕ) → cell < count → ¬ Kind cell
+pub record IsNoneBelow (LineKind : ℕ → Type 0) (count : ℕ) : Type 0 where
+  pub each : (cell : ℕ) → cell < count → ¬ LineKind cell
 
 -- the first cell of the box of which it holds
-pub record IsFirstBelow (Kind : ℕ → Type 0) (count cell : ℕ) : Type 0 where
+pub record IsFirstBelow (LineKind : ℕ → Type 0) (count cell : ℕ) : Type 0 where
   pub inside : cell < count
-  pub is : Kind cell
-  pub before : IsNoneBelow Kind cell
+  pub is : LineKind cell
+  pub before : IsNoneBelow LineKind cell
 
 -- the first cell of the box of which it holds, or none where it holds of none
 abbrev pub IsFirst : (ℕ → Type 0) → ℕ → Option ℕ → Type 0
-IsFirst Kind count result = MatchOption result (IsNoneBelow Kind count) (IsFirstBelow Kind count)
+IsFirst LineKind count result = MatchOption result (IsNoneBelow LineKind count) (IsFirstBelow LineKind count)
 
 -- in a box of so many cells each dark one stands in just one list, and no other in any
 pub record AreParted (lists : LitLists) (regions : Homes) (count : ℕ) : Type 0 where

@@ -5,8 +5,8 @@ use Rattle.cave_model.specs.Cave.{Cave}
 use Rattle.cave_model.specs.Spawn.{IsDark}
 use Rattle.lit_lists.specs.Lists.{AreListsOf}
 use Rattle.certificate_lines.specs.Said.{Said, said}
-use Rattle.certificate_lines.specs.declared.kind.Kind.{Kind}
-use Rattle.certificate_lines.specs.declared.kind.Kind.TheVariants as kind
+use Rattle.certificate_lines.specs.declared.kind.LineKind.{LineKind}
+use Rattle.certificate_lines.specs.declared.kind.LineKind.TheVariants as kind
 use Rattle.proof_check.specs.Refused.{IsListed}
 use Rattle.proof_check.specs.Judged.{Judged, at, stuck, Runs, start}
 use Rattle.proof_check.specs.Kept.{IsWide, Keeps}
@@ -18,12 +18,12 @@ abbrev pub part_if : Bool → List ℕ → List (List ℕ)
 part_if b numbers = if b then numbers ∷ [] else []
 
 -- whether such a line lists the cells of a region
-abbrev pub is_dark_line : Kind → Bool
+abbrev pub is_dark_line : LineKind → Bool
 is_dark_line kind.Dark = true
 is_dark_line other = false
 
 -- whether such a line lists the torches of a region
-abbrev pub is_torch_line : Kind → Bool
+abbrev pub is_torch_line : LineKind → Bool
 is_torch_line kind.Torches = true
 is_torch_line other = false
 
@@ -58,6 +58,6 @@ pub record IsAfter (cave : Cave) (judge : Judge) (all : List Said) : Type 0 wher
   pub led : ((cell : ℕ) → IsListed (dark_parts all) cell → IsDark cave cell) → IsLed cave judge all
 
 -- a line more
-pub record Hears (k : Kind) (numbers : List ℕ) (line : ℕ) (old new : Judge) : Type 0 where
+pub record Hears (k : LineKind) (numbers : List ℕ) (line : ℕ) (old new : Judge) : Type 0 where
   pub each : (cave : Cave) (all : List Said) → IsAfter cave old all → line ≡ length all + 1
       → IsAfter cave new (all ++ said k numbers ∷ [])

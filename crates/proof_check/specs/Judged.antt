@@ -13,8 +13,8 @@ use Rattle.proof_rules.specs.Groups.{AreGroups, places_for_all}
 use Rattle.proof_rules.specs.Omitted.{left_without, MayBeOmitted}
 use Rattle.proof_rules.specs.Good.{AreScattered, AreWeighted, IsDominated}
 use Rattle.certificate_lines.specs.Said.{Said}
-use Rattle.certificate_lines.specs.declared.kind.Kind.{Kind}
-use Rattle.certificate_lines.specs.declared.kind.Kind.TheVariants as kind
+use Rattle.certificate_lines.specs.declared.kind.LineKind.{LineKind}
+use Rattle.certificate_lines.specs.declared.kind.LineKind.TheVariants as kind
 use Rattle.proof_check.specs.Refused.{IsBranching}
 
 -- an open branch: its piece with the cells left out, the place of the kid that is judged, with those before it
@@ -168,7 +168,7 @@ shares_of (cell ∷ weight ∷ numbers) = record { cell = cell; weight = weight 
 shares_of other = []
 
 -- by the kind and the numbers of a line; a node of another shape, which no certificate has, says nothing
-abbrev pub NodeSteps : Cave → Kind → List ℕ → JudgeState → Judged → Type 0
+abbrev pub NodeSteps : Cave → LineKind → List ℕ → JudgeState → Judged → Type 0
 NodeSteps cave kind.Leaf (count ∷ these) j new = LeafSteps cave these j new
 NodeSteps cave kind.Branch (cell ∷ count ∷ []) j new = BranchSteps cave cell count j new
 NodeSteps cave kind.Bar (place ∷ by ∷ []) j new = BarSteps cave place by j new

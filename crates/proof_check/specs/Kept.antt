@@ -3,8 +3,8 @@ use Rattle.std.specs.Prelude.{◌≡◌, ℕ, ◌<◌, ◌≤◌, List, [], leng
 use Rattle.cave_model.specs.Cave.{Cave}
 use Rattle.cave_model.specs.Spawn.{IsDark}
 use Rattle.lit_lists.specs.Lists.{LitLists, AreListsOf}
-use Rattle.certificate_lines.specs.declared.kind.Kind.{Kind}
-use Rattle.certificate_lines.specs.declared.kind.Kind.TheVariants as kind
+use Rattle.certificate_lines.specs.declared.kind.LineKind.{LineKind}
+use Rattle.certificate_lines.specs.declared.kind.LineKind.TheVariants as kind
 use Rattle.proof_rules.specs.declared.groups.Group.{Group}
 use Rattle.proof_rules.specs.Omitted.{left_without}
 use Rattle.proof_check.specs.Judged.{Weighing, idle, JudgeState, Judged, at, stuck, LeafSteps, WeightedSteps}
@@ -106,17 +106,17 @@ pub record JudgesOmission (lists : LitLists) (these : List ℕ) (line : ℕ) (ol
       → (next : Judged) × OmitSteps cave these state next × Keeps cave lists new next
 
 -- a line of the kind Dark has dark cells alone
-abbrev pub AreDarkAt : Cave → Kind → List ℕ → Type 0
+abbrev pub AreDarkAt : Cave → LineKind → List ℕ → Type 0
 AreDarkAt cave k numbers = k ≡ kind.Dark → (cell : ℕ) → Contains numbers cell → IsDark cave cell
 
 -- from any state on this line, a step with the numbers of a line of this kind
-pub record StepsOn (lists : LitLists) (k : Kind) (numbers : List ℕ) (line : ℕ) (old new : NodeJudge) : Type 0 where
+pub record StepsOn (lists : LitLists) (k : LineKind) (numbers : List ℕ) (line : ℕ) (old new : NodeJudge) : Type 0 where
   pub each : (cave : Cave) (state : JudgeState) → AreListsOf cave lists → IsIn cave lists old state
       → line ≡ state.line → AreDarkAt cave k numbers
       → (next : Judged) × NodeSteps cave k numbers state next × Keeps cave lists new next
 
 -- a line is judged; after a bad one nothing is
-pub record Judges (lists : LitLists) (k : Kind) (numbers : List ℕ) (line : ℕ) (old new : NodeJudge) : Type 0 where
+pub record Judges (lists : LitLists) (k : LineKind) (numbers : List ℕ) (line : ℕ) (old new : NodeJudge) : Type 0 where
   pub steps : old.bad ≡ None → StepsOn lists k numbers line old new
   pub still : (bad : ℕ) → old.bad ≡ Some bad → new.bad ≡ Some bad
 

@@ -5,8 +5,8 @@ use Rattle.cave_model.specs.Cave.{Cave}
 use Rattle.cave_model.specs.Regions.{all_cells}
 use Rattle.certificate_lines.specs.Held.{Holds}
 use Rattle.certificate_lines.specs.Said.{Said, said}
-use Rattle.certificate_lines.specs.declared.kind.Kind.{Kind}
-use Rattle.certificate_lines.specs.declared.kind.Kind.TheVariants as kind
+use Rattle.certificate_lines.specs.declared.kind.LineKind.{LineKind}
+use Rattle.certificate_lines.specs.declared.kind.LineKind.TheVariants as kind
 use Rattle.proof_check.specs.Heard.{IsAfter, torch_parts}
 use Rattle.proof_check.specs.Verdict.{IsVerdictOf}
 use Rattle.proof_check.specs.declared.judge.Judge.{Judge}
@@ -15,7 +15,7 @@ use Rattle.proof_check.specs.declared.verdict.Verdict.{Verdict}
 
 -- a line of this kind with these numbers speaks of the cave's box and rule, or of neither; the first version of the
 -- text stands for a need of 1
-abbrev pub AgreesOn : Cave → Kind → List ℕ → Type 0
+abbrev pub AgreesOn : Cave → LineKind → List ℕ → Type 0
 AgreesOn cave kind.Version numbers = numbers ≡ 1 ∷ [] → cave.rule.need ≡ 1
 AgreesOn cave kind.Size numbers = numbers ≡ cave.size.x ∷ cave.size.y ∷ cave.size.z ∷ []
 AgreesOn cave kind.Headroom numbers = numbers ≡ cave.rule.headroom ∷ []
@@ -27,7 +27,7 @@ abbrev pub AgreesWithSaid : Cave → Said → Type 0
 AgreesWithSaid cave s = AgreesOn cave s.kind s.numbers
 
 -- how many torches such a line has
-abbrev pub torches_on : Kind → List ℕ → ℕ
+abbrev pub torches_on : LineKind → List ℕ → ℕ
 torches_on kind.Torches numbers = length numbers
 torches_on other numbers = 0
 
@@ -60,7 +60,7 @@ pub record HasRoom (cave : Cave) (t : Trial) (more : ℕ) : Type 0 where
   pub room : length bytes + more < 2 ^ 64
 
 -- the pieces have taken a line more than was heard
-pub record IsBehind (cave : Cave) (t : Trial) (k : Kind) : Type 0 where
+pub record IsBehind (cave : Cave) (t : Trial) (k : LineKind) : Type 0 where
   pub bytes : List ℕ
   pub all : List Said
   pub holds : Holds bytes (all ++ said k t.pieces.numbers ∷ []) t.pieces
@@ -69,7 +69,7 @@ pub record IsBehind (cave : Cave) (t : Trial) (k : Kind) : Type 0 where
   pub going : t.pieces.misfit ≡ None
 
 -- that line is heard
-pub record Catches (cave : Cave) (k : Kind) (old new : Trial) : Type 0 where
+pub record Catches (cave : Cave) (k : LineKind) (old new : Trial) : Type 0 where
   pub each : (all : List Said) → old.pieces.taken ≡ length all + 1 → Follows cave old all
       → Follows cave new (all ++ said k old.pieces.numbers ∷ [])
 

@@ -6,7 +6,7 @@ ghost use Rattle.node_judges.specs.Tests.{AreAscending};
 use crate::homes::Homes;
 use crate::nodes::NodeJudge;
 use cave_model::World;
-use certificate_lines::Kind;
+use certificate_lines::LineKind;
 use lit_lists::Lists;
 use std::alloc::{AllocError, Global};
 
@@ -38,7 +38,7 @@ impl Judge {
     }
 
     /// Takes what a line says.
-    pub fn line(&mut self, kind: Kind, numbers: &[u32], line: u64) -> Result<(), AllocError>
+    pub fn line(&mut self, kind: LineKind, numbers: &[u32], line: u64) -> Result<(), AllocError>
         requires wide { IsWide self.old.lists self.old.nodes }
         requires ascending { AreAscending self.old.lists }
         requires torches { self.old.torches.count + 1 < 2 ^ 64 }
@@ -47,8 +47,8 @@ impl Judge {
     {
         self.nodes.line(&self.lists, kind, numbers, line)?;
         match kind {
-            Kind::Dark => self.regions.join(numbers),
-            Kind::Torches => self.torches.join(numbers),
+            LineKind::Dark => self.regions.join(numbers),
+            LineKind::Torches => self.torches.join(numbers),
             _ => {}
         }
         Ok(())

@@ -2,11 +2,11 @@
 ghost use Rattle.std.specs.Prelude.{OnOk};
 ghost use Rattle.proof_check.specs.Kept.{IsWide, Judges, StepsOn};
 ghost use Rattle.node_judges.specs.Tests.{AreAscending};
-ghost use Rattle.certificate_lines.specs.declared.kind.Kind.TheVariants as kinds;
+ghost use Rattle.certificate_lines.specs.declared.kind.LineKind.TheVariants as kinds;
 
 use crate::nodes::NodeJudge;
 use crate::weighing::{Weighing, shares_of};
-use certificate_lines::Kind;
+use certificate_lines::LineKind;
 use lit_lists::Lists;
 use proof_rules::Group;
 use std::alloc::AllocError;
@@ -94,7 +94,7 @@ impl NodeJudge {
     fn step(
         &mut self,
         lists: &Lists,
-        kind: Kind,
+        kind: LineKind,
         numbers: &[u32],
         line: u64,
     ) -> Result<(), AllocError>
@@ -104,14 +104,14 @@ impl NodeJudge {
         ensures wide { OnOk result (IsWide lists.now self.new) }
     {
         match kind {
-            Kind::Leaf => self.leaf_line(lists, numbers, line)?,
-            Kind::Branch => self.branch_line(lists, numbers, line)?,
-            Kind::Bar => self.bar_line(lists, numbers, line)?,
-            Kind::Weighted => self.weighted_line(lists, numbers, line),
-            Kind::Group => self.group_line(lists, numbers, line)?,
-            Kind::Omit => self.omit_line(lists, numbers, line)?,
-            Kind::Dark => self.begin(numbers)?,
-            Kind::Torches => self.expect(numbers.len()),
+            LineKind::Leaf => self.leaf_line(lists, numbers, line)?,
+            LineKind::Branch => self.branch_line(lists, numbers, line)?,
+            LineKind::Bar => self.bar_line(lists, numbers, line)?,
+            LineKind::Weighted => self.weighted_line(lists, numbers, line),
+            LineKind::Group => self.group_line(lists, numbers, line)?,
+            LineKind::Omit => self.omit_line(lists, numbers, line)?,
+            LineKind::Dark => self.begin(numbers)?,
+            LineKind::Torches => self.expect(numbers.len()),
             _ => {}
         }
         Ok(())
@@ -121,7 +121,7 @@ impl NodeJudge {
     pub fn line(
         &mut self,
         lists: &Lists,
-        kind: Kind,
+        kind: LineKind,
         numbers: &[u32],
         line: u64,
     ) -> Result<(), AllocError>

@@ -1,14 +1,14 @@
 ghost use Rattle.std.specs.Prelude.{◌≡◌, ◌∷◌, [], ◌↔◌, IsTrue, length, IfOk, OnOk, MatchOption};
 ghost use Rattle.proof_check.specs.Tried.{AgreesOn, Catches, Concludes, HasRoom, HearsAll, HearsTo, IsBehind, Tried};
 ghost use Rattle.proof_check.specs.Tried.{torches_on};
-ghost use Rattle.certificate_lines.specs.declared.kind.Kind.TheVariants.{Size};
+ghost use Rattle.certificate_lines.specs.declared.kind.LineKind.TheVariants.{Size};
 
 use crate::ending::reason_of;
 use crate::judge::Judge;
 use crate::reason::Reason;
 use crate::verdict::Verdict;
 use cave_model::World;
-use certificate_lines::{Kind, Pieces};
+use certificate_lines::{LineKind, Pieces};
 use std::alloc::{AllocError, Global};
 
 /// A certificate that is judged as its bytes come.
@@ -81,7 +81,7 @@ impl Trial {
     }
 
     /// Judges the line that was taken last.
-    fn hear(&mut self, world: &World, kind: Kind) -> Result<(), AllocError>
+    fn hear(&mut self, world: &World, kind: LineKind) -> Result<(), AllocError>
         requires { IsBehind world.now self.old kind }
         ensures pieces { self.new.pieces ≡ self.old.pieces }
         ensures catches { OnOk result (Catches world.now kind self.old self.new) }
@@ -101,24 +101,24 @@ impl Trial {
 }
 
 /// How many torches a line has.
-fn torch_count(kind: Kind, numbers: &[u32]) -> u64
+fn torch_count(kind: LineKind, numbers: &[u32]) -> u64
     ensures { result ≡ torches_on kind numbers.now }
 {
     match kind {
-        Kind::Torches => numbers.len() as u64,
+        LineKind::Torches => numbers.len() as u64,
         _ => 0,
     }
 }
 
 /// Whether a line speaks of the world's box and rule, or of neither.
-fn agrees(world: &World, kind: Kind, numbers: &[u32]) -> bool
+fn agrees(world: &World, kind: LineKind, numbers: &[u32]) -> bool
     ensures { IsTrue result ↔ AgreesOn world.now kind numbers.now }
 {
     match kind {
-        Kind::Version => is_first(world, numbers),
-        Kind::Size => are_sides(world, numbers),
-        Kind::Headroom => is_just(numbers, world.rule().headroom),
-        Kind::Need => is_just(numbers, world.need()),
+        LineKind::Version => is_first(world, numbers),
+        LineKind::Size => are_sides(world, numbers),
+        LineKind::Headroom => is_just(numbers, world.rule().headroom),
+        LineKind::Need => is_just(numbers, world.need()),
         _ => true,
     }
 }

@@ -30,7 +30,8 @@ granted_each first each [] row all = omega arith
 granted_each first each (handed ∷ rest) row all =
     let one = of_one handed.turns.limit each handed.turns.granted row.1
     (All-head (λ (h : Handed). IsSpending h.turns) handed rest all).within in
-    let more = granted_each (first + 1) each rest row.2 (All-tail (λ (h : Handed). IsSpending h.turns) handed rest all) in
+    let more = granted_each (first + 1) each rest row.2
+    (All-tail (λ (h : Handed). IsSpending h.turns) handed rest all) in
     let sum = one_more (length rest) each in
     omega (arith, one, more, sum)
 

@@ -12,7 +12,7 @@ use beacon::{Beacon, Seat};
 use piece_deque::Owner;
 use std::alloc::{AllocError, Global};
 use std::sync::Mutex;
-use worker_results::{Access, Accesses, Berth, Naming, Own, Share};
+use worker_results::{Access, Accesses, Berth, Naming, Own, WorkerShare};
 
 /// The first seat, and those that were split off.
 #[derive(Drop)]
@@ -129,7 +129,7 @@ pub(crate) fn fill<B: Naming>(
         let (Some(row), Some(seat)) = (rows.pop(), seats.pop()) else {
             return Err(AllocError);
         };
-        let berth = Berth::new(seat, Share::new(alloc, own, row));
+        let berth = Berth::new(seat, WorkerShare::new(alloc, own, row));
         slots.push(Mutex::new(Some(berth)))?;
     }
     Ok(slots)

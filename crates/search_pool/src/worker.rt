@@ -10,7 +10,7 @@ use piece_deque::Thief;
 use search_core::{Desk, Observer, Strategy};
 use std::alloc::Global;
 use std::sync::{Arc, Mutex, Wait};
-use worker_results::{Berth, Done, Naming, PoolDesk, Share, Step, Tried};
+use worker_results::{Berth, Done, Naming, PoolDesk, Step, Tried, WorkerShare};
 
 /// How often a worker tries to steal from a deque where other threads are first.
 const TRIES: u32 = 1000;
@@ -29,7 +29,7 @@ pub(crate) struct Shared<'e> {
 }
 
 /// Takes a piece of its own deque, or else of the others in order.
-fn next<B: Naming>(share: &mut Share<B>, thieves: &[Thief]) -> bool
+fn next<B: Naming>(share: &mut WorkerShare<B>, thieves: &[Thief]) -> bool
     requires { AreThieves B.deque 0 thieves.now }
     ensures worker { share.new.worker ≡ share.old.worker }
     ensures closed { share.new.closed ≡ share.old.closed }
@@ -46,7 +46,7 @@ fn next<B: Naming>(share: &mut Share<B>, thieves: &[Thief]) -> bool
 }
 
 /// Steals a piece, with so many tries where other threads are first.
-fn steal_from<B: Naming>(share: &mut Share<B>, thieves: &[Thief], deque: usize) -> bool
+fn steal_from<B: Naming>(share: &mut WorkerShare<B>, thieves: &[Thief], deque: usize) -> bool
     requires thieves { AreThieves B.deque 0 thieves.now }
     requires number { deque < length thieves.now }
     ensures worker { share.new.worker ≡ share.old.worker }
@@ -67,7 +67,7 @@ fn steal_from<B: Naming>(share: &mut Share<B>, thieves: &[Thief], deque: usize) 
 fn work_on<B: Naming, S: Strategy, D: Desk>(
     alloc: Global,
     shared: Shared<'_>,
-    share: &mut Share<B>,
+    share: &mut WorkerShare<B>,
     desk: &mut D,
 )
     requires { (arc_value shared.region.now ≡ B.region) × (D.region desk.old ≡ B.region) }
@@ -85,7 +85,7 @@ fn work_on<B: Naming, S: Strategy, D: Desk>(
 }
 
 /// Whether the name of the piece that was taken last is shorter than this.
-fn has_short_name<B: Naming>(share: &Share<B>, length: usize) -> bool {
+fn has_short_name<B: Naming>(share: &WorkerShare<B>, length: usize) -> bool {
     match share.last_name() {
         Some(name) => name.as_slice().len() < length,
         None => false,

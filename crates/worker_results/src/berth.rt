@@ -5,7 +5,7 @@ ghost use Rattle.worker_results.specs.Spendings.{unspent};
 
 use crate::done::Done;
 use crate::naming::Naming;
-use crate::share::Share;
+use crate::share::WorkerShare;
 use crate::spending::Spending;
 use beacon::Seat;
 use std::marker::Model;
@@ -14,7 +14,7 @@ use std::marker::Model;
 #[derive(Drop)]
 pub struct Berth<B: Naming> {
     seat: Seat,
-    share: Share<B>,
+    share: WorkerShare<B>,
 }
 
 impl<B: Naming> Model for Berth<B> {
@@ -34,7 +34,7 @@ impl<B: Naming> Model for Berth<B> {
 
 impl<B: Naming> Berth<B> {
     /// The seat and the share of a worker.
-    pub fn new(seat: Seat, share: Share<B>) -> Berth<B>
+    pub fn new(seat: Seat, share: WorkerShare<B>) -> Berth<B>
         requires seat { IsNewSeatAt B.beacon seat }
         requires share { IsFresh (B.start share.worker) share }
         ensures { result ≡ record { share = share; knows = seat.knows; cover = None; turns = unspent None } }
@@ -50,7 +50,7 @@ impl<B: Naming> Berth<B> {
     }
 
     /// The seat and the share.
-    pub fn into_parts(self) -> (Seat, Share<B>)
+    pub fn into_parts(self) -> (Seat, WorkerShare<B>)
         ensures seat { IsNewSeatAt B.beacon result.0 × (result.0.knows ≡ self.knows) }
         ensures share { (result.1 ≡ self.share) × IsFresh (B.start self.share.worker) result.1 }
     {

@@ -5,14 +5,14 @@ ghost use Rattle.worker_results.specs.Steps.{AreSameHeaps, ClosedLast, IsSpentOn
 ghost use Rattle.worker_results.specs.declared.step.Step.TheVariants.{Made};
 
 use crate::naming::Naming;
-use crate::share::Share;
+use crate::share::WorkerShare;
 use crate::step::Step;
 use cave_regions::Region;
 use proof_tree::floor_of;
 use search_core::{CloseFault, Desk, Strategy, close_piece};
 use std::alloc::Global;
 
-impl<B: Naming> Share<B> {
+impl<B: Naming> WorkerShare<B> {
     /// Closes the piece that it took last, if it is of the region, or goes on holding it.
     pub fn close<S: Strategy, D: Desk>(
         &mut self,

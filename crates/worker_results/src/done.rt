@@ -10,7 +10,7 @@ ghost use Rattle.worker_results.specs.Spendings.{IsSpending};
 use crate::accesses::Accesses;
 use crate::naming::Naming;
 use crate::own::Own;
-use crate::share::Share;
+use crate::share::WorkerShare;
 use crate::spending::Spending;
 use beacon::Seat;
 use cave_regions::Cover;
@@ -22,7 +22,7 @@ use std::marker::Model;
 pub struct Done<B: Naming> {
     seat: Seat,
     cover: Option<Cover>,
-    share: Share<B>,
+    share: WorkerShare<B>,
     turns: Spending,
 }
 
@@ -55,7 +55,7 @@ pub struct Parts<B: Naming> {
 
 impl<B: Naming> Done<B> {
     /// The result of a worker.
-    pub fn new(seat: Seat, cover: Option<Cover>, share: Share<B>, turns: Spending) -> Done<B>
+    pub fn new(seat: Seat, cover: Option<Cover>, share: WorkerShare<B>, turns: Spending) -> Done<B>
         requires seat { IsSeatAt B.beacon seat }
         requires kept { KeepsTold cover seat.knows.told }
         requires cover { IfSome cover (IsCoverFor B.region) }

@@ -31,6 +31,6 @@ pub use joined::{Joined, close_up};
 pub use naming::Naming;
 pub use own::Own;
 pub use pool_desk::PoolDesk;
-pub use share::Share;
+pub use share::WorkerShare;
 pub use spending::Spending;
 pub use step::{Step, Tried};

@@ -6,7 +6,7 @@ ghost use Rattle.worker_results.specs.declared.step.Step.TheVariants.{Made};
 
 use crate::naming::Naming;
 use crate::pushing::push_all;
-use crate::share::Share;
+use crate::share::WorkerShare;
 use crate::splitting::split;
 use crate::step::Step;
 use cave_regions::Region;
@@ -14,7 +14,7 @@ use proof_tree::{Opened, Piece};
 use search_core::{Desk, Strategy};
 use std::alloc::Global;
 
-impl<B: Naming> Share<B> {
+impl<B: Naming> WorkerShare<B> {
     /// Opens the piece that it took last, where that is worth while, or goes on holding it. It takes one turn. The kids
     /// go on its own deque, or are kept back where that has no room.
     pub fn open<S: Strategy, D: Desk>(

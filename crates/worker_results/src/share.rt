@@ -14,7 +14,7 @@ use std::marker::Model;
 
 /// A worker's deque, its passes at all deques, and what became of the pieces that it took.
 #[derive(Drop)]
-pub struct Share<B: Naming> {
+pub struct WorkerShare<B: Naming> {
     pub(crate) own: Own<B>,
     pub(crate) reaches: Accesses<B>,
     pub(crate) closed: Vec<Closed>,
@@ -23,7 +23,7 @@ pub struct Share<B: Naming> {
     pub(crate) refused: Vec<Piece>,
 }
 
-impl<B: Naming> Model for Share<B> {
+impl<B: Naming> Model for WorkerShare<B> {
     ghost use Rattle.std.specs.Prelude.{◌≡◌};
     ghost use Rattle.worker_results.specs.Shares.{Shared, shared_coded, share_of, IsShare};
 
@@ -37,15 +37,15 @@ impl<B: Naming> Model for Share<B> {
         (share_of s.own s.reaches s.closed.items s.opened.items s.held.items s.refused.items) };
 }
 
-impl<B: Naming> Share<B> {
+impl<B: Naming> WorkerShare<B> {
     /// Nothing was taken yet, and nothing pushed but what is there at the start.
-    pub fn new(alloc: Global, own: Own<B>, reaches: Accesses<B>) -> Share<B>
+    pub fn new(alloc: Global, own: Own<B>, reaches: Accesses<B>) -> WorkerShare<B>
         requires own { (own.knows.out ≡ B.workers) × (own.knows.pushed ≡ B.start own.worker) × (own.knows.taken ≡ []) }
         requires others { all_taken reaches ≡ [] }
         ensures passes { (result.worker ≡ own.worker) × (result.own ≡ own.knows) × (result.reaches ≡ reaches) }
         ensures fresh { IsFresh (B.start own.worker) result }
     {
-        Share {
+        WorkerShare {
             own,
             reaches,
             closed: Vec::new(alloc),
@@ -78,7 +78,7 @@ impl<B: Naming> Share<B> {
         ensures work { result.2 ≡ work_of self cover }
         ensures share { IsShare B.region (B.start self.worker) self }
     {
-        let Share {
+        let WorkerShare {
             own,
             reaches,
             closed,

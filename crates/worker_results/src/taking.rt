@@ -4,11 +4,11 @@ ghost use Rattle.worker_results.specs.Naming.{AreThieves};
 ghost use Rattle.worker_results.specs.Steps.{HoldsMore};
 
 use crate::naming::Naming;
-use crate::share::Share;
+use crate::share::WorkerShare;
 use crate::step::Tried;
 use piece_deque::{Take, Thief};
 
-impl<B: Naming> Share<B> {
+impl<B: Naming> WorkerShare<B> {
     /// Takes a piece of its own deque, if there is one, and holds it.
     pub fn take(&mut self) -> Tried
         ensures worker { self.new.worker ≡ self.old.worker }

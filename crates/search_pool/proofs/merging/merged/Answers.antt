@@ -20,7 +20,8 @@ report-requires-clause-gleaned g c =
     let all = counted_at (arc_value c.args.region.now) c.args.first.places c.args.root.now works left
     c.requires.run.joined c.cell.result _ c.cell.ensures c.in-Ok.ensures.gathered in
     let tally = c.count_pieces-counts.result in
-    let told = subst (λ (l : List Worked). AreTallied l tally) c.deref.ensures.value c.count_pieces-counts.ensures.counted in
+    let told = subst (λ (l : List Worked). AreTallied l tally) c.deref.ensures.value
+    c.count_pieces-counts.ensures.counted in
     let gleaned = all_gleaned works left _ tally all told in
     let long = c.len-left.ensures in
     omega (arith, gleaned, long)
@@ -30,7 +31,8 @@ returns-in-Ok-clause-counts g c =
     let works = c.args.ran.joined.works.items in
     let left = c.args.ran.joined.left.items in
     let tally = c.count_pieces-counts.result in
-    let told = subst (λ (l : List Worked). AreTallied l tally) c.deref.ensures.value c.count_pieces-counts.ensures.counted in
+    let told = subst (λ (l : List Worked). AreTallied l tally) c.deref.ensures.value
+    c.count_pieces-counts.ensures.counted in
     let all = counted_at (arc_value c.args.region.now) c.args.first.places c.args.root.now works left
     c.requires.run.joined c.cell.result _ c.cell.ensures c.in-Ok.ensures.gathered in
     let gleaned = all_gleaned works left _ tally all told in
@@ -50,7 +52,8 @@ returns-in-Ok-clause-report g c =
     let left = c.args.ran.joined.left.items in
     let root = c.args.root.now in
     let tally = c.count_pieces-counts.result in
-    let told = subst (λ (l : List Worked). AreTallied l tally) c.deref.ensures.value c.count_pieces-counts.ensures.counted in
+    let told = subst (λ (l : List Worked). AreTallied l tally) c.deref.ensures.value
+    c.count_pieces-counts.ensures.counted in
     let run = c.requires.run in
     let gathered = c.in-Ok.gathered in
     let came = all_came region c.args.first.places root works left run.joined tally c.requires.root told in

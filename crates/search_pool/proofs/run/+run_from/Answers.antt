@@ -13,7 +13,7 @@ use Rattle.worker_results.specs.declared.naming.Naming.{Ghosts}
 use Rattle.worker_results.proofs.accesses.Accesses.TheSendSync as accesses
 use Rattle.worker_results.proofs.own.Own.TheSendSync as own
 use Rattle.worker_results.specs.contracts.done.Done as done
-use Rattle.worker_results.specs.contracts.share.Share as share
+use Rattle.worker_results.specs.contracts.share.WorkerShare as share
 use Rattle.search_pool.proofs.run.+run_from.Goals as goal
 
 -- what a worker hands over may go to another thread; part by part, since it nests deeper than is searched at once

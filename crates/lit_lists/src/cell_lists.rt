@@ -10,13 +10,13 @@ use std::marker::Model;
 
 /// Lists of numbers, one for each cell of a box. They stand in one vector, one list after another.
 #[derive(Debug, Drop)]
-pub struct Rows {
+pub struct CellLists {
     /// Where each list begins, and last where all end.
     starts: Vec<usize>,
     numbers: Vec<u32>,
 }
 
-impl Model for Rows {
+impl Model for CellLists {
     ghost use Rattle.std.specs.Prelude.{ℕ, List};
     ghost use Rattle.cave_model.specs.Parts.{parts};
     ghost use Rattle.lit_lists.specs.Rows.{AreWhole};
@@ -28,13 +28,13 @@ impl Model for Rows {
     ghost invariant = { λ r. AreWhole r.starts.items r.numbers.items };
 }
 
-impl Rows {
+impl CellLists {
     /// The lists that stand in this vector, from each start to the next.
-    pub fn new(starts: Vec<usize>, numbers: Vec<u32>) -> Rows
+    pub fn new(starts: Vec<usize>, numbers: Vec<u32>) -> CellLists
         requires whole { AreWhole starts.items numbers.items }
         ensures { result ≡ grid.parts starts.items numbers.items }
     {
-        Rows { starts, numbers }
+        CellLists { starts, numbers }
     }
 
     /// The list of a cell; past the end it is empty.
@@ -50,7 +50,7 @@ impl Rows {
     }
 
     /// For each number, the cells whose lists it is in; there are so many cells.
-    pub fn turned(&self, alloc: Global, count: u32) -> Result<Rows, AllocError>
+    pub fn turned(&self, alloc: Global, count: u32) -> Result<CellLists, AllocError>
         requires count { length self.now ≡ count }
         requires boxed { AreOfOneBox self.now }
         ensures whole { IfOk result (λ t. length t ≡ length self.now) }
@@ -64,6 +64,6 @@ impl Rows {
             next: _,
             numbers,
         } = filling;
-        Ok(Rows::new(starts, numbers))
+        Ok(CellLists::new(starts, numbers))
     }
 }

@@ -5,7 +5,7 @@ use Rattle.lit_lists.specs.Filling.{AreCounts, AreSumsOf, lists_in}
 use Rattle.lit_lists.specs.Rows.{AreOfOneBox, AreTurned}
 use Rattle.lit_lists.proofs.PartLemmas.{length-parts}
 use Rattle.lit_lists.proofs.TurnLemmas.{lists_none, numbers_inside, sums_room, turned_parts}
-use Rattle.lit_lists.proofs.rows.Rows.turned.Goals as goal
+use Rattle.lit_lists.proofs.cell_lists.CellLists.turned.Goals as goal
 
 pub counts_of-requires : goal.counts_of-requires
 counts_of-requires c =

@@ -1,6 +1,6 @@
 use Rattle.std.proofs.Common.{refl, arith}
 use Rattle.worker_results.proofs.ShareLemmas.{took_now}
-use Rattle.worker_results.proofs.share.Share.steal.Goals as goal
+use Rattle.worker_results.proofs.share.WorkerShare.steal.Goals as goal
 
 pub invariant_of-self-in-Got : goal.invariant_of-self-in-Got
 invariant_of-self-in-Got g c =

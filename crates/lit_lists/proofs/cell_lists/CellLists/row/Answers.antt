@@ -3,7 +3,7 @@ use Rattle.std.proofs.Common.{arith}
 use Rattle.std.proofs.lemmas.Grind.{get_or_default_zero}
 use Rattle.cave_model.proofs.PassageLemmas.{part_there, part_past}
 use Rattle.lit_lists.specs.Lists.{row_at}
-use Rattle.lit_lists.proofs.rows.Rows.row.Goals as goal
+use Rattle.lit_lists.proofs.cell_lists.CellLists.row.Goals as goal
 
 pub returns-then-row-len : goal.returns-then-row-len
 returns-then-row-len c =

@@ -4,7 +4,7 @@ use Rattle.worker_results.specs.Shares.{AreClosedFrom, Shared}
 use Rattle.worker_results.specs.Steps.{IsOpening}
 use Rattle.worker_results.proofs.HeapLemmas.{all_from_less}
 use Rattle.worker_results.proofs.ShareLemmas.{opened_now}
-use Rattle.worker_results.proofs.share.Share.open.Goals as goal
+use Rattle.worker_results.proofs.share.WorkerShare.open.Goals as goal
 
 pub invariant_of-self-in-Ok : goal.invariant_of-self-in-Ok
 invariant_of-self-in-Ok g c =

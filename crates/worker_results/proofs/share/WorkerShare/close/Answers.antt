@@ -3,7 +3,7 @@ use Rattle.schedule_law.specs.Worked.{IsClosedFrom}
 use Rattle.worker_results.specs.Shares.{AreClosedFrom, Shared}
 use Rattle.worker_results.proofs.HeapLemmas.{all_from_push, from_closing, from_less}
 use Rattle.worker_results.proofs.ShareLemmas.{closed_now}
-use Rattle.worker_results.proofs.share.Share.close.Goals as goal
+use Rattle.worker_results.proofs.share.WorkerShare.close.Goals as goal
 
 pub invariant_of-self-in-Ok : goal.invariant_of-self-in-Ok
 invariant_of-self-in-Ok g c =

@@ -1,7 +1,7 @@
 use Rattle.std.proofs.Common.{ap, ◌∙◌}
 use Rattle.piece_deque.specs.declared.dealt.Dealt.{Dealt}
 use Rattle.worker_results.proofs.ShareLemmas.{took_now, own_took}
-use Rattle.worker_results.proofs.share.Share.take.Goals as goal
+use Rattle.worker_results.proofs.share.WorkerShare.take.Goals as goal
 
 pub invariant_of-self-in-Got : goal.invariant_of-self-in-Got
 invariant_of-self-in-Got g c =
