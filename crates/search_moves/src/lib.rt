@@ -9,5 +9,6 @@ mod carrying;
 mod groups;
 mod moves;
 mod pruning;
+mod strategy;
 
 pub use moves::Moves;
