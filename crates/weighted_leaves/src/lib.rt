@@ -11,6 +11,7 @@ mod leaf;
 mod parts;
 mod relaxation;
 mod rounding;
+mod runs;
 mod solving;
 
 pub use leaf::WeightedLeaves;
