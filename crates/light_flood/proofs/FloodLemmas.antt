@@ -8,7 +8,7 @@ use Rattle.cave_model.proofs.LightLemmas.{AreSettled, settled_level}
 use Rattle.light_flood.specs.Dense.{HasNoLight}
 use Rattle.light_flood.specs.Levels.{AreLevelsOf}
 use Rattle.light_flood.specs.Spreading.{NoneWaits, AreEmissions, IsFlood, IsFloodIn, IsRaised, IsSettled}
-use Rattle.light_flood.proofs.SpreadLemmas.{source_inside, spread_brought, passed_from_1}
+use Rattle.light_flood.proofs.SpreadLemmas.{source_inside, spread_brought}
 
 -- ---- the start
 
@@ -73,7 +73,7 @@ seeded_all cave count levels waiting e s =
 
 -- a flood that settled from the emissions has the levels of light
 pub settled_levels : (cave : Cave) (start levels : List ℕ) → AreEmissions cave start
-    → IsSettled cave 1 (slice_index start) (slice_index levels) → length levels ≡ cell_count cave.size
+    → IsSettled cave (slice_index start) (slice_index levels) → length levels ≡ cell_count cave.size
     → AreLevelsOf cave levels
 settled_levels cave start levels glow s whole = record {
   whole = whole;
@@ -86,5 +86,5 @@ settled_levels cave start levels glow s whole = record {
           (slice_index levels) cell s.brought_there h in let from = glow.each b.0 (source_inside b.1.1) in
           (b.0, (b.1.0, b.1.1, omega (arith, b.1.2))));
       covered = λ cell h. (let up = s.covered cell in let e = glow.each cell h in omega arith);
-      settled = passed_from_1 cave (slice_index start) (slice_index levels) s;
+      settled = s.settled;
     }

@@ -8,7 +8,7 @@ use Rattle.cave_model.specs.Cells.{AreNeighbours}
 use Rattle.cave_model.specs.Cave.{Cave}
 use Rattle.light_flood.specs.Spreading.{waiting_at, IsWaiting, IsFlood, IsFloodIn, IsStep, Rises, Spreads, IsPassed}
 use Rattle.light_flood.specs.Spreading.{HasPassed, IsSettled}
-use Rattle.light_flood.proofs.SpreadLemmas.{spread_none, spread_on}
+use Rattle.light_flood.proofs.SpreadLemmas.{spread_none, spread_on, entering_pos}
 use Rattle.light_flood.proofs.PassLemmas.{step_none, step_on}
 
 -- ---- one level
@@ -152,13 +152,16 @@ passing_level cave level start levels next waiting later s step = record {
   spreads = spread_on cave start levels next s.spreads step.spreads;
 }
 
--- what lies above this level has passed its light on
-pub passing_all : (cave : Cave) (least level : ℕ) (start levels : ℕ → ℕ) (waiting : List (List ℕ)) → level ≤ least + 1
-    → Passing cave level start levels waiting → IsSettled cave least start levels
-passing_all cave least level start levels waiting low s = record {
+-- levels from 2 on have passed their light on, and those below have nothing to pass on
+pub passing_all : (cave : Cave) (level : ℕ) (start levels : ℕ → ℕ) (waiting : List (List ℕ)) → level ≤ 2
+    → Passing cave level start levels waiting → IsSettled cave start levels
+passing_all cave level start levels waiting low s = record {
   brought_there = s.spreads;
   covered = s.up;
-  settled = λ before cell shared above. s.flood.passed_on before cell shared (omega arith);
+  settled = λ before cell shared. (elim (cases_lt 1 (levels before)) [
+    | inl lt ↦ s.flood.passed_on before cell shared (omega arith)
+    | inr le ↦ (let cost = entering_pos cave cell in omega arith)
+  ]);
 }
 
 -- an element of the list of cells is one of them

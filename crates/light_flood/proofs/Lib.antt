@@ -2,7 +2,6 @@ pub mod WaitingLemmas
 pub mod SpreadLemmas
 pub mod PassLemmas
 pub mod LevelLemmas
-pub mod DenseLemmas
 pub mod FloodLemmas
 pub mod ReachLemmas
 pub mod DarkLemmas

@@ -1,14 +1,10 @@
 -- Passing light on to all neighbours of a cell.
-use Rattle.std.proofs.Common.{◌≡◌, ℕ, ◌+◌, ◌<◌, ◌≤◌, List, length, get_or, Contains, Option, Some, None, refl, sym, ap}
-use Rattle.std.proofs.Common.{subst, ◌∙◌, arith, inl, inr}
+use Rattle.std.proofs.Common.{◌≡◌, ℕ, ◌+◌, ◌<◌, ◌≤◌, List, get_or, Option, Some, None, refl, sym, ap, subst, ◌∙◌}
+use Rattle.std.proofs.Common.{arith, inl, inr}
 use Rattle.std.proofs.lemmas.Bool.{cases_lt}
-use Rattle.std.proofs.lemmas.Grind.{get_or_default_zero}
-use Rattle.std.proofs.lemmas.List.Elements.{Contains-get_or}
 use Rattle.cave_base.specs.Box.{cell_count}
 use Rattle.cave_model.specs.Cells.{neighbours_of}
 use Rattle.cave_model.specs.Cave.{Cave}
-use Rattle.cave_model.specs.Light.{entering_cost}
-use Rattle.cave_model.specs.Passages.{passages_from, ArePassages, LeadsTo}
 use Rattle.cave_model.proofs.NeighbourLemmas.{index_of, index_below, listed_at}
 use Rattle.light_flood.specs.Spreading.{IsFlood, IsFloodIn, IsStep, Rises, IsPassed, HasPassed}
 use Rattle.light_flood.proofs.SpreadLemmas.{spread_none, spread_on}
@@ -129,54 +125,3 @@ passing_end cave from start levels waiting around index all s = λ to shared.
     ap (λ (l : List (Option ℕ)). get_or l (index_of shared.face) None) s.whole
     ∙ listed_at cave.size from shared.face ∙ shared.there in
     s.offered (index_of shared.face) to (omega arith) there)
-
--- ---- by the passages
-
--- the cells before this index of the row have been offered light
-pub record PassingThrough (cave : Cave) (from : ℕ) (start levels : ℕ → ℕ) (waiting : List (List ℕ))
-    (row : List ℕ) (index : ℕ) : Type 0 where
-  pub step : IsStep cave (start from + 1) (start from) start levels waiting
-  pub offered : (j : ℕ) → j < index → IsPassed cave levels from (get_or row j 0)
-
--- before the first no light is passed on
-pub through_start : (cave : Cave) (from : ℕ) (start : ℕ → ℕ) (waiting : List (List ℕ)) (row : List ℕ)
-    → IsFlood cave (start from + 1) (start from) start waiting
-    → PassingThrough cave from start start waiting row 0
-through_start cave from start waiting row flood = record {
-  step = step_none cave (start from + 1) (start from) start waiting flood;
-  offered = λ j h. absurd (omega arith);
-}
-
--- the next was offered light
-pub through_next : (cave : Cave) (from : ℕ) (start levels next : ℕ → ℕ) (waiting later : List (List ℕ))
-    (row : List ℕ) (index : ℕ) → PassingThrough cave from start levels waiting row index
-    → IsStep cave (levels from + 1) (levels from) levels next later → IsPassed cave next from (get_or row index 0)
-    → PassingThrough cave from start next later row (index + 1)
-through_next cave from start levels next waiting later row index s step passed = record {
-  step = step_next cave from start levels next waiting later s.step step;
-  offered = λ j h. (elim (cases_lt j index) [
-    | inl lt ↦ still_passed cave from (get_or row j 0) levels next later step (s.offered j lt)
-    | inr le ↦ (let now : index ≡ j = omega arith in
-        subst (λ (k : ℕ). IsPassed cave next from (get_or row k 0)) now passed)
-  ]);
-}
-
--- light can go to a cell of the row
-pub row_leads : (cave : Cave) (rows : List (List ℕ)) (from index : ℕ) (row : List ℕ) → ArePassages cave rows
-    → row ≡ passages_from rows from → index < length row → LeadsTo cave from (get_or row index 0)
-row_leads cave rows from index row passages is h =
-    (passages.exact from (get_or row index 0)).0
-    (subst (λ (l : List ℕ). Contains l (get_or row index 0)) is (Contains-get_or row index 0 h))
-
--- all were, and what isn't in the row can't be raised: the highest level is 15
-pub through_end : (cave : Cave) (rows : List (List ℕ)) (from : ℕ) (start levels : ℕ → ℕ) (waiting : List (List ℕ))
-    (row : List ℕ) (index : ℕ) → ArePassages cave rows → row ≡ passages_from rows from → length row ≤ index
-    → PassingThrough cave from start levels waiting row index → HasPassed cave levels from
-through_end cave rows from start levels waiting row index passages is all s = λ to shared.
-    (elim (cases_lt (entering_cost cave to) 15) [
-      | inl lt ↦ (let has : Contains row to = subst (λ (l : List ℕ). Contains l to) (sym is)
-          ((passages.exact from to).1 (record { shared = shared; passes = lt })) in
-          let here : get_or row has.0 0 ≡ to = sym (get_or_default_zero row has.0 to has.1) ∙ has.2 in
-          subst (IsPassed cave levels from) here (s.offered has.0 (omega (arith, has.1))))
-      | inr le ↦ (let top = s.step.flood.low from in omega arith)
-    ])

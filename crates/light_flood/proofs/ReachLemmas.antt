@@ -1,7 +1,7 @@
 -- What is kept of a reach, and that a settled flood from one cell is one.
-use Rattle.std.proofs.Common.{◌≡◌, ◌≢◌, ℕ, ◌<◌, ◌≤◌, cond, List, [], ◌∷◌, Option, Some, Contains, length, slice_index}
-use Rattle.std.proofs.Common.{refl, ap, subst, ◌∙◌, ◌⊎◌, arith, inl, inr, eq-zero-or-pos}
-use Rattle.std.specs.Prelude.{◌↔◌, unwrap_or}
+use Rattle.std.proofs.Common.{◌≡◌, ◌≢◌, ℕ, ◌<◌, cond, List, [], ◌∷◌, Option, Some, refl, ap, subst, ◌∙◌, ◌⊎◌, arith}
+use Rattle.std.proofs.Common.{inl, inr, eq-zero-or-pos}
+use Rattle.std.specs.Prelude.{unwrap_or}
 use Rattle.std.specs.Ordering.{nat_cmp}
 use Rattle.std.specs.Cmp.{nat_cmp_total}
 use Rattle.std.specs.BTreeMap.{is_at}
@@ -12,9 +12,7 @@ use Rattle.std.proofs.lemmas.Bool.{cases_eq, cases_lt}
 use Rattle.cave_base.specs.Box.{cell_count}
 use Rattle.cave_model.specs.Cave.{Cave}
 use Rattle.cave_model.specs.Light.{Path, BringsFrom}
-use Rattle.cave_model.proofs.LightLemmas.{path_end_inside}
-use Rattle.light_flood.specs.Dense.{AreAtLeast}
-use Rattle.light_flood.specs.Levels.{AreReachOf, ListsLit}
+use Rattle.light_flood.specs.Levels.{AreReachOf}
 use Rattle.light_flood.specs.Reached.{reached}
 use Rattle.light_flood.specs.Spreading.{IsRaised, IsSettled}
 use Rattle.light_flood.proofs.SpreadLemmas.{spread_brought, spread_outside, path_lit}
@@ -32,8 +30,8 @@ reached-from_entries entries cell = ap (λ (o : Option ℕ). unwrap_or o 0)
 
 -- ---- one source
 
-module _ (cave : Cave) (source emission least : ℕ) (dark first levels : ℕ → ℕ) (none : (cell : ℕ) → dark cell ≡ 0)
-    (raised : IsRaised dark source emission first) (s : IsSettled cave least first levels) where
+module _ (cave : Cave) (source emission : ℕ) (dark first levels : ℕ → ℕ) (none : (cell : ℕ) → dark cell ≡ 0)
+    (raised : IsRaised dark source emission first) (s : IsSettled cave first levels) where
   -- light comes from the source alone
   from_source : (cell from : ℕ) → BringsFrom cave from (first from) cell (levels cell) → 0 < levels cell
       → BringsFrom cave source emission cell (levels cell)
@@ -57,48 +55,9 @@ module _ (cave : Cave) (source emission least : ℕ) (dark first levels : ℕ �
     ]
   ]
 
-  -- the cells with at least some level are those to which it is brought, where the flood stopped no earlier
-  pub settled_lists : (enough : ℕ) (cells : List ℕ) → least ≤ enough → 1 ≤ enough → source < cell_count cave.size
-      → ((cell : ℕ) → Contains cells cell ↔ ((cell < cell_count cave.size) × (enough ≤ levels cell)))
-      → (cell : ℕ) → Contains cells cell ↔ BringsFrom cave source emission cell enough
-  settled_lists enough cells above pos source_in exact cell = (
-    λ has. (let lit = (exact cell).0 has in of_level (brought_or_none cell source_in) lit.1),
-    λ b. (let inside = path_end_inside b.1 in
-        (exact cell).1 (
-          inside,
-          path_lit cave least first levels source cell b.0 enough s
-              b.1 (omega (arith, b.2, raised.raised)) above,
-        )),
-  )
-    where
-      of_level : (levels cell ≡ 0) ⊎ BringsFrom cave source emission cell (levels cell) → enough ≤ levels cell
-          → BringsFrom cave source emission cell enough
-      of_level (inl zero) le = absurd (omega arith)
-      of_level (inr b) le = (b.0, b.1, omega (arith, b.2))
-
--- a flood that settled from one cell with light is its reach
-pub settled_reach : (cave : Cave) (source emission : ℕ) (dark first levels : ℕ → ℕ) → source < cell_count cave.size
-    → ((cell : ℕ) → dark cell ≡ 0) → IsRaised dark source emission first → IsSettled cave 1 first levels
-    → AreReachOf cave source emission levels
-settled_reach cave source emission dark first levels source_in none raised s cell = record {
-  reached = brought_or_none cave source emission 1 dark first levels none raised s cell source_in;
-  most = λ level b. (elim (eq-zero-or-pos level) [
-    | inl e ↦ omega arith
-    | inr pos ↦ path_lit cave 1 first levels source cell b.0 level s b.1 (omega (arith, b.2, raised.raised)) pos
-  ]);
-}
-
--- the cells of a box with at least some level
-pub at_least_lists : (cave : Cave) (source emission least : ℕ) (dark first : ℕ → ℕ) → ((cell : ℕ) → dark cell ≡ 0)
-    → IsRaised dark source emission first
-    → (enough : ℕ) (levels cells : List ℕ) → IsSettled cave least first (slice_index levels) → least ≤ enough
-    → 1 ≤ enough → source < cell_count cave.size → length levels ≡ cell_count cave.size
-    → AreAtLeast enough levels cells → ListsLit cave source emission enough cells
-at_least_lists cave source emission least dark first none raised enough levels cells s above pos source_in whole
-    chosen = record {
-      once = chosen.once;
-      exact = settled_lists cave source emission least dark first (slice_index levels) none raised s enough cells above
-          pos source_in
-          (λ cell. subst (λ (n : ℕ). Contains cells cell ↔ ((cell < n) × (enough ≤ slice_index levels cell))) whole
-          (chosen.exact cell));
-    }
+  -- a flood that settled from one cell with light is its reach
+  pub settled_reach : source < cell_count cave.size → AreReachOf cave source emission levels
+  settled_reach source_in cell = record {
+    reached = brought_or_none cell source_in;
+    most = λ level b. path_lit cave first levels source cell b.0 level s b.1 (omega (arith, b.2, raised.raised));
+  }

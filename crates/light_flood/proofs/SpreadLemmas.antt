@@ -1,7 +1,7 @@
 -- One step of a flood.
 use Rattle.std.proofs.Common.{◌≡◌, ℕ, ◌+◌, ◌-◌, ◌<◌, ◌≤◌, List, [], ◌∷◌, ◌++◌, Contains, refl, sym, ap, subst, ◌∙◌}
 use Rattle.std.proofs.Common.{arith, inl, inr}
-use Rattle.std.proofs.lemmas.Bool.{cases_eq, cases_lt}
+use Rattle.std.proofs.lemmas.Bool.{cases_eq}
 use Rattle.std.proofs.lemmas.List.Elements.{Contains-append_left, Contains-push, Contains-push_cases}
 use Rattle.cave_base.specs.Box.{cell_count}
 use Rattle.cave_model.specs.Cells.{AreNeighbours}
@@ -145,22 +145,10 @@ raised_flood cave f g waiting next passed waits to brought to_in flood under low
 
 -- ---- the end
 
--- level 1 has nothing to pass on
-pub passed_from_1 : (cave : Cave) (first levels : ℕ → ℕ) → IsSettled cave 1 first levels → (before cell : ℕ)
-    → AreNeighbours cave.size before cell → IsPassed cave levels before cell
-passed_from_1 cave first levels s before cell shared = elim (cases_lt 1 (levels before)) [
-  | inl lt ↦ s.settled before cell shared lt
-  | inr le ↦ (let cost = entering_pos cave cell in omega arith)
-]
-
--- a path brings what the flood has, as long as it is at least the level at which the flood stopped
-pub path_lit : (cave : Cave) (least : ℕ) (first levels : ℕ → ℕ) (source cell cost level : ℕ)
-    → IsSettled cave least first levels → Path cave source cell cost
-    → level + cost ≤ first source → least ≤ level → level ≤ levels cell
-path_lit cave least first levels source cell cost level s (start h) enough above =
-    (let up = s.covered source in omega arith)
-path_lit cave least first levels source cell cost level s (onward {before = b} {cost = c} p to n) enough above =
-    let pos = entering_pos cave to in
-    let there = path_lit cave least first levels source b c (level + entering_cost cave to) s p (omega arith)
-    (omega arith) in
-    let passed : IsPassed cave levels b to = s.settled b to n (omega arith) in omega arith
+-- what a path brings, the flood has
+pub path_lit : (cave : Cave) (first levels : ℕ → ℕ) (source cell cost level : ℕ) → IsSettled cave first levels
+    → Path cave source cell cost → level + cost ≤ first source → level ≤ levels cell
+path_lit cave first levels source cell cost level s (start h) enough = (let up = s.covered source in omega arith)
+path_lit cave first levels source cell cost level s (onward {before = b} {cost = c} p to n) enough =
+    let there = path_lit cave first levels source b c (level + entering_cost cave to) s p (omega arith) in
+    let passed : IsPassed cave levels b to = s.settled b to n in omega arith

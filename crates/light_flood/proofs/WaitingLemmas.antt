@@ -1,11 +1,9 @@
 -- Lists of waiting cells, one for each level.
-use Rattle.std.proofs.Common.{◌≡◌, ℕ, ◌+◌, ◌<◌, List, [], ◌∷◌, ◌++◌, length, map, set, get_or, refl, sym, ap}
-use Rattle.std.proofs.Common.{subst, ◌∙◌, ◌≤◌, arith, inl, inr, length-append, length-set, get_or-set_same}
-use Rattle.std.proofs.Common.{get_or-set_other}
+use Rattle.std.proofs.Common.{◌≡◌, ℕ, ◌+◌, ◌<◌, List, [], ◌∷◌, ◌++◌, length, map, set, get_or, sym, ap, subst, ◌∙◌}
+use Rattle.std.proofs.Common.{arith, inl, inr, length-append, get_or-set_same, get_or-set_other}
 use Rattle.std.specs.Global.{Vec}
-use Rattle.std.proofs.lemmas.Bool.{cases_lt, cases_eq}
+use Rattle.std.proofs.lemmas.Bool.{cases_lt}
 use Rattle.std.proofs.lemmas.List.{map-set, length-map, get_or_past, get_or-map, get_or_push, get_or_append_left}
-use Rattle.light_flood.specs.Queue.{AreEmptied}
 use Rattle.light_flood.specs.Spreading.{waiting_at, IsWaiting}
 
 -- one list is replaced
@@ -58,36 +56,3 @@ empty_push count lists v s e = record {
         (get_or_push lists v d k (sym last)) ∙ e)
   ]);
 }
-
--- ---- emptying
-
--- the lists before this index are empty
-pub record Emptying (old new : List (Vec ℕ)) (index : ℕ) : Type 0 where
-  pub counted : length new ≡ length old
-  pub empty : (k : ℕ) (d : Vec ℕ) → k < index → k < length new → (get_or new k d).items ≡ []
-
--- before the first list is emptied
-pub emptying_none : (lists : List (Vec ℕ)) → Emptying lists lists 0
-emptying_none lists = record { counted = refl; empty = λ k d h. absurd (omega arith) }
-
--- the next list is emptied
-pub emptying_next : (old new : List (Vec ℕ)) (index : ℕ) (v : Vec ℕ) → index < length old → v.items ≡ []
-    → Emptying old new index → Emptying old (set new index v) (index + 1)
-emptying_next old new index v h e s = record {
-  counted = length-set new index v ∙ s.counted;
-  empty = λ k d early inside. (elim (cases_eq k index) [
-    | inl same ↦ ap (λ (n : ℕ). (get_or (set new index v) n d).items) same
-        ∙ ap (λ (w : Vec ℕ). w.items) (get_or-set_same new index v d (omega (arith, s.counted))) ∙ e
-    | inr ne ↦ ap (λ (w : Vec ℕ). w.items) (get_or-set_other new index k v d ne)
-        ∙ s.empty k d (below k ne early) (omega (arith, length-set new index v))
-  ]);
-}
-  where
-    below : (k : ℕ) → (k ≡ index → ⊥) → k < index + 1 → k < index
-    below k ne lt = elim (cases_lt k index) [ inl less ↦ less | inr le ↦ absurd (ne (omega arith)) ]
-
--- after the last all are empty
-pub emptying_all : (old new : List (Vec ℕ)) (index : ℕ) → length old ≤ index → Emptying old new index
-    → AreEmptied old new
-emptying_all old new index all s =
-    record { counted = s.counted; empty = λ k d h. s.empty k d (omega (arith, s.counted)) h }

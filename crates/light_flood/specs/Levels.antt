@@ -1,9 +1,9 @@
 -- Levels of light by the number of the cell.
 -- Source: Minecraft Wiki, "Light".
-use Rattle.std.specs.Prelude.{◌≡◌, ◌≢◌, ◌<◌, ◌↔◌, ℕ, List, length, slice_index, AllPairs, Contains}
+use Rattle.std.specs.Prelude.{◌≡◌, ◌<◌, ℕ, List, length, slice_index}
 use Rattle.cave_base.specs.Box.{cell_count}
 use Rattle.cave_model.specs.Cave.{Cave}
-use Rattle.cave_model.specs.Light.{BringsFrom, IsLevelOf, IsReachOf}
+use Rattle.cave_model.specs.Light.{IsLevelOf, IsReachOf}
 
 -- the levels of the cave's cells
 pub record AreLevelsOf (cave : Cave) (levels : List ℕ) : Type 0 where
@@ -13,8 +13,3 @@ pub record AreLevelsOf (cave : Cave) (levels : List ℕ) : Type 0 where
 -- the levels that an emission at the source alone gives, 0 beyond the box
 abbrev pub AreReachOf : Cave → ℕ → ℕ → (ℕ → ℕ) → Type 0
 AreReachOf cave source emission levels = (cell : ℕ) → IsReachOf cave source emission cell (levels cell)
-
--- each cell to which an emission at the source alone brings at least this level, once
-pub record ListsLit (cave : Cave) (source emission least : ℕ) (cells : List ℕ) : Type 0 where
-  pub once : AllPairs (λ a b. a ≢ b) cells
-  pub exact : (cell : ℕ) → Contains cells cell ↔ BringsFrom cave source emission cell least

@@ -4,4 +4,3 @@ pub mod Reached
 -- private
 pub mod Spreading
 pub mod Dense
-pub mod Queue

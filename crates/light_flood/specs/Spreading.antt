@@ -1,12 +1,9 @@
 -- How a flood goes on: levels only rise, each is brought from one that was there, and what can still rise waits.
 -- This is the project's own.
 use Rattle.std.specs.Prelude.{◌≡◌, ◌≢◌, ◌⊎◌, ℕ, ◌+◌, ◌<◌, ◌≤◌, List, [], length, Contains, slice_index, slice_index_or}
-use Rattle.std.specs.Prelude.{Option, Some}
-use Rattle.std.specs.Borrow.{Bor}
 use Rattle.cave_base.specs.Box.{cell_count}
 use Rattle.cave_model.specs.Cells.{AreNeighbours}
 use Rattle.cave_model.specs.Cave.{Cave, class_at}
-use Rattle.cave_model.specs.Passages.{ArePassages}
 use Rattle.cave_model.specs.Light.{BringsFrom, entering_cost}
 
 -- one cell has another level, and all others have theirs
@@ -67,12 +64,11 @@ pub record IsSource (cave : Cave) (levels : ℕ → ℕ) (cell emission : ℕ) :
 abbrev pub HasPassed : Cave → (ℕ → ℕ) → ℕ → Type 0
 HasPassed cave levels before = (cell : ℕ) → AreNeighbours cave.size before cell → IsPassed cave levels before cell
 
--- no cell above this level can raise a neighbour, and each level is brought from one of the start
-pub record IsSettled (cave : Cave) (least : ℕ) (start levels : ℕ → ℕ) : Type 0 where
+-- no cell can raise a neighbour, and each level is brought from one of the start
+pub record IsSettled (cave : Cave) (start levels : ℕ → ℕ) : Type 0 where
   pub brought_there : Spreads cave start levels
   pub covered : (cell : ℕ) → start cell ≤ levels cell
-  pub settled : (before cell : ℕ) → AreNeighbours cave.size before cell → least < levels before
-      → IsPassed cave levels before cell
+  pub settled : (before cell : ℕ) → AreNeighbours cave.size before cell → IsPassed cave levels before cell
 
 -- no cell waits at any level
 abbrev pub NoneWaits : List (List ℕ) → Type 0
@@ -82,7 +78,3 @@ NoneWaits waiting = (level : ℕ) → waiting_at waiting level ≡ []
 pub record AreEmissions (cave : Cave) (levels : List ℕ) : Type 0 where
   pub whole : length levels ≡ cell_count cave.size
   pub each : (cell : ℕ) → cell < cell_count cave.size → slice_index levels cell ≡ (class_at cave cell).emission
-
--- passages of the cave, or none
-abbrev pub AreIts : Cave → Option (Bor (List (List ℕ))) → Type 0
-AreIts cave passages = (rows : Bor (List (List ℕ))) → passages ≡ Some rows → ArePassages cave rows.now

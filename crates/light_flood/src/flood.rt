@@ -1,6 +1,5 @@
-ghost use Rattle.std.specs.Prelude.{◌≡◌, ◌<◌, ℕ, [], length, IfOk, OnOk, slice_index};
+ghost use Rattle.std.specs.Prelude.{◌<◌, length, slice_index, IfOk, OnOk};
 ghost use Rattle.cave_base.specs.Box.{cell_count};
-ghost use Rattle.cave_model.specs.Cave.{class_at};
 ghost use Rattle.light_flood.specs.Dense.{HasNoLight};
 ghost use Rattle.light_flood.specs.Levels.{AreLevelsOf};
 ghost use Rattle.light_flood.specs.Spreading.{AreEmissions, IsFloodIn, NoneWaits};
@@ -14,10 +13,10 @@ use std::alloc::Global;
 
 /// Gives each cell its emission.
 fn seed_all(world: &World, flood: &mut Flood<Dense>) -> Result<(), OutOfMemory>
-    requires unlit { HasNoLight (cell_count world.now.size) flood.old.store.levels }
+    requires unlit { HasNoLight (cell_count world.now.size) flood.old.store }
     requires none_waits { NoneWaits flood.old.waiting }
-    ensures emissions { OnOk result (AreEmissions world.now flood.new.store.levels) }
-    ensures flood { OnOk result (let levels = flood.new.store.levels in
+    ensures emissions { OnOk result (AreEmissions world.now flood.new.store) }
+    ensures flood { OnOk result (let levels = flood.new.store in
         IsFloodIn world.now 16 16 (length levels) (slice_index levels) flood.new.waiting) }
 {
     for cell in 0..world.cell_count() {
@@ -34,6 +33,6 @@ pub fn light(alloc: Global, world: &World) -> Result<Levels, OutOfMemory>
     let waiting = Waiting::new(alloc)?;
     let mut flood = Flood { store, waiting };
     seed_all(world, &mut flood)?;
-    flood.spread(world, None, 1)?;
+    flood.spread(world)?;
     Ok(Levels::from_vec(flood.store.into_levels()))
 }

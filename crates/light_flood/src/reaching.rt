@@ -1,4 +1,4 @@
-ghost use Rattle.std.specs.Prelude.{◌≡◌, ◌<◌, ◌≤◌, IfOk};
+ghost use Rattle.std.specs.Prelude.{◌<◌, ◌≤◌, IfOk};
 ghost use Rattle.cave_base.specs.Box.{cell_count};
 ghost use Rattle.light_flood.specs.Levels.{AreReachOf};
 ghost use Rattle.light_flood.specs.Reached.{reached};
@@ -22,6 +22,6 @@ pub fn reach(alloc: Global, world: &World, cell: Cell, emission: u8) -> Result<R
     let waiting = Waiting::new(alloc)?;
     let mut flood = Flood { store, waiting };
     flood.seed(world, cell, emission)?;
-    flood.spread(world, None, 1)?;
+    flood.spread(world)?;
     Ok(Reach::from_map(flood.store.into_levels()))
 }

@@ -3,14 +3,12 @@
 ghost use Rattle.std.specs.Prelude.{◌≡◌, ◌<◌, ◌≤◌, ◌+◌, OnOk};
 ghost use Rattle.cave_base.specs.Box.{cell_count};
 ghost use Rattle.cave_model.specs.Cells.{AreNeighbours};
-ghost use Rattle.cave_model.specs.Passages.{ArePassages};
-ghost use Rattle.light_flood.specs.Spreading.{AreIts, HasPassed, IsFloodIn, IsPassed, IsRaised, IsSettled};
-ghost use Rattle.light_flood.specs.Spreading.{IsSource, IsStep};
+ghost use Rattle.light_flood.specs.Spreading.{HasPassed, IsFloodIn, IsPassed, IsRaised, IsSettled, IsSource, IsStep};
 
 use crate::store::Store;
 use crate::waiting::Waiting;
 use cave_base::Cell;
-use cave_model::{Passages, World};
+use cave_model::World;
 use std::alloc::AllocError;
 
 /// A flood of light: the levels so far, and the cells that have yet to pass theirs on.
@@ -81,58 +79,8 @@ impl<S: Store> Flood<S> {
         Ok(())
     }
 
-    /// The same by the passages of the world: no light enters the neighbours that they leave out.
-    fn pass_through(
-        &mut self,
-        world: &World,
-        passages: &Passages,
-        from: Cell,
-    ) -> Result<(), AllocError>
-        requires passages { ArePassages world.now passages.now }
-        requires in_box { from < cell_count world.now.size }
-        requires flood { let s = self.old.store in let level = S.levels s from in
-            IsFloodIn world.now (level + 1) level (S.cells s) (S.levels s) self.old.waiting }
-        ensures cells { S.cells self.new.store ≡ cell_count world.now.size }
-        ensures step { OnOk result (let s = self.old.store in let level = S.levels s from in
-            IsStep world.now (level + 1) level (S.levels s) (S.levels self.new.store) self.new.waiting) }
-        ensures passed { OnOk result (HasPassed world.now (S.levels self.new.store) from) }
-    {
-        for to in passages.from(from) {
-            self.offer(world, from, *to)?;
-        }
-        Ok(())
-    }
-
-    /// Passes light on from one cell, by the passages where there are some.
-    fn pass_on(
-        &mut self,
-        world: &World,
-        passages: Option<&Passages>,
-        from: Cell,
-    ) -> Result<(), AllocError>
-        requires passages { AreIts world.now passages }
-        requires in_box { from < cell_count world.now.size }
-        requires flood { let s = self.old.store in let level = S.levels s from in
-            IsFloodIn world.now (level + 1) level (S.cells s) (S.levels s) self.old.waiting }
-        ensures cells { S.cells self.new.store ≡ cell_count world.now.size }
-        ensures step { OnOk result (let s = self.old.store in let level = S.levels s from in
-            IsStep world.now (level + 1) level (S.levels s) (S.levels self.new.store) self.new.waiting) }
-        ensures passed { OnOk result (HasPassed world.now (S.levels self.new.store) from) }
-    {
-        match passages {
-            Some(passages) => self.pass_through(world, passages, from),
-            None => self.pass_around(world, from),
-        }
-    }
-
     /// Passes light on from all cells of this level, those above having done so.
-    fn pass_level(
-        &mut self,
-        world: &World,
-        passages: Option<&Passages>,
-        level: u8,
-    ) -> Result<(), AllocError>
-        requires passages { AreIts world.now passages }
+    fn pass_level(&mut self, world: &World, level: u8) -> Result<(), AllocError>
         requires level { (1 ≤ level) × (level < 16) }
         requires flood { let s = self.old.store in
             IsFloodIn world.now (level + 1) (level + 1) (S.cells s) (S.levels s) self.old.waiting }
@@ -143,30 +91,22 @@ impl<S: Store> Flood<S> {
         let cells = self.waiting.take(level);
         for from in &cells {
             if self.store.level(*from) == level {
-                self.pass_on(world, passages, *from)?;
+                self.pass_around(world, *from)?;
             }
         }
-        self.waiting.keep(cells);
         Ok(())
     }
 
-    /// Lets light spread, where every cell with light waits at its level, as far as it is above this level.
-    pub fn spread(
-        &mut self,
-        world: &World,
-        passages: Option<&Passages>,
-        least: u8,
-    ) -> Result<(), AllocError>
-        requires passages { AreIts world.now passages }
-        requires least { least < 16 }
+    /// Lets light spread, where every cell with light waits at its level.
+    pub fn spread(&mut self, world: &World) -> Result<(), AllocError>
         requires flood { let s = self.old.store in
             IsFloodIn world.now 16 16 (S.cells s) (S.levels s) self.old.waiting }
         ensures cells { S.cells self.new.store ≡ cell_count world.now.size }
-        ensures settled { OnOk result
-            (IsSettled world.now least (S.levels self.old.store) (S.levels self.new.store)) }
+        ensures settled { OnOk result (IsSettled world.now (S.levels self.old.store) (S.levels self.new.store)) }
     {
-        for level in (least + 1..16).rev() {
-            self.pass_level(world, passages, level)?;
+        // Level 1 has nothing to pass on.
+        for level in (2..16).rev() {
+            self.pass_level(world, level)?;
         }
         Ok(())
     }

@@ -1,4 +1,4 @@
-ghost use Rattle.std.specs.Prelude.{◌≡◌, ◌<◌, ℕ, OnOk, OnErr};
+ghost use Rattle.std.specs.Prelude.{◌≡◌, ◌<◌, ℕ, OnOk};
 ghost use Rattle.light_flood.specs.Spreading.{IsRaised};
 
 use cave_base::Cell;
@@ -17,7 +17,6 @@ pub trait Store {
 
     fn raise(&mut self, cell: Cell, level: u8) -> Result<(), AllocError>
         requires in_box { cell < cells self.old }
-        requires lit { 0 < level }
         ensures raised { OnOk result (IsRaised (levels self.old) cell level (levels self.new)) }
         ensures cells { cells self.new ≡ cells self.old };
 }

@@ -1,5 +1,4 @@
 ghost use Rattle.std.specs.Prelude.{◌≡◌, ◌<◌, [], ◌∷◌, ◌++◌, IfOk, OnOk};
-ghost use Rattle.light_flood.specs.Queue.{AreEmptied};
 ghost use Rattle.light_flood.specs.Spreading.{IsWaiting, NoneWaits, waiting_at};
 
 use cave_base::Cell;
@@ -10,33 +9,21 @@ use std::mem;
 /// So many levels are there, 0 included.
 pub const LEVELS: usize = 16;
 
-/// The cells that have yet to pass their light on, by their level. Lists that were emptied keep their memory.
+/// The cells that have yet to pass their light on, by their level.
 #[derive(Debug, Drop)]
 pub struct Waiting {
     alloc: Global,
     cells: Vec<Vec<Cell>>,
-    /// An empty list, which stands in for the next one that is taken.
-    spare: Vec<Cell>,
 }
 
 impl Model for Waiting {
-    ghost use Rattle.std.specs.Prelude.{ℕ, List, map};
-    ghost use Rattle.light_flood.specs.Queue.{IsQueue};
+    ghost use Rattle.std.specs.Prelude.{◌≡◌, ℕ, List, length, map};
 
     ghost Value = { List (List ℕ) };
 
     ghost view = { λ w. map (λ v. v.items) w.cells.items };
 
-    ghost invariant = { λ w. IsQueue w.cells.items w.spare.items };
-}
-
-/// Empties all lists.
-fn empty_all(lists: &mut [Vec<Cell>])
-    ensures { AreEmptied lists.old lists.new }
-{
-    for index in 0..lists.len() {
-        lists[index].clear();
-    }
+    ghost invariant = { λ w. length w.cells.items ≡ 16 };
 }
 
 impl Waiting {
@@ -48,12 +35,7 @@ impl Waiting {
         for _ in 0..LEVELS {
             cells.push(Vec::new(alloc))?;
         }
-        let spare = Vec::new(alloc);
-        Ok(Waiting {
-            alloc,
-            cells,
-            spare,
-        })
+        Ok(Waiting { alloc, cells })
     }
 
     /// The cell waits at this level.
@@ -72,23 +54,6 @@ impl Waiting {
         ensures taken { result.items ≡ waiting_at self.old level }
         ensures rest { IsWaiting self.old level [] self.new }
     {
-        let none = mem::replace(&mut self.spare, Vec::new(self.alloc));
-        mem::replace(&mut self.cells[level as usize], none)
-    }
-
-    /// Keeps the memory of a list that was taken.
-    pub fn keep(&mut self, taken: Vec<Cell>)
-        ensures { self.new ≡ self.old }
-    {
-        let mut taken = taken;
-        taken.clear();
-        self.spare = taken;
-    }
-
-    /// No cell waits any longer.
-    pub fn clear(&mut self)
-        ensures { NoneWaits self.new }
-    {
-        empty_all(self.cells.as_mut_slice());
+        mem::replace(&mut self.cells[level as usize], Vec::new(self.alloc))
     }
 }

@@ -1,10 +1,10 @@
 //! What scripts measure, and a run that the gate compares.
 //!
-//! `PART FILE [TIMES]`, where PART is `cave`, `light`, `reach`, `places`, `cells`, `coverage` or `split`, prints what
-//! the part counts, after doing it so many times; `plan FILE TURNS [RULE]` plans each region alone and prints for each
-//! its cells, its places, the size of the plan (or the range in which it lies) and the lines of its tree. `calls` makes
-//! each call that takes memory on the pillar from standard input. `stored FILE LIST` reads the table of the examples
-//! from the file and tries each name of the list, takes the largest box through each step, and makes the calls.
+//! `PART FILE [TIMES]`, where PART is `cave`, `light`, `reach`, `coverage` or `split`, prints what the part counts,
+//! after doing it so many times; `plan FILE TURNS [RULE]` plans each region alone and prints for each its cells, its
+//! places, the size of the plan (or the range in which it lies) and the lines of its tree. `calls` makes each call that
+//! takes memory on the pillar from standard input. `stored FILE LIST` reads the table of the examples from the file and
+//! tries each name of the list, takes the largest box through each step, and makes the calls.
 #![tactic(auto)]
 
 mod calls;

@@ -1,10 +1,9 @@
 //! Parts of the path, each with what it counts.
 use crate::regions;
-use cave_base::Cell;
 use cave_model::{OutOfMemory, Rule, World};
 use cave_reading::read_cave;
 use cover_rows::{CoverFault, Problem};
-use light_flood::{Scratch, dark_cells, light, reach};
+use light_flood::{dark_cells, light, reach};
 use std::alloc::Global;
 use std::test::Fail;
 
@@ -19,8 +18,6 @@ pub fn counted(alloc: Global, world: &World, part: &str) -> Result<usize, CoverF
         "cave" => Ok(world.cell_count() as usize),
         "light" => Ok(dark(alloc, world)?),
         "reach" => Ok(reaches(alloc, world)? as usize),
-        "places" => Ok(lit_from_places(alloc, world)?),
-        "cells" => Ok(lit_from_cells(alloc, world)?),
         "coverage" => coverage(alloc, world),
         "split" => regions::count(alloc, world),
         _ => Ok(0),
@@ -42,35 +39,6 @@ fn reaches(alloc: Global, world: &World) -> Result<u32, OutOfMemory> {
         }
     }
     Ok(count)
-}
-
-/// How many cells torches light, summed over these cells, in one memory for all floods.
-fn lit_from(alloc: Global, world: &World, cells: &[Cell]) -> Result<usize, OutOfMemory> {
-    let mut scratch = Scratch::new(alloc, world)?;
-    let mut lit = 0usize;
-    for cell in cells {
-        if *cell < world.cell_count() {
-            lit = lit.wrapping_add(scratch.lit(world, *cell, 14, 1)?.len());
-        }
-    }
-    Ok(lit)
-}
-
-/// How many cells torches light, summed over the places: as in the coverage.
-fn lit_from_places(alloc: Global, world: &World) -> Result<usize, OutOfMemory> {
-    let mut places = Vec::new(alloc);
-    for cell in 0..world.cell_count() {
-        if world.hang_of(cell).is_some() {
-            places.push(cell)?;
-        }
-    }
-    lit_from(alloc, world, &places)
-}
-
-/// The same summed over the dark cells: the other way round to the coverage.
-fn lit_from_cells(alloc: Global, world: &World) -> Result<usize, OutOfMemory> {
-    let levels = light(alloc, world)?;
-    lit_from(alloc, world, &dark_cells(alloc, world, &levels)?)
 }
 
 /// How many places the problem of the cave has.

@@ -16,7 +16,7 @@ returns c = λ cell.
     (settled_reach c.args.world.now c.args.cell c.args.emission
     (λ other. unwrap_or (get nat_cmp c.new-store.result.levels other) 0)
     (λ other. unwrap_or (get nat_cmp c.seed.new.self.store.levels other) 0)
-    (λ other. unwrap_or (get nat_cmp c.spread.new.self.store.levels other) 0) c.requires.in_box
+    (λ other. unwrap_or (get nat_cmp c.spread.new.self.store.levels other) 0)
     (λ other. ap (λ (entries : List (ℕ × ℕ)). unwrap_or (lookup (is_at (nat_cmp other)) entries) 0)
     c.new-store.ensures.none)
-    c.in_ok-seed.ensures.raised c.in_ok-spread.ensures.settled cell))
+    c.in_ok-seed.ensures.raised c.in_ok-spread.ensures.settled c.requires.in_box cell))

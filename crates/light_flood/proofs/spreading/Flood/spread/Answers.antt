@@ -24,5 +24,5 @@ loop-level-preserved g c =
 
 pub returns-clause-settled : goal.returns-clause-settled
 returns-clause-settled g c =
-    passing_all c.args.world.now c.args.least c.loop-level.level (g.S.Store.levels c.args.self.now.store)
+    passing_all c.args.world.now c.loop-level.level (g.S.Store.levels c.args.self.now.store)
     (g.S.Store.levels c.loop-level.self.store) c.loop-level.self.waiting (omega arith) c.loop-level.invariant.passing
