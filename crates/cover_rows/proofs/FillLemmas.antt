@@ -1,163 +1,132 @@
 -- Rows are filled, one column after another.
-use Rattle.std.proofs.Common.{◌≡◌, ◌↔◌, ℕ, ◌+◌, ◌*◌, ◌^◌, ◌<◌, ◌≤◌, List, [], length, slice_index, Contains, refl, sym}
-use Rattle.std.proofs.Common.{ap, subst, ◌∙◌, arith, inl, inr, mul-le-mul_left}
-use Rattle.std.proofs.lemmas.Bool.{cases_lt}
+use Rattle.std.proofs.Common.{◌≡◌, ◌↔◌, ℕ, ◌+◌, ◌*◌, ◌/◌, ◌%◌, ◌^◌, ◌<◌, ◌≤◌, List, [], length, slice_index, sym}
+use Rattle.std.proofs.Common.{ap, subst}
+use Rattle.std.proofs.Common.{◌∙◌, arith, inl, inr, set, length-set, get_or-set_same, get_or-set_other}
+use Rattle.std.proofs.lemmas.Bool.{cases_eq}
 use Rattle.std.proofs.lemmas.Nat.{mul-le}
-use Rattle.std.proofs.lemmas.List.Elements.{All-contains, Contains-get_or}
-use Rattle.cave_base.specs.Box.{cell_count}
+use Rattle.std.proofs.lemmas.List.Elements.{Contains-get_or}
 use Rattle.cave_model.specs.Cave.{Cave, IsSound}
 use Rattle.cave_model.specs.Light.{entering_cost}
-use Rattle.cave_model.specs.Torches.{ArePlaces, Lights}
-use Rattle.cave_model.proofs.PlaceLemmas.{place_inside}
-use Rattle.set_cover.specs.Bits.{IsRowOf, IsWith}
-use Rattle.cover_rows.specs.Filling.{AreIndices, HasIndexed, Marks, LightsBy, AreLighting, AreColumns, AreReached}
-use Rattle.cover_rows.specs.Filling.{AreFilled, AreCovered, AreEmpty}
-use Rattle.cover_rows.proofs.LightingLemmas.{place_cost}
+use Rattle.cave_model.specs.Torches.{ArePlaces}
+use Rattle.set_cover.specs.Bits.{Has, IsRowOf}
+use Rattle.set_cover.proofs.BitLemmas.{one_if, has_if}
+use Rattle.cover_rows.specs.Blocks.{Reaches, IsSet}
+use Rattle.cover_rows.specs.Filling.{LightsBy, AreColumns, AreReached, AreFilled, AreCovered, AreEmpty}
+use Rattle.cover_rows.specs.Storing.{IsBlock, HaveNone, IsStored}
+use Rattle.cover_rows.proofs.ReachLemmas.{set_bit}
+use Rattle.cover_rows.proofs.LightingLemmas.{place_cost, lights_back}
 
--- the place and the cell of a bit
-same_row : (width p q c d : ℕ) → c < 64 * width → d < 64 * width → 64 * (p * width) + c ≡ 64 * (q * width) + d
-    → (p ≡ q) × (c ≡ d)
-same_row width p q c d small_c small_d e = elim (cases_lt p q) [
-  | inl lt ↦ (let more : width * (p + 1) ≤ width * q = mul-le-mul_left width (omega arith) in absurd (omega arith))
-  | inr le ↦ elim (cases_lt q p) [
-    | inl lt ↦ (let more : width * (q + 1) ≤ width * p = mul-le-mul_left width (omega arith) in absurd (omega arith))
-    | inr ge ↦ (let same : p ≡ q = omega arith in
-        (same, (let rows : p * width ≡ q * width = ap (λ (n : ℕ). n * width) same in omega arith)))
-  ]
-]
+-- a bit of a row, by its word
+row_bit : (words : List ℕ) (width place cell : ℕ) → Has words (64 * (place * width) + cell)
+    ↔ IsSet (slice_index words (place * width + cell / 64)) (cell % 64)
+row_bit words width place cell =
+    let at : 64 * (place * width + cell / 64) + cell % 64 ≡ 64 * (place * width) + cell = omega arith in
+    subst (λ (bit : ℕ). Has words bit ↔ IsSet (slice_index words (place * width + cell / 64)) (cell % 64)) at
+    (set_bit words (place * width + cell / 64) (cell % 64) (omega arith))
 
--- a bit of a row by the number of its place and the bits of a row
-row_of_bit : (width row_bits place index cell column : ℕ) → row_bits ≡ 64 * width
-    → 64 * (place * width) + cell ≡ index * row_bits + column
-    → 64 * (place * width) + cell ≡ 64 * (index * width) + column
-row_of_bit width row_bits place index cell column e there =
-    there ∙ ap (λ (n : ℕ). index * n + column) e ∙ omega arith
-
--- and the other way round
-bit_of_row : (width row_bits place index cell column : ℕ) → row_bits ≡ 64 * width → cell ≡ column → index ≡ place
-    → 64 * (place * width) + cell ≡ index * row_bits + column
-bit_of_row width row_bits place index cell column e same is =
-    let turned : 64 * (place * width) + cell ≡ place * (64 * width) + cell = omega arith in
-    turned ∙ ap (λ (n : ℕ). place * n + cell) (sym e) ∙ ap (λ (n : ℕ). place * row_bits + n) same
-    ∙ ap (λ (n : ℕ). n * row_bits + column) (sym is)
-
-module _ (cave : Cave) (cells places : List ℕ) (indices : List ℕ) (sound : IsSound cave) (legal : ArePlaces cave places)
-    (indexed : AreIndices (cell_count cave.size) places indices) where
+module _ (cave : Cave) (cells places sources : List ℕ) (width block : ℕ) (sound : IsSound cave)
+    (legal : ArePlaces cave places) (narrow : block < width) (is : IsBlock cells block sources) where
   -- a place of the list costs 1 to enter
   listed_cost : (place : ℕ) → place < length places → entering_cost cave (slice_index places place) ≡ 1
   listed_cost place h = place_cost cave (slice_index places place) sound
       ((legal.exact (slice_index places place)).0 (Contains-get_or places place 0 h))
 
-  -- the bits that the flood from a cell sets are those of the places that light it
-  module _ (column : ℕ) (inside : column < length cells) (lit : List ℕ)
-      (lighting : AreLighting cave (slice_index cells column) lit) where
-    -- a cell with an index is a place that lights the cell
-    lights_there : (cell : ℕ) → Contains lit cell → slice_index indices cell < length places
-        → LightsBy cave cells places (slice_index indices cell) column
-    lights_there cell listed index_in =
-        let in_box : cell < cell_count cave.size = All-contains (λ (c : ℕ). c < cell_count cave.size) lit cell
-        lighting.inside listed in
-        let at : slice_index places (slice_index indices cell) ≡ cell =
-        (indexed.exact cell (slice_index indices cell) in_box index_in).0 refl in
-        let cost : entering_cost cave cell ≡ 1 = subst (λ (c : ℕ). entering_cost cave c ≡ 1) at
-        (listed_cost (slice_index indices cell) index_in) in
-        record {
-          inside = inside;
-          lights = subst (λ (c : ℕ). Lights cave c (slice_index cells column)) (sym at)
-              ((lighting.exact cell cost).0 listed);
-        }
+  -- a source brings what is needed to a place exactly where the place lights it
+  lights_source : (place bit : ℕ) → place < length places → bit < 64
+      → ((bit < length sources) × Reaches cave (slice_index sources bit) cave.rule.need (slice_index places place))
+      ↔ LightsBy cave cells places place (64 * block + bit)
+  lights_source place bit h lt = (
+    λ r. record {
+      inside = (is.exact bit lt).0 r.0;
+      lights = (lights_back cave (slice_index places place) (slice_index cells (64 * block + bit))
+          (listed_cost place h)).0
+          (subst (λ (s : ℕ). Reaches cave s cave.rule.need (slice_index places place)) (is.same bit r.0) r.1);
+    },
+    λ by. (let source = (is.exact bit lt).1 by.inside in (
+      source,
+      subst (λ (s : ℕ). Reaches cave s cave.rule.need (slice_index places place)) (sym (is.same bit source))
+          ((lights_back cave (slice_index places place) (slice_index cells (64 * block + bit))
+          (listed_cost place h)).1 by.lights),
+    )),
+  )
 
-    -- a place that lights the cell is among them, with its index
-    there_lit : (place : ℕ) → place < length places → LightsBy cave cells places place column
-        → Contains lit (slice_index places place) × (slice_index indices (slice_index places place) ≡ place)
-    there_lit place h by = (
-      (lighting.exact (slice_index places place) (listed_cost place h)).1 by.lights,
-      (indexed.exact (slice_index places place) place
-          (place_inside cave (slice_index places place) sound
-          ((legal.exact (slice_index places place)).0 (Contains-get_or places place 0 h))) h).1 refl,
-    )
+  -- the same for a cell of the block
+  lights_cell : (place cell : ℕ) → place < length places → cell / 64 ≡ block
+      → ((cell % 64 < length sources)
+      × Reaches cave (slice_index sources (cell % 64)) cave.rule.need (slice_index places place))
+      ↔ LightsBy cave cells places place cell
+  lights_cell place cell h e =
+      let at : 64 * block + cell % 64 ≡ cell = omega arith in
+      subst (λ (c : ℕ). ((cell % 64 < length sources)
+      × Reaches cave (slice_index sources (cell % 64)) cave.rule.need (slice_index places place))
+      ↔ LightsBy cave cells places place c) at (lights_source place (cell % 64) h (omega arith))
 
-    -- the next column is filled
-    pub columns_next : (width row_bits : ℕ) (words next : List ℕ) → length cells ≤ 64 * width → row_bits ≡ 64 * width
-        → Marks words indices (length places) row_bits column lit next
-        → AreColumns cave cells places width column words → AreColumns cave cells places width (column + 1) next
-    columns_next width row_bits words next room e marks s = record {
-      whole = marks.whole ∙ s.whole;
-      exact = λ place cell h small. (
-        λ has. (elim ((marks.exact (64 * (place * width) + cell)).0 has) [
-          | inl was ↦ (let b = (s.exact place cell h small).0 was in (omega (arith, b.0), b.1))
-          | inr is ↦ (let same = same_row width place (slice_index indices is.cell) cell column small
-              (omega arith) (row_of_bit width row_bits place (slice_index indices is.cell) cell column e is.there) in (
-                omega (arith, same.1),
-                subst (λ (p : ℕ). LightsBy cave cells places p cell) (sym same.0)
-                    (subst (λ (d : ℕ). LightsBy cave cells places (slice_index indices is.cell) d) (sym same.1)
-                    (lights_there is.cell is.listed is.indexed)),
-              ))
-        ]),
-        λ b. (marks.exact (64 * (place * width) + cell)).1 (elim (cases_lt cell column) [
-          | inl lt ↦ inl ((s.exact place cell h small).1 (lt, b.1))
-          | inr le ↦ (let same : cell ≡ column = omega (arith, b.0) in
-              let there = there_lit place h (subst (λ (d : ℕ). LightsBy cave cells places place d) same b.1) in
-              inr (record {
-                cell = slice_index places place;
-                listed = there.0;
-                indexed = omega (arith, there.1);
-                there = bit_of_row width row_bits place (slice_index indices (slice_index places place)) cell column
-                    e same there.1;
-              }))
-        ]),
-      );
-    }
+  -- before the block its words have no bit
+  pub none_before : (words : List ℕ) → AreColumns cave cells places width (64 * block) words
+      → HaveNone places width block words
+  none_before words s = record {
+    none = λ place bit h lt set.
+        (let at : 64 * (place * width + block) + bit ≡ 64 * (place * width) + (64 * block + bit) = omega arith in
+        let has = subst (Has words) at ((set_bit words (place * width + block) bit lt).1 set) in
+        let b = (s.exact place (64 * block + bit) h (omega arith)).0 has in absurd (omega (arith, b.0)));
+  }
 
-    -- some place lights the cell exactly where one of those has an index
-    pub reached_now : HasIndexed indices (length places) lit
-        ↔ ((place : ℕ) × (place < length places) × LightsBy cave cells places place column)
-    reached_now = (
-      λ has. (slice_index indices has.cell, has.indexed, lights_there has.cell has.listed has.indexed),
-      λ by. (let there = there_lit by.0 by.1 by.2 in record {
-        cell = slice_index places by.0;
-        listed = there.0;
-        indexed = omega (arith, there.1, by.1);
-      }),
-    )
+  -- the next columns are filled
+  pub columns_next : (old new : List ℕ) (all : ℕ) → IsStored cave sources places width block old new all
+      → AreColumns cave cells places width (64 * block) old → AreColumns cave cells places width (64 * (block + 1)) new
+  columns_next old new all stored s = record {
+    whole = stored.whole ∙ s.whole;
+    exact = λ place cell h small. elim (cases_eq (cell / 64) block) [
+      | inl e ↦ (
+        λ has. (
+          omega arith,
+          (lights_cell place cell h e).0 (((stored.here place h).exact (cell % 64) (omega arith)).0
+              (subst (λ (n : ℕ). IsSet (slice_index new (place * width + n)) (cell % 64)) e
+              ((row_bit new width place cell).0 has))),
+        ),
+        λ b. (row_bit new width place cell).1
+            (subst (λ (n : ℕ). IsSet (slice_index new (place * width + n)) (cell % 64)) (sym e)
+            (((stored.here place h).exact (cell % 64) (omega arith)).1 ((lights_cell place cell h e).1 b.1))),
+      )
+      | inr ne ↦ (let same = stored.rest place (cell / 64) h (omega arith) ne in (
+        λ has. (let b = (s.exact place cell h small).0 ((row_bit old width place cell).1
+            (subst (λ (word : ℕ). IsSet word (cell % 64)) same ((row_bit new width place cell).0 has))) in
+            (omega (arith, b.0), b.1)),
+        λ b. (row_bit new width place cell).1 (subst (λ (word : ℕ). IsSet word (cell % 64)) (sym same)
+            ((row_bit old width place cell).0 ((s.exact place cell h small).1 (omega (arith, b.0, ne), b.1)))),
+      ))
+    ];
+  }
 
-    -- the cell is reached: its bit is set
-    pub reached_some : (width : ℕ) (covered next : List ℕ) → HasIndexed indices (length places) lit
-        → IsWith covered column next → AreReached cave cells places width column covered
-        → AreReached cave cells places width (column + 1) next
-    reached_some width covered next has more s = record {
-      whole = more.whole ∙ s.whole;
-      exact = λ cell. (
-        λ set. (elim ((more.exact cell).0 set) [
-          | inl was ↦ (let b = (s.exact cell).0 was in (omega (arith, b.0), b.1, b.2, b.3))
-          | inr e ↦ (let by = reached_now.0 has in
-              (omega (arith, e), by.0, by.1, subst (λ (d : ℕ). LightsBy cave cells places by.0 d) (sym e) by.2))
-        ]),
-        λ b. (more.exact cell).1 (elim (cases_lt cell column) [
-          | inl lt ↦ inl ((s.exact cell).1 (lt, b.1, b.2, b.3))
-          | inr le ↦ inr (omega (arith, b.0))
-        ]),
-      );
-    }
-
-    -- it isn't
-    pub reached_none : (width : ℕ) (covered : List ℕ) → (HasIndexed indices (length places) lit → ⊥)
-        → AreReached cave cells places width column covered → AreReached cave cells places width (column + 1) covered
-    reached_none width covered none s = record {
-      whole = s.whole;
-      exact = λ cell. (
-        λ set. (let b = (s.exact cell).0 set in (omega (arith, b.0), b.1, b.2, b.3)),
-        λ b. (elim (cases_lt cell column) [
-          | inl lt ↦ (s.exact cell).1 (lt, b.1, b.2, b.3)
-          | inr le ↦ (let same : cell ≡ column = omega (arith, b.0) in
-              absurd (none (reached_now.1 (
-                b.1,
-                b.2,
-                subst (λ (d : ℕ). LightsBy cave cells places b.1 d) same b.3,
-              ))))
-        ]),
-      );
-    }
+  -- and what some place lights of these cells is covered
+  pub reached_next : (old new covered : List ℕ) (all : ℕ) → IsStored cave sources places width block old new all
+      → AreReached cave cells places width (64 * block) covered
+      → AreReached cave cells places width (64 * (block + 1)) (set covered block all)
+  reached_next old new covered all stored s = record {
+    whole = length-set covered block all ∙ s.whole;
+    exact = λ cell. elim (cases_eq (cell / 64) block) [
+      | inl e ↦ (let same : slice_index (set covered block all) (cell / 64) ≡ all =
+          ap (slice_index (set covered block all)) e ∙ get_or-set_same covered block all 0 (omega (arith, s.whole)) in (
+            λ has. (let by = (stored.lit (cell % 64) (omega arith)).0 (subst (λ (word : ℕ). IsSet word (cell % 64)) same
+                (one_if (set covered block all) cell has)) in (
+                  omega arith,
+                  by.place,
+                  by.inside,
+                  (lights_cell by.place cell by.inside e).0 (by.source, by.reaches),
+                )),
+            λ b. has_if (set covered block all) cell (subst (λ (word : ℕ). IsSet word (cell % 64)) (sym same)
+                ((stored.lit (cell % 64) (omega arith)).1 (let r = (lights_cell b.1 cell b.2 e).1 b.3 in
+                record { place = b.1; inside = b.2; source = r.0; reaches = r.1 }))),
+          ))
+      | inr ne ↦ (let same : slice_index (set covered block all) (cell / 64) ≡ slice_index covered (cell / 64) =
+          get_or-set_other covered block (cell / 64) all 0 ne in (
+            λ has. (let b = (s.exact cell).0 (has_if covered cell (subst (λ (word : ℕ). IsSet word (cell % 64)) same
+                (one_if (set covered block all) cell has))) in (omega (arith, b.0), b.1, b.2, b.3)),
+            λ b. has_if (set covered block all) cell (subst (λ (word : ℕ). IsSet word (cell % 64)) (sym same)
+                (one_if covered cell ((s.exact cell).1 (omega (arith, b.0, ne), b.1, b.2, b.3)))),
+          ))
+    ];
+  }
 
 -- ---- the end
 

@@ -1,6 +1,12 @@
 pub mod NumberLemmas
-pub mod MarkLemmas
 pub mod LightingLemmas
 pub mod FillLemmas
 pub mod InstanceLemmas
 pub mod CoverLemmas
+pub mod RegionLemmas
+pub mod SideLemmas
+pub mod ReachLemmas
+pub mod WordLemmas
+pub mod LevelLemmas
+pub mod FloodLemmas
+pub mod StoreLemmas

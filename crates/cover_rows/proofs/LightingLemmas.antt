@@ -1,13 +1,9 @@
 -- Light goes from a place to a cell exactly where it goes back.
-use Rattle.std.proofs.Common.{◌≡◌, ◌↔◌, ℕ, ◌+◌, Bool, true, false, ◌&&◌, List, refl, arith}
-use Rattle.std.proofs.Common.{get_or}
-use Rattle.std.proofs.lemmas.List.Elements.{Contains-get_or}
+use Rattle.std.proofs.Common.{◌≡◌, ◌↔◌, ℕ, ◌+◌, Bool, true, false, ◌&&◌, refl, arith}
 use Rattle.cave_model.specs.Cave.{Cave, IsSound}
 use Rattle.cave_model.specs.Light.{BringsFrom, entering_cost}
 use Rattle.cave_model.specs.Torches.{IsPlace, Lights}
-use Rattle.cave_model.proofs.LightLemmas.{brings_back, path_end_inside}
-use Rattle.light_flood.specs.Levels.{ListsLit}
-use Rattle.cover_rows.specs.Filling.{AreLighting}
+use Rattle.cave_model.proofs.LightLemmas.{brings_back}
 
 -- where both hold the first does
 first_true : (a b : Bool) → (a && b) ≡ true → a ≡ true
@@ -31,15 +27,3 @@ lights_back cave place cell one = (
       (let b = brings_back cave place cell 14 cave.rule.need lights in
       (b.0, b.1, omega (arith, b.2, one))),
 )
-
--- the cells that such a flood lights
-pub lit_lights : (cave : Cave) (cell least : ℕ) (lit : List ℕ) → least ≡ cave.rule.need + entering_cost cave cell
-    → ListsLit cave cell 15 least lit → AreLighting cave cell lit
-lit_lights cave cell least lit e s = record {
-  inside = λ k d h. (let b = (s.exact (get_or lit k d)).0 (Contains-get_or lit k d h) in path_end_inside b.1);
-  exact = λ place one. (
-    λ has. (let b = (s.exact place).0 has in (lights_back cave place cell one).0 (b.0, b.1, omega (arith, b.2, e))),
-    λ lights. (let b = (lights_back cave place cell one).1 lights in
-        (s.exact place).1 (b.0, b.1, omega (arith, b.2, e))),
-  );
-}

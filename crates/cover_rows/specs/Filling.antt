@@ -1,12 +1,11 @@
 -- How the rows are filled: places get their indices, and for each cell its bit is set in the rows of the places that
 -- light it.
 -- This is this project's own.
-use Rattle.std.specs.Prelude.{◌≡◌, ◌<◌, ◌≤◌, ◌↔◌, ◌⊎◌, ℕ, ◌+◌, ◌*◌, ◌^◌, List, length, slice_index, All, Contains}
+use Rattle.std.specs.Prelude.{◌≡◌, ◌<◌, ◌≤◌, ◌↔◌, ℕ, ◌+◌, ◌*◌, ◌^◌, List, length, slice_index, All}
 use Rattle.std.specs.List.Sorted.{IsStrictlyIncreasing}
 use Rattle.cave_base.specs.Box.{cell_count}
 use Rattle.set_cover.specs.Bits.{Has}
 use Rattle.cave_model.specs.Cave.{Cave}
-use Rattle.cave_model.specs.Light.{entering_cost}
 use Rattle.cave_model.specs.Torches.{Lights}
 
 -- for each of so many cells its index in the list, where it stands there
@@ -14,29 +13,6 @@ pub record AreIndices (count : ℕ) (cells indices : List ℕ) : Type 0 where
   pub whole : length indices ≡ count
   pub exact : (cell index : ℕ) → cell < count → index < length cells
       → (slice_index indices cell ≡ index) ↔ (slice_index cells index ≡ cell)
-
--- some cell of the list has an index; a number of `count` or more is none
-pub record HasIndexed (indices : List ℕ) (count : ℕ) (lit : List ℕ) : Type 0 where
-  pub cell : ℕ
-  pub listed : Contains lit cell
-  pub indexed : slice_index indices cell < count
-
--- the bit of a column in the row of some cell of the list, by its index
-pub record IsBitOf (indices : List ℕ) (count row_bits column : ℕ) (lit : List ℕ) (bit : ℕ) : Type 0 where
-  pub cell : ℕ
-  pub listed : Contains lit cell
-  pub indexed : slice_index indices cell < count
-  pub there : bit ≡ slice_index indices cell * row_bits + column
-
--- these bits are set too
-pub record Marks (old indices : List ℕ) (count row_bits column : ℕ) (lit new : List ℕ) : Type 0 where
-  pub whole : length new ≡ length old
-  pub exact : (bit : ℕ) → Has new bit ↔ (Has old bit ⊎ IsBitOf indices count row_bits column lit bit)
-
--- cells of the box; among those that cost 1 to enter, as places do, the ones from where a torch lights the cell
-pub record AreLighting (cave : Cave) (cell : ℕ) (lit : List ℕ) : Type 0 where
-  pub inside : All (λ other. other < cell_count cave.size) lit
-  pub exact : (place : ℕ) → entering_cost cave place ≡ 1 → Contains lit place ↔ Lights cave place cell
 
 -- the place with the first index lights the cell with the second
 pub record LightsBy (cave : Cave) (cells places : List ℕ) (place cell : ℕ) : Type 0 where

@@ -2,5 +2,9 @@
 pub mod Coverage
 pub mod Texts
 -- private
+pub mod Blocks
 pub mod Filling
+pub mod BlockFlood
+pub mod Region
+pub mod Storing
 pub mod Unlit

@@ -1,16 +1,17 @@
 ghost use Rattle.std.specs.Prelude.{◌≡◌, ◌<◌, ◌^◌, length, IfOk, OnOk};
 ghost use Rattle.cave_base.specs.Box.{cell_count};
-ghost use Rattle.cave_model.specs.Passages.{ArePassages};
 ghost use Rattle.cave_model.specs.Torches.{ArePlaces};
 ghost use Rattle.set_cover.specs.Instance.{words_for};
-ghost use Rattle.cover_rows.specs.Filling.{AreEmpty, AreLighting, IsFilling, IsListed};
+ghost use Rattle.cover_rows.specs.Filling.{AreEmpty, IsFilling, IsListed};
 
+use crate::block_flood::BlockFlood;
+use crate::blocks::{Column, block_of, store};
 use crate::indexing::indices_of;
-use crate::marking::mark;
+use crate::region::Linked;
+use crate::sides::sides_of;
 use cave_base::Cell;
-use cave_model::{OutOfMemory, TORCH_LIGHT, World};
-use light_flood::Scratch;
-use set_cover::{add, empty};
+use cave_model::{OutOfMemory, World};
+use set_cover::empty;
 use std::alloc::Global;
 
 /// The rows of the places, one after another, and the row of the cells that some place lights.
@@ -35,59 +36,58 @@ pub fn rows_of(
     ensures wide { IfOk result (λ r. length r.covered.items ≡ words_for (length cells.now)) }
 {
     let width = cells.len().div_ceil(64);
-    let mut words = empty(alloc, places.len() * width)?;
-    let mut covered = empty(alloc, width)?;
-    fill(
-        alloc,
-        world,
-        cells,
-        places,
-        words.as_mut_slice(),
-        covered.as_mut_slice(),
-    )?;
-    Ok(CoverRows { words, covered })
+    let words = empty(alloc, places.len() * width)?;
+    let covered = empty(alloc, width)?;
+    let mut rows = CoverRows { words, covered };
+    fill(alloc, world, cells, places, &mut rows)?;
+    Ok(rows)
 }
 
-/// Cells that a torch would light this one from: all the places among them, and perhaps cells that are no place.
-///
-/// Light goes back the way that it came, and entering a place costs 1. So a torch at a place brings what is needed to
-/// the cell exactly where one more than a torch's light, at the cell, brings to the place what is needed and what
-/// entering the cell costs.
-fn lighting(scratch: &mut Scratch, world: &World, cell: Cell) -> Result<Vec<Cell>, OutOfMemory>
-    requires world { ArePassages world.now scratch.old }
-    requires in_box { cell < cell_count world.now.size }
-    ensures lighting { IfOk result (λ v. AreLighting world.now cell v.items) }
-    ensures same { scratch.new ≡ scratch.old }
-{
-    let cost = u8::max(1, world.class_of(cell).opacity);
-    let least = world.need() + cost;
-    scratch.lit(world, cell, TORCH_LIGHT + 1, least)
-}
-
-/// Fills the rows of the places, a column for each cell, and the row of the cells that some place lights.
+/// Fills the rows of the places, a block of cells after another, and the row of the cells that some place lights.
 fn fill(
     alloc: Global,
     world: &World,
     cells: &[Cell],
     places: &[Cell],
-    words: &mut [u64],
-    covered: &mut [u64],
+    rows: &mut CoverRows,
 ) -> Result<(), OutOfMemory>
     requires cells { IsListed world.now cells.now }
     requires places { IsListed world.now places.now }
     requires legal { ArePlaces world.now places.now }
-    requires words { AreEmpty (length places.now) (length covered.old) (length cells.now) words.old }
-    requires covered { AreEmpty 1 (length covered.old) (length cells.now) covered.old }
-    ensures { OnOk result (IsFilling world.now cells.now places.now words.new covered.new) }
+    requires words { AreEmpty (length places.now) (length rows.old.covered.items) (length cells.now)
+        rows.old.words.items }
+    requires covered { AreEmpty 1 (length rows.old.covered.items) (length cells.now) rows.old.covered.items }
+    ensures filled { OnOk result (IsFilling world.now cells.now places.now rows.new.words.items
+        rows.new.covered.items) }
+    ensures wide { OnOk result (length rows.new.covered.items ≡ length rows.old.covered.items) }
 {
-    let indices = indices_of(alloc, world.cell_count(), places)?;
-    let mut scratch = Scratch::new(alloc, world)?;
-    let row_bits = 64 * covered.len();
-    for (column, cell) in cells.iter().enumerate() {
-        let lit = lighting(&mut scratch, world, *cell)?;
-        if mark(words, row_bits, column, &indices, places.len(), &lit) {
-            add(covered, column);
-        }
+    let box_size = world.cell_count();
+    let indices = indices_of(alloc, box_size, places)?;
+    let sides = sides_of(alloc, world)?;
+    let mut flood = BlockFlood::new(alloc, box_size)?;
+    let words = rows.words.as_mut_slice();
+    let covered = rows.covered.as_mut_slice();
+    let width = covered.len();
+    for block in 0..width {
+        let sources = block_of(cells, block);
+        let count = flood.spread(world, &sides, sources)?;
+        let region = flood.region.as_slice();
+        let near = flood.near.as_slice();
+        let levels = flood.levels.as_slice();
+        let linked = Linked {
+            region,
+            near,
+            sources: sources.len(),
+            count,
+        };
+        let column = Column {
+            places,
+            indices: &indices,
+            width,
+            block,
+        };
+        covered[block] = store(world, &linked, levels, &column, words);
+        flood.clear();
     }
     Ok(())
 }

@@ -4,14 +4,18 @@
 //! that a torch there lights.
 #![tactic(auto)]
 
+mod block_flood;
+mod blocks;
 mod fault;
 mod filling;
 mod indexing;
 pub mod laws;
-mod marking;
+mod levels;
 mod places;
 mod problem;
+mod region;
 mod search;
+mod sides;
 
 pub use fault::CoverFault;
 pub use problem::Problem;

@@ -67,7 +67,8 @@ grown_all old row other new whole long small s = record {
           λ h. elim (has_or_not old bit) [
             | inl was ↦ inl was
             | inr not ↦ (let one = one_if new bit h in
-                let more : bit_at (more_of row other (bit / 64)) (bit % 64) ≡ 1 = from_more bit not (here_is bit one here)
+                let more : bit_at (more_of row other (bit / 64)) (bit % 64) ≡ 1 =
+                from_more bit not (here_is bit one here)
                 in inr (row_if bit more, other_if bit more))
           ],
           λ h. elim h [

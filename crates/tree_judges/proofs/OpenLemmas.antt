@@ -85,7 +85,8 @@ lists_end region state claims lists a = record {
       | inr le ↦ subst AreDistinct (sym (no_list lists index (omega (arith, a.whole, le)))) distinct_nil
     ]);
     below = λ index. (elim (cases_lt index (length claims)) [
-      | inl lt ↦ all_members (λ place. place < length region.places) (places_at lists index) (a.each index none lt).of_it
+      | inl lt ↦ all_members (λ place. place < length region.places) (places_at lists index)
+          (a.each index none lt).of_it
       | inr le ↦ subst (All (λ place. place < length region.places))
           (sym (no_list lists index (omega (arith, a.whole, le)))) (All-nil (λ place. place < length region.places))
     ]);

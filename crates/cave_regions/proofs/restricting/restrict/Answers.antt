@@ -65,6 +65,7 @@ new-requires-2 c =
 pub returns : goal.returns
 returns c =
     let before = (goal.at.returns c).After-div_ceil-width in
-    subst (IsRestriction c.args.instance.now c.args.own.now c.args.placed.now) (sym (c.in_ok-region.ensures ∙ c.new.ensures))
+    subst (IsRestriction c.args.instance.now c.args.own.now c.args.placed.now)
+    (sym (c.in_ok-region.ensures ∙ c.new.ensures))
     (restriction c.args.instance.now (made before) c.args.own.now c.args.placed.now c.cells-cells.ensures.kept
     c.requires.closed (cells before) (places before) (width before) (copied before))

@@ -1,6 +1,5 @@
-use Rattle.std.proofs.Common.{◌≡◌, ◌*◌, ◌^◌, ◌<◌, ◌≤◌, ℕ, [], length, subst, sym, ap, ◌∙◌, arith}
+use Rattle.std.proofs.Common.{◌*◌, ◌^◌, ◌<◌, ◌≤◌, ℕ, length, sym, ap, ◌∙◌, arith}
 use Rattle.cave_base.specs.Box.{cell_count}
-use Rattle.set_cover.specs.Bits.{IsRowOf}
 use Rattle.set_cover.proofs.OrderLemmas.{few_below}
 use Rattle.cover_rows.proofs.FillLemmas.{few_words, empty_rows}
 use Rattle.cover_rows.proofs.filling.rows_of.Goals.{After-div_ceil-width}
@@ -23,14 +22,9 @@ overflow_mul-places c = (let small = few_words (length c.args.places.now) c.div_
 pub fill-requires-clause-words : goal.fill-requires-clause-words
 fill-requires-clause-words c =
     let before = (goal.at.fill-requires-clause-words c).After-div_ceil-width in
-    let wide : length c.as_mut_slice-2.result.now ≡ c.div_ceil-width.result = ap length c.as_mut_slice-2.ensures.value
-    ∙ c.in_ok-covered.ensures.whole in
-    let long : length c.as_mut_slice.result.now ≡ length c.args.places.now * c.div_ceil-width.result =
-    ap length c.as_mut_slice.ensures.value ∙ c.in_ok-words.ensures.whole in
     let small = few_words (length c.args.places.now) c.div_ceil-width.result (few_places before) (narrow before) in
-    empty_rows (length c.args.places.now) (length c.as_mut_slice-2.result.now)
-    (length c.args.cells.now) c.as_mut_slice.result.now
-    (long ∙ ap (λ (n : ℕ). length c.args.places.now * n) (sym wide))
-    (subst (IsRowOf []) (sym c.as_mut_slice.ensures.value) c.in_ok-words.ensures.none)
-    (omega (arith, wide, c.div_ceil-width.ensures))
-    (omega (arith, long, small))
+    empty_rows (length c.args.places.now) (length c.in_ok-covered.covered.items) (length c.args.cells.now)
+    c.in_ok-words.words.items
+    (c.in_ok-words.ensures.whole ∙ ap (λ (n : ℕ). length c.args.places.now * n) (sym c.in_ok-covered.ensures.whole))
+    c.in_ok-words.ensures.none (omega (arith, c.in_ok-covered.ensures.whole, c.div_ceil-width.ensures))
+    (omega (arith, c.in_ok-words.ensures.whole, small))

@@ -1,0 +1,232 @@
+-- A region grows, cell by cell.
+use Rattle.std.proofs.Common.{◌≡◌, ◌≢◌, ℕ, ◌+◌, ◌*◌, ◌<◌, ◌≤◌, List, [], ◌∷◌, ◌++◌, length, take, set, All}
+use Rattle.std.proofs.Common.{slice_index, refl, sym, ap, subst, ◌∙◌, arith, inl, inr}
+use Rattle.std.proofs.Common.{get_or-set_same, get_or-set_other, length-set}
+use Rattle.std.proofs.lemmas.Bool.{cases_lt, cases_eq}
+use Rattle.std.proofs.lemmas.List.{get_or_append_left, get_or_push, length_push, get_or-take, length-take-le}
+use Rattle.std.proofs.lemmas.List.Elements.{All-push}
+use Rattle.std.proofs.lemmas.List.Folds.{list_any_at}
+use Rattle.std.proofs.lemmas.Map.Steps.{le-length_from_below}
+use Rattle.std.proofs.lemmas.Bool.Decides.{nat_tests}
+use Rattle.cover_rows.specs.Region.{AreLinked, AreOnce, BeginsWith, IsNumberOf, IsRegion, no_number}
+
+-- ---- lists that go on
+
+-- a list begins with itself
+pub begins_same : (xs : List ℕ) → BeginsWith xs xs
+begins_same xs = record { longer = omega arith; same = λ k h. refl }
+
+-- one cell more
+pub begins_push : (old : List ℕ) (cell : ℕ) → BeginsWith old (old ++ cell ∷ [])
+begins_push old cell = record {
+  longer = omega (arith, length_push old cell);
+  same = λ k h. get_or_append_left old (cell ∷ []) 0 k h;
+}
+
+-- going on twice
+pub begins_on : (old middle new : List ℕ) → BeginsWith old middle → BeginsWith middle new → BeginsWith old new
+begins_on old middle new b c = record {
+  longer = omega (arith, b.longer, c.longer);
+  same = λ k h. c.same k (omega (arith, b.longer)) ∙ b.same k h;
+}
+
+-- a cell keeps its number
+pub number_kept : (old new : List ℕ) (cell number : ℕ) → BeginsWith old new → IsNumberOf old cell number
+    → IsNumberOf new cell number
+number_kept old new cell number b is =
+    record { inside = omega (arith, is.inside, b.longer); there = b.same number is.inside ∙ is.there }
+
+-- ---- numbers
+
+module _ (local region : List ℕ) (s : IsRegion local region) where
+  -- the cells are in the box
+  pub cell_inside : (number : ℕ) → number < length region → slice_index region number < length local
+  cell_inside number h = s.inside number 0 h
+
+  -- no cell stands there twice
+  pub region_once : AreOnce region
+  region_once i j h g e = sym (s.numbered i h) ∙ ap (slice_index local) e ∙ s.numbered j g
+
+  -- there are no more than the box has
+  pub region_few : length region ≤ length local
+  region_few = le-length_from_below local (length region)
+      (λ q h. list_any_at _ local (slice_index region q) 0 (cell_inside q h) (grind (arith, nat_tests, s.numbered q h)))
+
+  -- a cell with no number enters
+  pub region_push : (cell number : ℕ) → cell < length local → number ≡ length region → number < no_number
+      → ((k : ℕ) → k < length region → slice_index region k ≢ cell)
+      → IsRegion (set local cell number) (region ++ cell ∷ [])
+  region_push cell number h e small fresh = record {
+    inside = All-push (λ c. c < length (set local cell number)) region cell
+        (λ k d lt. omega (arith, s.inside k d lt, length-set local cell number))
+        (omega (arith, length-set local cell number));
+    numbered = λ k lt. elim (cases_lt k (length region)) [
+      | inl old ↦ ap (slice_index (set local cell number)) (was k old)
+          ∙ get_or-set_other local cell (slice_index region k) number 0 (fresh k old) ∙ s.numbered k old
+      | inr past ↦ (let last : length region ≡ k = omega (arith, length_push region cell) in
+          ap (slice_index (set local cell number)) (get_or_push region cell 0 k last)
+          ∙ get_or-set_same local cell number 0 h ∙ e ∙ last)
+    ];
+    others = λ other inside. elim (cases_eq other cell) [
+      | inl same ↦ (let at : slice_index (set local cell number) other ≡ number =
+          ap (slice_index (set local cell number)) same ∙ get_or-set_same local cell number 0 h in
+          inr (record {
+            inside = omega (arith, at, e, length_push region cell);
+            there = ap (slice_index (region ++ cell ∷ [])) (at ∙ e) ∙ get_or_push region cell 0 (length region) refl
+                ∙ sym same;
+          }))
+      | inr ne ↦ (let at : slice_index (set local cell number) other ≡ slice_index local other =
+          get_or-set_other local cell other number 0 ne in
+          elim (s.others other (omega (arith, inside, length-set local cell number))) [
+            | inl none ↦ inl (at ∙ none)
+            | inr is ↦ inr (record {
+              inside = omega (arith, at, is.inside, length_push region cell);
+              there = ap (slice_index (region ++ cell ∷ [])) at ∙ was (slice_index local other) is.inside ∙ is.there;
+            })
+          ])
+    ];
+  }
+    where
+      was : (k : ℕ) → k < length region → slice_index (region ++ cell ∷ []) k ≡ slice_index region k
+      was k h = get_or_append_left region (cell ∷ []) 0 k h
+
+  -- a cell without a number isn't there
+  pub not_there : (cell : ℕ) → slice_index local cell ≡ no_number → length region < no_number → (k : ℕ)
+      → k < length region → slice_index region k ≢ cell
+  not_there cell none few k h e = (let number = s.numbered k h in
+      let same : slice_index local cell ≡ k = ap (slice_index local) (sym e) ∙ number in absurd (omega arith))
+
+  -- a cell with a number is
+  pub number_there : (cell : ℕ) → cell < length local → slice_index local cell ≢ no_number
+      → IsNumberOf region cell (slice_index local cell)
+  number_there cell h some = elim (s.others cell h) [
+    | inl none ↦ absurd (some none)
+    | inr is ↦ is
+  ]
+
+-- ---- a region begins
+
+-- with one cell more
+pub begin_next : (local cells region : List ℕ) (k : ℕ) → k < length cells → length cells ≤ 64
+    → slice_index cells k < length local → AreOnce cells → region ≡ take k cells → IsRegion local region
+    → IsRegion (set local (slice_index cells k) k) (region ++ slice_index cells k ∷ [])
+begin_next local cells region k h few inside once e s =
+    region_push local region s (slice_index cells k) k inside (sym long) (omega (arith, few))
+    (λ j lt same. (let before : j < k = omega (arith, long) in
+    let at : slice_index cells j ≡ slice_index cells k = sym (get_or-take k cells j 0 before)
+    ∙ ap (λ (l : List ℕ). slice_index l j) (sym e) ∙ same in
+    let is : j ≡ k = once j k (omega arith) h at in absurd (omega arith)))
+  where
+    long : length region ≡ k
+    long = ap length e ∙ length-take-le k cells (omega arith)
+
+-- ---- links
+
+-- a longer region has the same links
+pub linked_more : (sides old new near : List ℕ) (count : ℕ) → count ≤ length old → BeginsWith old new
+    → AreLinked sides old near count → AreLinked sides new near count
+linked_more sides old new near count le b s = record {
+  each = λ number face lt small. (let at : slice_index new number ≡ slice_index old number =
+      b.same number (omega (arith, lt, le)) in
+      subst (λ (c : ℕ). IsNumberOf new (slice_index sides (6 * c + face)) (slice_index near (6 * number + face)))
+      (sym at) (number_kept old new (slice_index sides (6 * slice_index old number + face))
+      (slice_index near (6 * number + face)) b (s.each number face lt small)));
+}
+
+-- so many sides of a cell are linked
+pub record Linking (sides first region near : List ℕ) (number count : ℕ) : Type 0 where
+  pub kept : BeginsWith first region
+  pub before : AreLinked sides region near number
+  pub here : (face : ℕ) → face < count → IsNumberOf region
+      (slice_index sides (6 * slice_index first number + face)) (slice_index near (6 * number + face))
+
+-- none is
+pub linking_none : (sides first near : List ℕ) (number : ℕ) → AreLinked sides first near number
+    → Linking sides first first near number 0
+linking_none sides first near number s =
+    record { kept = begins_same first; before = s; here = λ face lt. absurd (omega arith) }
+
+-- one more is
+pub linking_next : (sides first region new near : List ℕ) (number face found : ℕ) → number < length first
+    → 6 * number + face < length near → face < 6 → BeginsWith region new
+    → IsNumberOf new (slice_index sides (6 * slice_index first number + face)) found
+    → Linking sides first region near number face
+    → Linking sides first new (set near (6 * number + face) found) number (face + 1)
+linking_next sides first region new near number face found h room small b is s = record {
+  kept = begins_on first region new s.kept b;
+  before = record {
+    each = λ other any lt low. (let more = linked_more sides region new near number
+        (omega (arith, h, s.kept.longer)) b s.before in
+        subst (IsNumberOf new (slice_index sides (6 * slice_index new other + any)))
+        (sym (get_or-set_other near (6 * number + face) (6 * other + any) found 0 (λ e. omega arith)))
+        (more.each other any lt low));
+  };
+  here = λ any lt. elim (cases_eq any face) [
+    | inl e ↦ subst (λ (f : ℕ). IsNumberOf new (slice_index sides (6 * slice_index first number + f))
+        (slice_index (set near (6 * number + face) found) (6 * number + f))) (sym e)
+        (subst (IsNumberOf new (slice_index sides (6 * slice_index first number + face)))
+        (sym (get_or-set_same near (6 * number + face) found 0 room)) is)
+    | inr ne ↦ subst (IsNumberOf new (slice_index sides (6 * slice_index first number + any)))
+        (sym (get_or-set_other near (6 * number + face) (6 * number + any) found 0 (λ e. ne (omega arith))))
+        (number_kept region new (slice_index sides (6 * slice_index first number + any))
+        (slice_index near (6 * number + any)) b (s.here any (omega arith)))
+  ];
+}
+
+-- all six are
+pub linking_all : (sides first region near : List ℕ) (number count : ℕ) → 6 ≤ count → number < length first
+    → Linking sides first region near number count → AreLinked sides region near (number + 1)
+linking_all sides first region near number count all h s = record {
+  each = λ other face lt small. elim (cases_lt other number) [
+    | inl before ↦ s.before.each other face before small
+    | inr le ↦ (let last : number ≡ other = omega arith in
+        subst (λ (n : ℕ). IsNumberOf region (slice_index sides (6 * slice_index region n + face))
+        (slice_index near (6 * n + face))) last
+        (subst (λ (c : ℕ). IsNumberOf region (slice_index sides (6 * c + face)) (slice_index near (6 * number + face)))
+        (sym (s.kept.same number h)) (s.here face (omega (arith, all, small)))))
+  ];
+}
+
+-- ---- a region is forgotten
+
+-- the first so many cells have no number any longer
+pub record Forgetting (local region : List ℕ) (count : ℕ) : Type 0 where
+  pub inside : All (λ cell. cell < length local) region
+  pub others : (cell : ℕ) → cell < length local
+      → (slice_index local cell ≢ no_number) → (number : ℕ) × (count ≤ number) × IsNumberOf region cell number
+
+-- at first
+pub forgetting_none : (local region : List ℕ) → IsRegion local region → Forgetting local region 0
+forgetting_none local region s = record {
+  inside = s.inside;
+  others = λ cell h some. (slice_index local cell, omega arith, number_there local region s cell h some);
+}
+
+-- one more
+pub forgetting_next : (local region : List ℕ) (k : ℕ) → k < length region → Forgetting local region k
+    → Forgetting (set local (slice_index region k) no_number) region (k + 1)
+forgetting_next local region k h s = record {
+  inside = λ j d lt. omega (arith, s.inside j d lt, length-set local (slice_index region k) no_number);
+  others = λ cell inside some. elim (cases_eq cell (slice_index region k)) [
+    | inl e ↦ absurd (some (ap (slice_index (set local (slice_index region k) no_number)) e
+        ∙ get_or-set_same local (slice_index region k) no_number 0 (s.inside k 0 h)))
+    | inr ne ↦ (let was = s.others cell (omega (arith, inside, length-set local (slice_index region k) no_number))
+        (λ none. some (get_or-set_other local (slice_index region k) cell no_number 0 ne ∙ none)) in
+        elim (cases_eq was.0 k) [
+          | inl same ↦ absurd (ne (sym was.2.there ∙ ap (slice_index region) same))
+          | inr other ↦ (was.0, omega (arith, was.1, other), was.2)
+        ])
+  ];
+}
+
+-- all
+pub forgetting_all : (local region : List ℕ) (k : ℕ) → length region ≤ k → Forgetting local region k
+    → IsRegion local []
+forgetting_all local region k all s = record {
+  inside = λ j d lt. absurd (omega (arith, lt));
+  numbered = λ j lt. absurd (omega (arith, lt));
+  others = λ cell h. elim (cases_eq (slice_index local cell) no_number) [
+    | inl none ↦ inl none
+    | inr some ↦ (let was = s.others cell h some in absurd (omega (arith, was.1, was.2.inside, all)))
+  ];
+}

@@ -1,0 +1,62 @@
+-- The cells that light from a block's cells can come to, step by step, with their numbers in the order in which they
+-- were found. This is this project's own.
+use Rattle.std.specs.Prelude.{◌≡◌, ◌⊎◌, ◌<◌, ◌≤◌, ◌^◌, ◌-◌, ℕ, ◌+◌, ◌*◌, List, length, slice_index, slice_index_or}
+use Rattle.std.specs.Prelude.{All, Option, Some, None}
+use Rattle.cave_base.specs.Box.{cell_count}
+use Rattle.cave_model.specs.Cells.{neighbours_of}
+use Rattle.cave_model.specs.Cave.{Cave}
+use Rattle.cave_model.specs.Light.{entering_cost}
+
+-- what lies beyond a face, where light can enter it, or else the cell itself
+pub record IsSide (cave : Cave) (cell : ℕ) (beyond : Option ℕ) (to : ℕ) : Type 0 where
+  pub leads : (to ≡ cell) ⊎ (beyond ≡ Some to)
+  pub opens : (other : ℕ) → beyond ≡ Some other → entering_cost cave other < 15 → to ≡ other
+
+-- six sides for each of so many cells
+pub record AreSides (cave : Cave) (count : ℕ) (sides : List ℕ) : Type 0 where
+  pub whole : length sides ≡ 6 * cell_count cave.size
+  pub each : (cell face : ℕ) → cell < count → face < 6
+      → IsSide cave cell (slice_index_or (neighbours_of cave.size cell) face None) (slice_index sides (6 * cell + face))
+
+-- the six sides of one cell, and the others as they were
+pub record AreSidesOf (cave : Cave) (cell count : ℕ) (old new : List ℕ) : Type 0 where
+  pub whole : length new ≡ length old
+  pub here : (face : ℕ) → face < count
+      → IsSide cave cell (slice_index_or (neighbours_of cave.size cell) face None) (slice_index new (6 * cell + face))
+  pub rest : (k : ℕ) → k < 6 * cell → slice_index new k ≡ slice_index old k
+
+-- the number of a cell that isn't there
+abbrev pub no_number : ℕ
+no_number = 2 ^ 32 - 1
+
+-- the cell with the number
+pub record IsNumberOf (region : List ℕ) (cell number : ℕ) : Type 0 where
+  pub inside : number < length region
+  pub there : slice_index region number ≡ cell
+
+-- cells of the box, each once, with their numbers
+pub record IsRegion (local region : List ℕ) : Type 0 where
+  pub inside : All (λ cell. cell < length local) region
+  pub numbered : (number : ℕ) → number < length region → slice_index local (slice_index region number) ≡ number
+  pub others : (cell : ℕ) → cell < length local
+      → (slice_index local cell ≡ no_number) ⊎ IsNumberOf region cell (slice_index local cell)
+
+-- no cell stands there twice
+abbrev pub AreOnce : List ℕ → Type 0
+AreOnce cells = (i j : ℕ) → i < length cells → j < length cells → slice_index cells i ≡ slice_index cells j → i ≡ j
+
+-- the list begins with the old one
+pub record BeginsWith (old new : List ℕ) : Type 0 where
+  pub longer : length old ≤ length new
+  pub same : (k : ℕ) → k < length old → slice_index new k ≡ slice_index old k
+
+-- the numbers of the sides of the first so many cells
+pub record AreLinked (sides region near : List ℕ) (count : ℕ) : Type 0 where
+  pub each : (number face : ℕ) → number < count → face < 6
+      → IsNumberOf region (slice_index sides (6 * slice_index region number + face))
+      (slice_index near (6 * number + face))
+
+-- six sides for each of so many cells, which lie below that number
+pub record AreInside (count : ℕ) (sides : List ℕ) : Type 0 where
+  pub whole : length sides ≡ 6 * count
+  pub each : (cell face : ℕ) → cell < count → face < 6 → slice_index sides (6 * cell + face) < count
