@@ -1,5 +1,5 @@
 -- What is left of a region's turns.
-use Rattle.std.proofs.Common.{ℕ, ◌+◌, ◌-◌, ◌^◌, ◌≤◌, Option, Some, None, min, refl, arith}
+use Rattle.std.proofs.Common.{◌≡◌, ℕ, ◌+◌, ◌-◌, ◌^◌, Option, Some, None, max, min, refl, arith}
 use Rattle.set_cover.specs.Instance.{Instance}
 use Rattle.search_core.specs.Turns.{IsWithin}
 use Rattle.cave_plan.specs.Faults.{StopsRegion}
@@ -21,3 +21,14 @@ pub within_rest : (turns : Option ℕ) (granted more : ℕ) → IsWithin turns g
     → IsWithin (rest turns granted) more → IsWithin turns (min (more + granted) (2 ^ 64 - 1))
 within_rest None granted more before after = tt
 within_rest (Some limit) granted more before after = omega (arith, before, after)
+
+-- no turn is within any limit
+pub within_none : (turns : Option ℕ) (granted : ℕ) → granted ≡ 0 → IsWithin turns granted
+within_none None granted none = tt
+within_none (Some most) granted none = omega (arith, none)
+
+-- the greater of two numbers within the limit is within it
+pub within_max : (turns : Option ℕ) (granted more : ℕ) → IsWithin turns granted → IsWithin turns more
+    → IsWithin turns (max granted more)
+within_max None granted more these those = tt
+within_max (Some most) granted more these those = omega (arith, these, those)

@@ -5,6 +5,7 @@ ghost use Rattle.cave_model.specs.Listing.{ListsAll};
 ghost use Rattle.certificate_text.specs.PlanOf.{plans_of};
 ghost use Rattle.proof_tree.specs.Shape.{tree_of};
 ghost use Rattle.search_core.specs.Planned.{IsBest, IsStopped};
+ghost use Rattle.search_core.specs.Turns.{IsWithin};
 ghost use Rattle.cave_plan.specs.Course.{GoesOn, IsCourse, course};
 ghost use Rattle.cave_plan.specs.Faults.{StopsRegion};
 ghost use Rattle.cave_plan.specs.declared.fault.PlanFault.{PlanFault};
@@ -31,6 +32,8 @@ pub struct Course {
     pub floor: u64,
     /// Whether the turns of some region were spent.
     pub stopped: bool,
+    /// The most turns that were granted to one of the regions that were planned to the end.
+    pub turns: u64,
 }
 
 /// The sum of two numbers that together are at most a third.
@@ -51,12 +54,14 @@ impl Course {
         ensures floor { result.floor ≡ 0 }
         ensures stopped { result.stopped ≡ false }
         ensures parts { plans_of result.parts.items ≡ [] }
+        ensures turns { result.turns ≡ 0 }
     {
         Course {
             parts: Vec::new(alloc),
             torches: Vec::new(alloc),
             floor: 0,
             stopped: false,
+            turns: 0,
         }
     }
 
@@ -69,9 +74,10 @@ impl Course {
         proof: Proof,
     ) -> Result<(), AllocError>
         requires { IsBest (arc_value region) cover (tree_of proof) }
-        ensures { OnOk result (GoesOn turns (arc_value region)
+        ensures done { OnOk result (GoesOn turns (arc_value region)
             (course self.old.torches.items self.old.floor self.old.stopped (plans_of self.old.parts.items))
             (course self.new.torches.items self.new.floor self.new.stopped (plans_of self.new.parts.items))) }
+        ensures turns { self.new.turns ≡ self.old.turns }
     {
         self.torches.extend_from_slice(cover.places())?;
         self.floor = sum_within(self.floor, cover.size(), self.torches.len());
@@ -87,9 +93,10 @@ impl Course {
         floor: u64,
     ) -> Result<(), AllocError>
         requires { IsStopped cover.now.region turns cover.now floor }
-        ensures { OnOk result (GoesOn turns cover.now.region
+        ensures done { OnOk result (GoesOn turns cover.now.region
             (course self.old.torches.items self.old.floor self.old.stopped (plans_of self.old.parts.items))
             (course self.new.torches.items self.new.floor self.new.stopped (plans_of self.new.parts.items))) }
+        ensures turns { self.new.turns ≡ self.old.turns }
     {
         self.torches.extend_from_slice(cover.places())?;
         self.floor = sum_within(self.floor, floor, self.torches.len());
@@ -106,7 +113,10 @@ impl Course {
         planned: Result<BestPlan, RegionFault>,
     ) -> Result<(), PlanFault>
         requires best { IfOk planned (λ plan. IsBest (arc_value region) plan.cover (tree_of plan.proof)) }
+        requires granted { IfOk planned (λ plan. IsWithin turns plan.turns) }
         requires stopped { IfErr planned (StopsRegion workers (arc_value region) turns) }
+        requires within { IsWithin turns self.old.turns }
+        ensures within { IsWithin turns self.new.turns }
         ensures done { OnOk result (GoesOn turns (arc_value region)
             (course self.old.torches.items self.old.floor self.old.stopped (plans_of self.old.parts.items))
             (course self.new.torches.items self.new.floor self.new.stopped (plans_of self.new.parts.items))) }
@@ -114,7 +124,10 @@ impl Course {
         ensures threads { IfErr result (λ e. e ≡ PlanFault.NoThread → 1 < workers) }
     {
         match planned {
-            Ok(plan) => Ok(self.add_best(turns, region, plan.cover, plan.proof)?),
+            Ok(plan) => {
+                self.turns = u64::max(self.turns, plan.turns);
+                Ok(self.add_best(turns, region, plan.cover, plan.proof)?)
+            }
             Err(RegionFault::Stopped { cover, floor }) => {
                 Ok(self.add_stopped(turns, &cover, floor)?)
             }
@@ -133,6 +146,7 @@ pub fn plan_regions<X: Threads + Wait + Sync, S: Strategy + Send + Sync, O: Obse
 ) -> Result<Course, PlanFault>
     ensures found { IfOk result (λ c. IsCourse regions.items turns
         (course c.torches.items c.floor c.stopped (plans_of c.parts.items))) }
+    ensures within { IfOk result (λ c. IsWithin turns c.turns) }
     ensures fault { IfErr result (λ e. e ≢ PlanFault.OutOfMemory → e ≡ PlanFault.NoThread) }
     ensures threads { IfErr result (λ e. e ≡ PlanFault.NoThread → 1 < crew.now.workers.number) }
 {
@@ -158,6 +172,7 @@ pub fn plan_regions_alone<S: Strategy, O: Observer>(
 ) -> Result<Course, PlanFault>
     ensures found { IfOk result (λ c. IsCourse regions.items turns
         (course c.torches.items c.floor c.stopped (plans_of c.parts.items))) }
+    ensures within { IfOk result (λ c. IsWithin turns c.turns) }
     ensures memory { IfErr result (λ e. e ≡ PlanFault.OutOfMemory) }
 {
     let mut course = Course::new(alloc);

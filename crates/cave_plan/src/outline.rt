@@ -2,6 +2,7 @@
 ghost use Rattle.std.specs.Prelude.{◌≡◌, ◌≢◌, ◌<◌, IfOk, IfErr, string_bytes};
 ghost use Rattle.cave_model.specs.Cave.{IsWorld};
 ghost use Rattle.certificate_text.specs.PlanOf.{plans_of};
+ghost use Rattle.search_core.specs.Turns.{IsWithin};
 ghost use Rattle.cave_plan.specs.Course.{course, floor_if};
 ghost use Rattle.cave_plan.specs.Faults.{IsRefusedPlan, NamesUnlightable};
 ghost use Rattle.cave_plan.specs.Outline.{AreRegionsIn, CountsDark, IsCourseIn, IsOutlineOf};
@@ -29,6 +30,8 @@ pub struct Outline {
     pub parts: Vec<Planned>,
     /// Whether the turns of some region were spent.
     pub stopped: bool,
+    /// The most turns that were granted to one of the regions that were planned to the end.
+    pub turns: u64,
 }
 
 /// The rule, with what every world keeps.
@@ -57,8 +60,9 @@ fn outline_from(
     requires plans { IsCourseIn world.now turns
         (course plans.torches.items plans.floor plans.stopped (plans_of plans.parts.items)) }
     requires dark { CountsDark world.now dark }
-    ensures { IfOk result (λ o.
+    ensures is { IfOk result (λ o.
         IsOutlineOf world.now turns (string_bytes o.text) o.stopped (plans_of o.parts.items)) }
+    ensures turns { IfOk result (λ o. o.turns ≡ plans.turns) }
 {
     let _ = rule_kept(world);
     let Course {
@@ -66,6 +70,7 @@ fn outline_from(
         torches,
         floor,
         stopped,
+        turns: granted,
     } = plans;
     let torches = in_order(torches);
     let text = plan_text(alloc, world, &torches, dark, least_if(stopped, floor))?;
@@ -73,6 +78,7 @@ fn outline_from(
         text,
         parts,
         stopped,
+        turns: granted,
     })
 }
 
@@ -103,6 +109,8 @@ pub fn plan_cave<X: Threads + Wait + Sync, S: Strategy + Send + Sync, O: Observe
     // Best torches, or, where turns were limited, safe ones and a number that none are fewer than.
     ensures found { IfOk result (λ o.
         IsOutlineOf world.now turns (string_bytes o.text) o.stopped (plans_of o.parts.items)) }
+    // No region that was planned to the end took more turns than the limit.
+    ensures within { IfOk result (λ o. IsWithin turns o.turns) }
     // A fault but want of threads names the least dark cell that no place lights.
     ensures fault { IfErr result (λ e. e ≢ PlanFault.OutOfMemory → e ≢ PlanFault.NoThread
         → NamesUnlightable world.now e) }
@@ -126,6 +134,7 @@ pub fn plan_cave_alone<S: Strategy, O: Observer>(
 ) -> Result<Outline, PlanFault>
     ensures found { IfOk result (λ o.
         IsOutlineOf world.now turns (string_bytes o.text) o.stopped (plans_of o.parts.items)) }
+    ensures within { IfOk result (λ o. IsWithin turns o.turns) }
     ensures fault { IfErr result (λ e. e ≢ PlanFault.OutOfMemory → NamesUnlightable world.now e) }
     ensures threads { IfErr result (λ e. e ≢ PlanFault.NoThread) }
     ensures refused { (e : PlanFault) → NamesUnlightable world.now e → IsRefusedPlan result e }

@@ -12,6 +12,7 @@ use Rattle.proof_rules.specs.Certificate.{Certificate, torches_of}
 use Rattle.certificate_text.specs.Planned.{Plan, certificate_text}
 use Rattle.certificate_text.specs.Writing.{AppendsFront, AppendsPart}
 use Rattle.proof_check.specs.Accepted.{Accepts, IsBestPlan}
+use Rattle.search_core.specs.Turns.{IsWithin}
 use Rattle.cave_plan.specs.Best.{AreByLeastCell, IsInLeastVersion}
 use Rattle.cave_plan.specs.Bounded.{Bounded, IsPlanWithin, IsSumOf}
 use Rattle.cave_plan.specs.Outline.{Prints, IsPlanned, IsStoppedAt, IsOutlineOf}
@@ -57,10 +58,12 @@ pub record WritesFloor (cave : Cave) (turns : Option ℕ) (old new proof_old pro
   pub written : Appends old new text
   pub unproved : Keeps proof_old proof_new
 
--- what was written of the cave: where the plan is done the fewest torches and a certificate, else safe torches alone
+-- what was written of the cave: where the plan is done the fewest torches and a certificate, and no region took more
+-- turns than the limit; else safe torches alone
 abbrev pub EndsIn : Outcome → Cave → Option ℕ → Option (List ℕ) → Option (List ℕ) → Option (List ℕ)
     → Option (List ℕ) → Type 0
-EndsIn Done cave turns old new proof_old proof_new = WritesBest cave old new proof_old proof_new
+EndsIn (Done granted) cave turns old new proof_old proof_new =
+    IsWithin turns granted × WritesBest cave old new proof_old proof_new
 EndsIn Stopped cave turns old new proof_old proof_new = WritesFloor cave turns old new proof_old proof_new
 
 -- this was written of the cave that the bytes tell

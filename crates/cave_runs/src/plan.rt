@@ -2,6 +2,7 @@
 ghost use Rattle.std.specs.Prelude.{◌≡◌, ◌≢◌, ◌<◌, IfOk, IfErr, IfSome, OnOk, option_copied, string_bytes};
 ghost use Rattle.cave_base.specs.Answer.{IsRefusal};
 ghost use Rattle.cave_model.specs.RuleOf.{rule_of};
+ghost use Rattle.search_core.specs.Turns.{IsWithin};
 ghost use Rattle.cave_plan.specs.Outline.{IsOutlineOf, IsPlanned};
 ghost use Rattle.proof_check.specs.Reading.{GivesAtMost};
 ghost use Rattle.certificate_text.specs.PlanOf.{plans_of};
@@ -40,8 +41,8 @@ pub struct PlanOpts {
 /// How a plan ended.
 #[derive(Clone, Copy, Debug, PartialEq, Eq)]
 pub enum Outcome {
-    /// The torches are the fewest.
-    Done,
+    /// The torches are the fewest, and the most turns that were granted to a region.
+    Done { turns: u64 },
     /// The turns of a region were spent before.
     Stopped,
 }
@@ -55,6 +56,7 @@ fn outline_world<X: Threads + Wait + Sync, S: Strategy + Send + Sync, O: Watcher
 ) -> Result<Outline, RunFault>
     ensures found { IfOk result (λ o.
         IsOutlineOf world.now turns (string_bytes o.text) o.stopped (plans_of o.parts.items)) }
+    ensures within { IfOk result (λ o. IsWithin turns o.turns) }
     ensures fault { IfErr result (λ e. e ≢ RunFault.OutOfMemory → e ≢ RunFault.NoThread → NamesUnlit world.now e) }
     ensures threads { IfErr result (λ e. e ≡ RunFault.NoThread → 1 < crew.now.workers.number) }
     ensures refused { (e : RunFault) → NamesUnlit world.now e → IsRefusal RunFault.OutOfMemory result e }
@@ -81,6 +83,7 @@ fn plan_bytes<X: Threads + Wait + Sync, S: Strategy + Send + Sync, O: Watcher>(
 ) -> Result<(World, Outline), RunFault>
     ensures found { IfOk result (λ p. TellsPlans bytes.now (option_copied table.entry) (rule_of rule)
         turns p.0 (string_bytes p.1.text) p.1.stopped (plans_of p.1.parts.items)) }
+    ensures within { IfOk result (λ p. IsWithin turns p.1.turns) }
     ensures fault { IfErr result (λ e. e ≢ RunFault.OutOfMemory → e ≢ RunFault.NoThread
         → IsNoPlan bytes.now (option_copied table.entry) (rule_of rule) e) }
     ensures threads { IfErr result (λ e. e ≡ RunFault.NoThread → 1 < crew.now.workers.number) }
@@ -120,8 +123,9 @@ pub(crate) fn put_plan<W: Write, V: Write>(
     writer: &mut W,
     proof: &mut V,
 ) -> Result<Outcome, RunFault>
-    requires { IsOutlineOf world.now turns (string_bytes outline.now.text) outline.now.stopped
+    requires is { IsOutlineOf world.now turns (string_bytes outline.now.text) outline.now.stopped
         (plans_of outline.now.parts.items) }
+    requires within { IsWithin turns outline.now.turns }
     ensures done { IfOk result (λ outcome. EndsIn outcome world.now turns
         (W.contents writer.old) (W.contents writer.new) (V.contents proof.old) (V.contents proof.new)) }
     ensures left { IfErr result (λ e. LeavesIn e world.now turns
@@ -132,7 +136,9 @@ pub(crate) fn put_plan<W: Write, V: Write>(
         return Ok(Outcome::Stopped);
     }
     put_proved(alloc, world, outline, writer, proof)?;
-    Ok(Outcome::Done)
+    Ok(Outcome::Done {
+        turns: outline.turns,
+    })
 }
 
 /// The run of a plan by a crew.

@@ -2,6 +2,7 @@
 ghost use Rattle.std.specs.Prelude.{◌≡◌, ◌≢◌, IfOk, IfErr, IfSome, option_copied, string_bytes};
 ghost use Rattle.cave_base.specs.Answer.{IsRefusal};
 ghost use Rattle.cave_model.specs.RuleOf.{rule_of};
+ghost use Rattle.search_core.specs.Turns.{IsWithin};
 ghost use Rattle.cave_plan.specs.Outline.{IsOutlineOf};
 ghost use Rattle.proof_check.specs.Reading.{GivesAtMost};
 ghost use Rattle.certificate_text.specs.PlanOf.{plans_of};
@@ -32,6 +33,7 @@ fn outline_world_alone<S: Strategy, O: Watcher>(
 ) -> Result<Outline, RunFault>
     ensures found { IfOk result (λ o.
         IsOutlineOf world.now turns (string_bytes o.text) o.stopped (plans_of o.parts.items)) }
+    ensures within { IfOk result (λ o. IsWithin turns o.turns) }
     ensures fault { IfErr result (λ e. e ≢ RunFault.OutOfMemory → e ≢ RunFault.NoThread → NamesUnlit world.now e) }
     ensures threads { IfErr result (λ e. e ≢ RunFault.NoThread) }
     ensures refused { (e : RunFault) → NamesUnlit world.now e → IsRefusal RunFault.OutOfMemory result e }
@@ -58,6 +60,7 @@ fn plan_bytes_alone<S: Strategy, O: Watcher>(
 ) -> Result<(World, Outline), RunFault>
     ensures found { IfOk result (λ p. TellsPlans bytes.now (option_copied table.entry) (rule_of rule)
         turns p.0 (string_bytes p.1.text) p.1.stopped (plans_of p.1.parts.items)) }
+    ensures within { IfOk result (λ p. IsWithin turns p.1.turns) }
     ensures fault { IfErr result (λ e. e ≢ RunFault.OutOfMemory → e ≢ RunFault.NoThread
         → IsNoPlan bytes.now (option_copied table.entry) (rule_of rule) e) }
     ensures threads { IfErr result (λ e. e ≢ RunFault.NoThread) }

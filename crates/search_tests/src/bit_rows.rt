@@ -21,8 +21,8 @@ fn problem_of(alloc: Global, structure: &Structure<'_>) -> Result<Problem, Fail>
 /// The problem of a corridor of so many cells, two high: its places are the lower cells, then the upper ones.
 fn corridor_of(alloc: Global, length: i32) -> Result<Problem, Fail> {
     let fills = [
-        Fill::all([0, 0, 0], [length.wrapping_add(1), 3, 2], 0),
-        Fill::all([1, 1, 1], [length, 2, 1], 1),
+        Fill([0, 0, 0], [length.wrapping_add(1), 3, 2], Some(0)),
+        Fill([1, 1, 1], [length, 2, 1], Some(1)),
     ];
     let structure = Structure {
         size: [length.wrapping_add(2), 4, 3],

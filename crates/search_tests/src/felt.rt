@@ -24,7 +24,7 @@ const STONY_TABLE: &[u8] =
 fn ring_bytes(alloc: Global, stones: &[i32]) -> Result<Vec<u8>, AllocError> {
     let mut fills = Vec::from_slice(alloc, RING.fills)?;
     for x in stones {
-        fills.push(Fill::all([*x, 0, 1], [*x, 0, 1], 2))?;
+        fills.push(Fill([*x, 0, 1], [*x, 0, 1], Some(2)))?;
     }
     let structure = Structure {
         size: [10, 4, 10],

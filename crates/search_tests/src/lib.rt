@@ -1,5 +1,5 @@
-//! Worked searches over small regions that are made here; and worked events over small rings: a region's pieces are
-//! taken, opened, closed and left, and what workers share and hand over.
+//! Worked searches over small regions; and worked events over small rings: a region's pieces are taken, opened, closed
+//! and left, and what workers share and hand over.
 #![tactic(auto)]
 
 #[cfg(test)]
@@ -22,12 +22,9 @@ mod felt;
 mod gathered;
 #[cfg(test)]
 mod kids;
-mod making;
 #[cfg(test)]
 mod pieces;
 #[cfg(test)]
 mod rings;
 #[cfg(test)]
 mod turns;
-
-pub use making::made;

@@ -1,8 +1,8 @@
 //! Rings of cells, where each place lights a cell and the next: the fewest are half of them, rounded up.
-use crate::making::made;
 use cave_regions::Region;
 use pack_bound::first_plan;
 use proof_tree::Proof;
+use search_cases::made;
 use search_core::{AloneFault, plan_alone};
 use search_moves::Moves;
 use std::alloc::{AllocError, Global};

@@ -1,2 +1,3 @@
 pub mod RunLemmas
+pub mod UnaskedLemmas
 pub mod WordLemmas

@@ -1,5 +1,5 @@
 -- What the matches of a command tell.
-use Rattle.std.proofs.Common.{◌≡◌, ◌∙◌, ◌||◌, ℕ, Bool, true, false, List, Option, Some, None, Result, Ok, Err}
+use Rattle.std.proofs.Common.{◌≡◌, ◌∙◌, ◌||◌, ℕ, Bool, false, List, Option, Some, None, Result, Ok, Err}
 use Rattle.std.proofs.Common.{refl, sym, ap, ap₂, subst}
 use Rattle.std.specs.Prelude.{Box, IfSome, MatchOption, option_copied, option_map}
 use Rattle.std.specs.Box.{box_value}
@@ -54,6 +54,11 @@ name_of : {Z : Type 0} (o : Option (Box SubCommand Z)) → option_map (λ b. (ou
     ≡ option_map (λ p. p.0) (subcommand_rows o)
 name_of None = refl
 name_of (Some b) = refl
+
+-- the name of what was entered
+pub named_as : (m : ArgMatches) (name : Text) (rows : List Row) → subcommand_rows_of m ≡ Some (name, rows)
+    → subcommand_name_of m ≡ Some name
+named_as m name rows is = name_of (out-ArgMatches m).subcommand ∙ ap (option_map (λ p. p.0)) is
 
 -- a command of this name was entered, with these matches
 pub entered_as : (m : ArgMatches) (name : Text) (rows : List Row) → subcommand_name_of m ≡ Some name

@@ -15,6 +15,7 @@ use Rattle.cave_runs.specs.declared.plan.Outcome.{Outcome}
 use Rattle.torch_plan.specs.Requests.{IsAsked}
 use Rattle.torch_plan.specs.Sources.{Sources}
 use Rattle.torch_plan.specs.Status.{end_status, judged, status}
+use Rattle.torch_plan.specs.Usage.{AreWellFormed, IsExplained}
 use Rattle.torch_plan.specs.declared.request.Request.{Request}
 use Rattle.torch_plan.specs.declared.request.Request.TheVariants.{Dark, Plan, Check}
 
@@ -125,8 +126,8 @@ Does sources (Plan file table opts proof progress) old new code = (IsSome proof 
 Does sources (Check file proof table rule) old new code =
     RunsCheck sources file.now proof.now (option_copied table) (rule_of rule) old new code
 
--- what the words ask for was done; or nothing was, the system explained help or a mistake in usage, and the status is
--- 0, 2, or that of a failed write or of refused memory
+-- the words are well formed, and what they ask for was done; or nothing was, and they were explained
 abbrev pub Answers : Sources → List (List ℕ) → Option (List ℕ) → Option (List ℕ) → ℕ → Type 0
-Answers sources words old new code = ((request : Request) × IsAsked words request × Does sources request old new code)
-    ⊎ (Keeps old new × ((code ≡ 0) ⊎ (code ≡ 2) ⊎ (code ≡ 6) ⊎ (code ≡ 7)))
+Answers sources words old new code =
+    (AreWellFormed words × (request : Request) × IsAsked words request × Does sources request old new code)
+    ⊎ (Keeps old new × IsExplained words code)

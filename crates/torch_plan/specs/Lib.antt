@@ -5,3 +5,4 @@ pub mod Answers
 pub mod Options
 pub mod Requests
 pub mod Versions
+pub mod Usage

@@ -63,6 +63,10 @@ IsAskedBy name rows (Check file proof table rule) = (name ≡ codes "check")
     × (first_of (codes "FILE") rows ≡ Some file.now) × (first_of (codes "PROOF") rows ≡ Some proof.now)
     × (first_of (codes "table") rows ≡ option_copied table) × IsRuleOf rows (rule_of rule)
 
+-- the matches of the command of this name ask for nothing
+abbrev pub NoneIsAskedBy : Text → List Row → Type 0
+NoneIsAskedBy name rows = (request : Request) → ¬ IsAskedBy name rows request
+
 -- what the command with these matches asks for
 pub record IsEntered (entered : Option (Text × List Row)) (request : Request) : Type 0 where
   pub name : Text

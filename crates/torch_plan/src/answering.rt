@@ -2,7 +2,9 @@
 ghost use Rattle.std.specs.Prelude.{◌≡◌, ◌⊎◌, IsSome, IsTrue, map, string_bytes};
 ghost use Rattle.std.specs.Io.KnownBytes.{Keeps};
 ghost use Rattle.torch_plan.specs.Answers.{Answers, Does};
+ghost use Rattle.clap.specs.Words.{kind_of};
 ghost use Rattle.torch_plan.specs.Status.{IsRefused, end_status, judged, status};
+ghost use Rattle.torch_plan.specs.Usage.{explained_status};
 
 use crate::request::{Request, request_of};
 use crate::runs::{answer_check, answer_dark, answer_plan};
@@ -29,7 +31,7 @@ fn status_of_plan(outcome: Outcome) -> u8
     ensures { result ≡ end_status outcome }
 {
     match outcome {
-        Outcome::Done => 0,
+        Outcome::Done { .. } => 0,
         Outcome::Stopped => 5,
     }
 }
@@ -46,7 +48,8 @@ fn status_of_check(verdict: Verdict) -> u8
 
 /// Prints the help that was asked for, or the mistake in usage.
 fn explained<S: System>(system: &S, error: &Error) -> u8
-    ensures { (result ≡ 0) ⊎ (result ≡ 2) ⊎ (result ≡ 6) ⊎ (result ≡ 7) }
+    ensures memory { kind_of error.now ≡ ErrorKind.OutOfMemory → result ≡ 7 }
+    ensures status { (result ≡ 7) ⊎ (result ≡ 6) ⊎ (result ≡ explained_status (kind_of error.now)) }
 {
     if error.kind() == ErrorKind::OutOfMemory {
         return refused(system, &RunFault::OutOfMemory);
@@ -142,7 +145,8 @@ pub fn answer<X: Threads + Wait + Sync, S: System, O: Watcher, W: Write>(
     words: &[String],
     output: &mut W,
 ) -> u8
-    // What the words ask for is done over the system's files, or help or a mistake in usage is explained.
+    // Where the words are well formed, what they ask for is done over the system's files; else help is explained where
+    // they ask for it, or the mistake in usage that they make.
     ensures does { Answers (S.sources system.now) (map (λ word. string_bytes word) words.now)
         (W.contents output.old) (W.contents output.new) result }
     // A refused input, a mistake in usage, and refused memory or threads leave the output as it was.

@@ -1,9 +1,11 @@
 //! What the words of a command line ask for.
-ghost use Rattle.std.specs.Prelude.{◌≡◌, ◌⊎◌, IfOk, IfSome, codes, map, string_bytes};
+ghost use Rattle.std.specs.Prelude.{◌≡◌, ◌⊎◌, IfErr, IfNone, IfOk, IfSome, OnOk, codes, map, string_bytes};
+ghost use Rattle.cave_model.specs.Rule as rules;
 ghost use Rattle.cave_model.specs.RuleOf.{rule_of};
-ghost use Rattle.clap.specs.Words.{found_of, rows_of, subcommand_rows_of};
-ghost use Rattle.torch_plan.specs.Requests.{IsAsked, IsAskedBy, IsCrewOf, IsEntered, IsRuleOf};
+ghost use Rattle.clap.specs.Words.{found_of, kind_of, rows_of, subcommand_rows_of};
+ghost use Rattle.torch_plan.specs.Requests.{IsAsked, IsAskedBy, IsCrewOf, IsEntered, IsRuleOf, NoneIsAskedBy};
 ghost use Rattle.torch_plan.specs.Requests as requests;
+ghost use Rattle.torch_plan.specs.Usage.{AreExplainedBy, AreWellFormed};
 
 use crate::command::command;
 use crate::version::need_for;
@@ -56,7 +58,8 @@ fn headroom_by(told: Option<u8>) -> u8
 
 /// The rule that the words name: headroom 2 and version 1.18 unless told. None for another version.
 fn rule_of(matches: &ArgMatches) -> Option<Rule>
-    ensures { IfSome result (λ rule. IsRuleOf (rows_of (found_of matches.now)) (rule_of rule)) }
+    ensures some { IfSome result (λ rule. IsRuleOf (rows_of (found_of matches.now)) (rule_of rule)) }
+    ensures none { IfNone result ((rule : rules.Rule) → ¬ IsRuleOf (rows_of (found_of matches.now)) rule) }
 {
     let need = need_for(matches.get_str("rule"))?;
     let headroom = headroom_by(matches.get_one::<u8>("headroom"));
@@ -64,7 +67,8 @@ fn rule_of(matches: &ArgMatches) -> Option<Rule>
 }
 
 fn dark_of<'a>(matches: &ArgMatches<'a>) -> Option<Request<'a>>
-    ensures { IfSome result (IsAskedBy (codes "dark") (rows_of (found_of matches.now))) }
+    ensures some { IfSome result (IsAskedBy (codes "dark") (rows_of (found_of matches.now))) }
+    ensures none { IfNone result (NoneIsAskedBy (codes "dark") (rows_of (found_of matches.now))) }
 {
     Some(Request::Dark {
         file: matches.get_str("FILE")?,
@@ -76,14 +80,16 @@ fn dark_of<'a>(matches: &ArgMatches<'a>) -> Option<Request<'a>>
 
 /// How many workers the words name: one unless told.
 fn workers_of(matches: &ArgMatches) -> Option<Workers>
-    ensures { IfSome result (λ workers. IsCrewOf (rows_of (found_of matches.now)) workers.number) }
+    ensures some { IfSome result (λ workers. IsCrewOf (rows_of (found_of matches.now)) workers.number) }
+    ensures none { IfNone result ((workers : Workers) → ¬ IsCrewOf (rows_of (found_of matches.now)) workers.number) }
 {
     let told = matches.get_one::<u8>("workers");
     Workers::new(u32::from(told.unwrap_or(1)))
 }
 
 fn plan_of<'a>(matches: &ArgMatches<'a>) -> Option<Request<'a>>
-    ensures { IfSome result (IsAskedBy (codes "plan") (rows_of (found_of matches.now))) }
+    ensures some { IfSome result (IsAskedBy (codes "plan") (rows_of (found_of matches.now))) }
+    ensures none { IfNone result (NoneIsAskedBy (codes "plan") (rows_of (found_of matches.now))) }
 {
     Some(Request::Plan {
         file: matches.get_str("FILE")?,
@@ -99,7 +105,8 @@ fn plan_of<'a>(matches: &ArgMatches<'a>) -> Option<Request<'a>>
 }
 
 fn check_of<'a>(matches: &ArgMatches<'a>) -> Option<Request<'a>>
-    ensures { IfSome result (IsAskedBy (codes "check") (rows_of (found_of matches.now))) }
+    ensures some { IfSome result (IsAskedBy (codes "check") (rows_of (found_of matches.now))) }
+    ensures none { IfNone result (NoneIsAskedBy (codes "check") (rows_of (found_of matches.now))) }
 {
     Some(Request::Check {
         file: matches.get_str("FILE")?,
@@ -111,7 +118,8 @@ fn check_of<'a>(matches: &ArgMatches<'a>) -> Option<Request<'a>>
 
 /// What the command that was entered asks for.
 fn asked<'a>(matches: &ArgMatches<'a>) -> Option<Request<'a>>
-    ensures { IfSome result (IsEntered (subcommand_rows_of matches.now)) }
+    ensures some { IfSome result (IsEntered (subcommand_rows_of matches.now)) }
+    ensures none { IfNone result ((request : Request) → ¬ IsEntered (subcommand_rows_of matches.now) request) }
 {
     if let Some(dark) = matches.subcommand_matches("dark") {
         return dark_of(dark);
@@ -128,7 +136,12 @@ fn asked<'a>(matches: &ArgMatches<'a>) -> Option<Request<'a>>
 /// What the words ask for; the first is the program's name. An error has the text for the user: help where that was
 /// asked for, else the mistake and the usage.
 pub fn request_of<'a>(alloc: Global, words: &'a [String]) -> Result<Request<'a>, Error>
-    ensures { IfOk result (IsAsked (map (λ word. string_bytes word) words.entry.now)) }
+    // The words are well formed then, and the request is what they ask for.
+    ensures formed { OnOk result (AreWellFormed (map (λ word. string_bytes word) words.entry.now)) }
+    ensures asked { IfOk result (IsAsked (map (λ word. string_bytes word) words.entry.now)) }
+    // Else memory was refused, or the words are to be explained, by the error's kind.
+    ensures refused { IfErr result (λ e. (kind_of e ≡ ErrorKind.OutOfMemory)
+        ⊎ AreExplainedBy (map (λ word. string_bytes word) words.entry.now) (kind_of e)) }
 {
     let mut command = command(alloc)?;
     let matches = command.try_get_matches_from_mut(words)?;

@@ -1,5 +1,5 @@
 //! The versions of the game that a rule stands for.
-ghost use Rattle.std.specs.Prelude.{IfSome, IsTrue, option_copied};
+ghost use Rattle.std.specs.Prelude.{ℕ, IfNone, IfSome, IsTrue, option_copied};
 ghost use Rattle.cave_model.specs.Rule.{is_need};
 ghost use Rattle.torch_plan.specs.Versions.{IsNeedFor};
 
@@ -7,6 +7,7 @@ ghost use Rattle.torch_plan.specs.Versions.{IsNeedFor};
 /// stands for.
 pub fn need_for(version: Option<&str>) -> Option<u8>
     ensures need { IfSome result (IsNeedFor (option_copied version.entry)) }
+    ensures none { IfNone result ((need : ℕ) → ¬ IsNeedFor (option_copied version.entry) need) }
     ensures fits { IfSome result (λ need. IsTrue (is_need need)) }
 {
     let Some(version) = version else {

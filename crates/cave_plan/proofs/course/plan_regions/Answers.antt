@@ -2,6 +2,7 @@ use Rattle.std.proofs.Common.{ap, arith, length}
 use Rattle.certificate_text.specs.PlanOf.{plans_of}
 use Rattle.cave_plan.specs.Course.{course}
 use Rattle.cave_plan.proofs.CourseLemmas.{none_planned}
+use Rattle.cave_plan.proofs.RestLemmas.{within_none}
 use Rattle.cave_plan.proofs.course.plan_regions.Goals as goal
 
 pub loop-region-init : goal.loop-region-init
@@ -12,6 +13,7 @@ loop-region-init g c =
       planned = none_planned c.args.turns
           (course start.torches.items start.floor start.stopped (plans_of start.parts.items))
           is.torches is.floor is.stopped is.parts;
+      within = within_none c.args.turns start.turns is.turns;
       counted = omega (arith, all, c.len-count.ensures);
     }
 

@@ -13,8 +13,8 @@ plan_text-requires-clause-in_box c =
     (course plans.torches.items plans.floor plans.stopped (plans_of plans.parts.items))
     c.rule_kept.ensures given.are given.is c.in_order-torches.result.items c.in_order-torches.ensures)
 
-pub returns : goal.returns
-returns c =
+pub returns-clause-is : goal.returns-clause-is
+returns-clause-is c =
     let plans = c.args.plans in let given = c.requires.plans in
     let is = c.in_ok-text.ensures ∙ ap (λ l. plan_text c.args.world.now l c.args.dark c.least_if.result)
     c.deref.ensures.value

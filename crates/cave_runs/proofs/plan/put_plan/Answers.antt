@@ -11,5 +11,5 @@ returns-in_err-put_all-clause-left g c =
     (string_bytes c.args.outline.now.text) (plans_of c.args.outline.now.parts.items)
     (g.W.Write.contents c.args.writer.now)
     (g.W.Write.contents c.put_all.new.writer) (g.V.Write.contents c.args.proof.now)
-    c.in_err-put_all.ensures.err (rw c.if-outline.true at c.requires)
+    c.in_err-put_all.ensures.err (rw c.if-outline.true at c.requires.is)
     (rw c.as_bytes.ensures.value at c.in_err-put_all.ensures.begun))

@@ -1,12 +1,15 @@
 use Rattle.std.proofs.Common.{◌∙◌, ℕ, Option, codes, subst, sym}
 use Rattle.std.specs.Str.Parse.{ParsesUnsigned, ExplainsUnsignedError, HasUnsignedDigitsIfOk}
 use Rattle.clap.specs.Words.{Text, first_of, found_of, rows_of}
+use Rattle.cave_model.specs.Rule.{Rule}
+use Rattle.torch_plan.specs.Requests.{IsRuleOf}
 use Rattle.torch_plan.specs.Versions.{IsNeedFor}
+use Rattle.torch_plan.proofs.UnaskedLemmas.{if_none}
 use Rattle.torch_plan.proofs.WordLemmas.{text_of, told_by}
 use Rattle.torch_plan.proofs.request.rule_of.Goals as goal
 
-pub returns : goal.returns
-returns c =
+pub returns-clause-some : goal.returns-clause-some
+returns-clause-some c =
     let f = found_of c.args.matches.now in
     let text = text_of f (codes "rule") c.get_str.result c.get_str.ensures in
     record {
@@ -18,3 +21,11 @@ returns c =
       need = subst (λ (n : ℕ). IsNeedFor (first_of (codes "rule") (rows_of f)) n) (sym c.new.ensures.need)
           (subst (λ (o : Option Text). IsNeedFor o c.in_ok-need.need) (sym text) c.in_ok-need.ensures.need);
     }
+
+pub returns-in_err-need-clause-none : goal.returns-in_err-need-clause-none
+returns-in_err-need-clause-none c =
+    let f = found_of c.args.matches.now in
+    let text = text_of f (codes "rule") c.get_str.result c.get_str.ensures in
+    let none : (rule : Rule) → ¬ IsRuleOf (rows_of f) rule = λ rule is.
+    c.in_err-need.ensures.none rule.need (subst (λ (o : Option Text). IsNeedFor o rule.need) text is.need) in
+    if_none c.from_residual.result _ none

@@ -7,8 +7,8 @@ use Rattle.cave_plan.specs.Course.{course}
 use Rattle.cave_plan.proofs.CourseLemmas.{best_added}
 use Rattle.cave_plan.proofs.course.Course.add_best.Goals as goal
 
-pub returns : goal.returns
-returns c =
+pub returns-clause-done : goal.returns-clause-done
+returns-clause-done c =
     let self = c.args.self.now in let size = c.size.ensures.size in
     best_added c.args.turns (arc_value c.args.region) c.args.cover (tree_of c.args.proof)
     (course self.torches.items self.floor self.stopped (plans_of self.parts.items))

@@ -4,8 +4,8 @@ use Rattle.cave_plan.specs.Course.{course}
 use Rattle.cave_plan.proofs.CourseLemmas.{stopped_added}
 use Rattle.cave_plan.proofs.course.Course.add_stopped.Goals as goal
 
-pub returns : goal.returns
-returns c =
+pub returns-clause-done : goal.returns-clause-done
+returns-clause-done c =
     let self = c.args.self.now in
     stopped_added c.args.turns c.args.cover.now c.args.floor
     (course self.torches.items self.floor self.stopped (plans_of self.parts.items))

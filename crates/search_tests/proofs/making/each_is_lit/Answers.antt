@@ -1,8 +1,0 @@
-use Rattle.std.proofs.Common.{below_more}
-use Rattle.search_tests.specs.Made.{IsLitIn}
-use Rattle.search_tests.proofs.making.each_is_lit.Goals as goal
-
-pub loop-bit-preserved : goal.loop-bit-preserved
-loop-bit-preserved c =
-    below_more (IsLitIn c.args.places c.args.width c.args.words.now) c.loop-bit.bit c.loop-bit.invariant
-    (c.is_lit.ensures c.if-not-is_lit.false)

@@ -1,5 +1,0 @@
-use Rattle.search_tests.specs.Made.{CountsUp}
-use Rattle.search_tests.proofs.making.numbers.Given as goal
-
-abbrev pub invariant-loop-number : goal.invariant-loop-number
-invariant-loop-number l = CountsUp l.number l.numbers.items
