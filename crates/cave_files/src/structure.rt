@@ -11,11 +11,7 @@ pub struct Block<'a> {
 
 /// What stands from one corner to the other, both included: an index into the palette, or no entry.
 #[derive(Clone, Copy)]
-pub struct Fill {
-    pub from: [i32; 3],
-    pub to: [i32; 3],
-    pub state: Option<i32>,
-}
+pub struct Fill(pub [i32; 3], pub [i32; 3], pub Option<i32>);
 
 /// An entry of the blocks.
 #[derive(Clone, Copy)]
@@ -42,19 +38,11 @@ impl<'a> Block<'a> {
 }
 
 impl Fill {
-    /// One state in each cell from one corner to the other.
-    pub const fn all(from: [i32; 3], to: [i32; 3], state: i32) -> Fill {
-        Fill {
-            from,
-            to,
-            state: Some(state),
-        }
-    }
-
     fn covers(&self, at: [i32; 3]) -> bool {
         let [x, y, z] = at;
-        let [from_x, from_y, from_z] = self.from;
-        let [to_x, to_y, to_z] = self.to;
+        let Fill(from, to, _) = *self;
+        let [from_x, from_y, from_z] = from;
+        let [to_x, to_y, to_z] = to;
         from_x <= x && x <= to_x && from_y <= y && y <= to_y && from_z <= z && z <= to_z
     }
 }
@@ -108,7 +96,7 @@ impl Structure<'_> {
         let mut state = None;
         for fill in self.fills {
             if fill.covers(at) {
-                state = fill.state;
+                state = fill.2;
             }
         }
         state

@@ -34,15 +34,7 @@ fn help_that_cannot_be_printed_is_a_failed_write(rt: HostRuntime) -> Result<(), 
 const FELTED: Structure<'static> = Structure {
     size: [29, 4, 3],
     palette: &[STONE, AIR, FELT],
-    fills: &[
-        ROCK,
-        DUG,
-        Fill {
-            from: [0, 0, 0],
-            to: [28, 0, 2],
-            state: Some(2),
-        },
-    ],
+    fills: &[ROCK, DUG, Fill([0, 0, 0], [28, 0, 2], Some(2))],
     more: &[],
 };
 

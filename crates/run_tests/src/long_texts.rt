@@ -14,8 +14,8 @@ fn hall(alloc: Global) -> Result<Vec<u8>, AllocError> {
         size: [20, 4, 20],
         palette: &[STONE, AIR],
         fills: &[
-            Fill::all([0, 0, 0], [19, 3, 19], 0),
-            Fill::all([1, 1, 1], [18, 2, 18], 1),
+            Fill([0, 0, 0], [19, 3, 19], Some(0)),
+            Fill([1, 1, 1], [18, 2, 18], Some(1)),
         ],
         more: &[],
     };
@@ -56,10 +56,10 @@ fn a_long_text_of_dark_cells_is_written_byte_by_byte(rt: HostRuntime) -> Result<
 
 /// The file of twenty corridors of 27 cells side by side, with walls between them.
 fn corridors(alloc: Global) -> Result<Vec<u8>, AllocError> {
-    let mut fills = Vec::from_slice(alloc, &[Fill::all([0, 0, 0], [28, 3, 40], 0)])?;
+    let mut fills = Vec::from_slice(alloc, &[Fill([0, 0, 0], [28, 3, 40], Some(0))])?;
     for corridor in 0..20i32 {
         let z = corridor.wrapping_mul(2).wrapping_add(1);
-        fills.push(Fill::all([1, 1, z], [27, 2, z], 1))?;
+        fills.push(Fill([1, 1, z], [27, 2, z], Some(1)))?;
     }
     let cave = Structure {
         size: [29, 4, 41],

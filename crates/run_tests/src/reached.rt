@@ -31,15 +31,7 @@ const FOGGY: Structure<'static> = Structure {
             props: &[],
         },
     ],
-    fills: &[
-        ROCK,
-        DUG,
-        Fill {
-            from: [15, 1, 1],
-            to: [15, 1, 1],
-            state: Some(2),
-        },
-    ],
+    fills: &[ROCK, DUG, Fill([15, 1, 1], [15, 1, 1], Some(2))],
     more: &[],
 };
 

@@ -91,11 +91,7 @@ fn fill_of(cave: &Cave<'_>, words: &[&str]) -> Result<Fill, Fail> {
         Some(key) => Some(index_of(cave, key)?),
         None => return Err(Fail::new("a fill has no state")),
     };
-    Ok(Fill {
-        from: three_at(words, 1)?,
-        to: three_at(words, 5)?,
-        state,
-    })
+    Ok(Fill(three_at(words, 1)?, three_at(words, 5)?, state))
 }
 
 /// The entry of a line like `entry stone 14 1 1`.

@@ -16,16 +16,8 @@ pub const PILLAR: Structure<'static> = Structure {
     size: [1, 3, 1],
     palette: &[STONE, AIR],
     fills: &[
-        Fill {
-            from: [0, 0, 0],
-            to: [0, 0, 0],
-            state: Some(0),
-        },
-        Fill {
-            from: [0, 1, 0],
-            to: [0, 2, 0],
-            state: Some(1),
-        },
+        Fill([0, 0, 0], [0, 0, 0], Some(0)),
+        Fill([0, 1, 0], [0, 2, 0], Some(1)),
     ],
     more: &[],
 };
@@ -35,16 +27,8 @@ pub const LARGEST_FLOOR: Structure<'static> = Structure {
     size: [128, 16, 128],
     palette: &[STONE, AIR],
     fills: &[
-        Fill {
-            from: [0, 0, 0],
-            to: [127, 0, 127],
-            state: Some(0),
-        },
-        Fill {
-            from: [0, 1, 0],
-            to: [127, 15, 127],
-            state: Some(1),
-        },
+        Fill([0, 0, 0], [127, 0, 127], Some(0)),
+        Fill([0, 1, 0], [127, 15, 127], Some(1)),
     ],
     more: &[],
 };

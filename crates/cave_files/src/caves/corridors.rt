@@ -4,25 +4,13 @@ use super::blocks::{AIR, STONE, TORCH};
 use crate::structure::{Fill, Structure};
 
 /// All of the box of a corridor of 27 cells.
-pub const ROCK: Fill = Fill {
-    from: [0, 0, 0],
-    to: [28, 3, 2],
-    state: Some(0),
-};
+pub const ROCK: Fill = Fill([0, 0, 0], [28, 3, 2], Some(0));
 
 /// The corridor itself: 27 cells long, two high.
-pub const DUG: Fill = Fill {
-    from: [1, 1, 1],
-    to: [27, 2, 1],
-    state: Some(1),
-};
+pub const DUG: Fill = Fill([1, 1, 1], [27, 2, 1], Some(1));
 
 /// The palette's third state in the ground of the corridor's middle.
-pub const BELOW_THE_MIDDLE: Fill = Fill {
-    from: [14, 0, 1],
-    to: [14, 0, 1],
-    state: Some(2),
-};
+pub const BELOW_THE_MIDDLE: Fill = Fill([14, 0, 1], [14, 0, 1], Some(2));
 
 /// A corridor of 27 cells, two high, which one torch lights.
 pub const CORRIDOR_27: Structure<'static> = Structure {
@@ -36,15 +24,7 @@ pub const CORRIDOR_27: Structure<'static> = Structure {
 pub const LIT_27: Structure<'static> = Structure {
     size: [29, 4, 3],
     palette: &[STONE, AIR, TORCH],
-    fills: &[
-        ROCK,
-        DUG,
-        Fill {
-            from: [14, 1, 1],
-            to: [14, 1, 1],
-            state: Some(2),
-        },
-    ],
+    fills: &[ROCK, DUG, Fill([14, 1, 1], [14, 1, 1], Some(2))],
     more: &[],
 };
 
@@ -52,14 +32,7 @@ pub const LIT_27: Structure<'static> = Structure {
 pub const LOW_27: Structure<'static> = Structure {
     size: [29, 4, 3],
     palette: &[STONE, AIR],
-    fills: &[
-        ROCK,
-        Fill {
-            from: [1, 1, 1],
-            to: [27, 1, 1],
-            state: Some(1),
-        },
-    ],
+    fills: &[ROCK, Fill([1, 1, 1], [27, 1, 1], Some(1))],
     more: &[],
 };
 
@@ -68,16 +41,8 @@ pub const CORRIDOR_28: Structure<'static> = Structure {
     size: [30, 4, 3],
     palette: &[STONE, AIR],
     fills: &[
-        Fill {
-            from: [0, 0, 0],
-            to: [29, 3, 2],
-            state: Some(0),
-        },
-        Fill {
-            from: [1, 1, 1],
-            to: [28, 2, 1],
-            state: Some(1),
-        },
+        Fill([0, 0, 0], [29, 3, 2], Some(0)),
+        Fill([1, 1, 1], [28, 2, 1], Some(1)),
     ],
     more: &[],
 };
@@ -87,21 +52,9 @@ pub const TWO_CORRIDORS: Structure<'static> = Structure {
     size: [29, 4, 5],
     palette: &[STONE, AIR],
     fills: &[
-        Fill {
-            from: [0, 0, 0],
-            to: [28, 3, 4],
-            state: Some(0),
-        },
-        Fill {
-            from: [1, 1, 1],
-            to: [27, 2, 1],
-            state: Some(1),
-        },
-        Fill {
-            from: [1, 1, 3],
-            to: [27, 2, 3],
-            state: Some(1),
-        },
+        Fill([0, 0, 0], [28, 3, 4], Some(0)),
+        Fill([1, 1, 1], [27, 2, 1], Some(1)),
+        Fill([1, 1, 3], [27, 2, 3], Some(1)),
     ],
     more: &[],
 };
@@ -111,21 +64,9 @@ pub const PLUS: Structure<'static> = Structure {
     size: [31, 4, 31],
     palette: &[STONE, AIR],
     fills: &[
-        Fill {
-            from: [0, 0, 0],
-            to: [30, 3, 30],
-            state: Some(0),
-        },
-        Fill {
-            from: [1, 1, 15],
-            to: [29, 2, 15],
-            state: Some(1),
-        },
-        Fill {
-            from: [15, 1, 1],
-            to: [15, 2, 29],
-            state: Some(1),
-        },
+        Fill([0, 0, 0], [30, 3, 30], Some(0)),
+        Fill([1, 1, 15], [29, 2, 15], Some(1)),
+        Fill([15, 1, 1], [15, 2, 29], Some(1)),
     ],
     more: &[],
 };

@@ -8,21 +8,9 @@ pub const RING: Structure<'static> = Structure {
     size: [10, 4, 10],
     palette: &[STONE, AIR],
     fills: &[
-        Fill {
-            from: [0, 0, 0],
-            to: [9, 3, 9],
-            state: Some(0),
-        },
-        Fill {
-            from: [1, 1, 1],
-            to: [8, 2, 8],
-            state: Some(1),
-        },
-        Fill {
-            from: [2, 1, 2],
-            to: [7, 2, 7],
-            state: Some(0),
-        },
+        Fill([0, 0, 0], [9, 3, 9], Some(0)),
+        Fill([1, 1, 1], [8, 2, 8], Some(1)),
+        Fill([2, 1, 2], [7, 2, 7], Some(0)),
     ],
     more: &[],
 };
@@ -32,21 +20,9 @@ pub const WIDE_RING: Structure<'static> = Structure {
     size: [22, 4, 16],
     palette: &[STONE, AIR],
     fills: &[
-        Fill {
-            from: [0, 0, 0],
-            to: [21, 3, 15],
-            state: Some(0),
-        },
-        Fill {
-            from: [1, 1, 1],
-            to: [20, 2, 14],
-            state: Some(1),
-        },
-        Fill {
-            from: [3, 1, 3],
-            to: [18, 2, 12],
-            state: Some(0),
-        },
+        Fill([0, 0, 0], [21, 3, 15], Some(0)),
+        Fill([1, 1, 1], [20, 2, 14], Some(1)),
+        Fill([3, 1, 3], [18, 2, 12], Some(0)),
     ],
     more: &[],
 };
@@ -56,36 +32,12 @@ pub const FELT_RING: Structure<'static> = Structure {
     size: [10, 4, 10],
     palette: &[FELT, AIR, STONE],
     fills: &[
-        Fill {
-            from: [0, 0, 0],
-            to: [9, 3, 9],
-            state: Some(0),
-        },
-        Fill {
-            from: [1, 1, 1],
-            to: [8, 2, 8],
-            state: Some(1),
-        },
-        Fill {
-            from: [2, 1, 2],
-            to: [7, 2, 7],
-            state: Some(0),
-        },
-        Fill {
-            from: [1, 0, 1],
-            to: [1, 0, 1],
-            state: Some(2),
-        },
-        Fill {
-            from: [4, 0, 1],
-            to: [4, 0, 1],
-            state: Some(2),
-        },
-        Fill {
-            from: [8, 0, 1],
-            to: [8, 0, 1],
-            state: Some(2),
-        },
+        Fill([0, 0, 0], [9, 3, 9], Some(0)),
+        Fill([1, 1, 1], [8, 2, 8], Some(1)),
+        Fill([2, 1, 2], [7, 2, 7], Some(0)),
+        Fill([1, 0, 1], [1, 0, 1], Some(2)),
+        Fill([4, 0, 1], [4, 0, 1], Some(2)),
+        Fill([8, 0, 1], [8, 0, 1], Some(2)),
     ],
     more: &[],
 };
@@ -95,61 +47,17 @@ pub const TWO_FELT_RINGS: Structure<'static> = Structure {
     size: [10, 4, 20],
     palette: &[FELT, AIR, STONE],
     fills: &[
-        Fill {
-            from: [0, 0, 0],
-            to: [9, 3, 19],
-            state: Some(0),
-        },
-        Fill {
-            from: [1, 1, 1],
-            to: [8, 2, 8],
-            state: Some(1),
-        },
-        Fill {
-            from: [2, 1, 2],
-            to: [7, 2, 7],
-            state: Some(0),
-        },
-        Fill {
-            from: [1, 1, 11],
-            to: [8, 2, 18],
-            state: Some(1),
-        },
-        Fill {
-            from: [2, 1, 12],
-            to: [7, 2, 17],
-            state: Some(0),
-        },
-        Fill {
-            from: [1, 0, 1],
-            to: [1, 0, 1],
-            state: Some(2),
-        },
-        Fill {
-            from: [4, 0, 1],
-            to: [4, 0, 1],
-            state: Some(2),
-        },
-        Fill {
-            from: [8, 0, 1],
-            to: [8, 0, 1],
-            state: Some(2),
-        },
-        Fill {
-            from: [1, 0, 11],
-            to: [1, 0, 11],
-            state: Some(2),
-        },
-        Fill {
-            from: [4, 0, 11],
-            to: [4, 0, 11],
-            state: Some(2),
-        },
-        Fill {
-            from: [8, 0, 11],
-            to: [8, 0, 11],
-            state: Some(2),
-        },
+        Fill([0, 0, 0], [9, 3, 19], Some(0)),
+        Fill([1, 1, 1], [8, 2, 8], Some(1)),
+        Fill([2, 1, 2], [7, 2, 7], Some(0)),
+        Fill([1, 1, 11], [8, 2, 18], Some(1)),
+        Fill([2, 1, 12], [7, 2, 17], Some(0)),
+        Fill([1, 0, 1], [1, 0, 1], Some(2)),
+        Fill([4, 0, 1], [4, 0, 1], Some(2)),
+        Fill([8, 0, 1], [8, 0, 1], Some(2)),
+        Fill([1, 0, 11], [1, 0, 11], Some(2)),
+        Fill([4, 0, 11], [4, 0, 11], Some(2)),
+        Fill([8, 0, 11], [8, 0, 11], Some(2)),
     ],
     more: &[],
 };

@@ -44,8 +44,8 @@ fn at_256(alloc: Global, name: &str) -> Result<Option<BuildFault>, Fail> {
         size: [2, 1, 1],
         palette: &palette,
         fills: &[
-            Fill::all([0, 0, 0], [0, 0, 0], 0),
-            Fill::all([1, 0, 0], [1, 0, 0], 256),
+            Fill([0, 0, 0], [0, 0, 0], Some(0)),
+            Fill([1, 0, 0], [1, 0, 0], Some(256)),
         ],
         more: &[],
     };
