@@ -10,6 +10,7 @@ mod lists;
 mod reduced_instance;
 mod reduced_zone;
 mod rows_left;
+mod stand_ins;
 
 pub use bits::{
     Bits, bit_count, bits_of, clear_all, clear_bit, common_count, drop_all, has_each, is_part,
