@@ -26,6 +26,11 @@ pub(crate) fn ratio(amount: i64, by: i64) -> i64 {
     signed(found)
 }
 
+/// So many whole ones.
+pub(crate) fn ones(count: u64) -> i64 {
+    signed(count).saturating_mul(ONE)
+}
+
 /// The number, or the greatest that there is.
 fn signed(number: u64) -> i64 {
     match i64::try_from(number) {

@@ -7,6 +7,7 @@ mod branching;
 mod fixed_point;
 mod grouping;
 mod kernel;
+mod kid_bounds;
 mod leaf;
 mod parts;
 mod relaxation;
