@@ -13,4 +13,3 @@ pub use drawing::plan_text;
 pub use fault::PlanFault;
 pub use outline::{Outline, plan_cave, plan_cave_alone};
 pub use search_core::{Observer, Strategy, Unobserved};
-pub use search_pool::Workers;

@@ -14,11 +14,11 @@ mod unkept;
 mod watcher;
 mod writing;
 
-pub use cave_plan::{Observer, Strategy, Unobserved, Workers};
+pub use cave_plan::{Observer, Strategy, Unobserved};
 pub use check::run_check;
 pub use dark::run_dark;
 pub use fault::{Input, RunFault};
-pub use plan::{Outcome, PlanOpts, run_plan};
+pub use plan::{Outcome, run_plan};
 pub use plan_alone::run_plan_alone;
 pub use proof_check::Verdict;
 pub use proof_tree::Name;

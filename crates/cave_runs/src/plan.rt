@@ -20,23 +20,15 @@ use crate::watcher::{Watcher, tell_sides};
 use crate::writing::put_all;
 use cave_base::coordinates;
 use cave_model::{Rule, World};
-use cave_plan::{Crew, Outline, PlanFault, Strategy, Workers, plan_cave};
+use cave_plan::{Crew, Outline, PlanFault, Strategy, plan_cave};
 use cave_reading::read_cave;
 use certificate_text::write_certificate;
+use plan_options::PlanOpts;
 use std::alloc::Global;
 use std::io::{Read, Write};
 use std::marker::PhantomData;
 use std::sync::Wait;
 use std::thread::Threads;
-
-/// What a plan is made by: the rule of spawning, how many workers search, and how many nodes the search of a region may
-/// work on.
-#[derive(Clone, Copy, Debug, PartialEq, Eq)]
-pub struct PlanOpts {
-    pub rule: Rule,
-    pub workers: Workers,
-    pub turns: Option<u64>,
-}
 
 /// How a plan ended.
 #[derive(Clone, Copy, Debug, PartialEq, Eq)]

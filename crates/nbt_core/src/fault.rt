@@ -17,8 +17,7 @@ pub enum NbtFault {
     BadTag { at: usize, id: u8 },
     /// The root is no compound.
     NotCompound,
-    /// A negative count of an array, or a positive one of a list of End. `at` is the count's first
-    /// byte.
+    /// A negative count of an array, or a positive one of a list of End. `at` is the count's first byte.
     BadLength { at: usize },
     /// A list or compound would have depth 513. `at` is its payload's first byte.
     TooDeep { at: usize },

@@ -46,8 +46,7 @@ impl<'a> Reader<'a> {
     pub fn two_fields(&mut self, room: u16, a: &[u8], b: &[u8]) -> Result<TwoFields<'a>, NbtFault>
         requires { room ≤ 512 }
         ensures read { Gives (λ found. found) result self.new.rest.now (mapped (two_named a.now b.now)
-            (members_at self.old.end (value_at self.old.end room)
-            (length self.old.rest.now) self.old.rest.now)) }
+            (members_at self.old.end (value_at self.old.end room) (length self.old.rest.now) self.old.rest.now)) }
         ensures end { self.new.end ≡ self.old.end }
         ensures shrinks { length self.new.rest.now ≤ length self.old.rest.now }
         ensures no_memory { IfErr result (λ e. e ≢ NbtFault.OutOfMemory) }
@@ -75,8 +74,7 @@ impl<'a> Reader<'a> {
     ) -> Result<FourFields<'a>, NbtFault>
         requires { room ≤ 512 }
         ensures read { Gives (λ found. found) result self.new.rest.now (mapped (four_named a.now b.now c.now d.now)
-            (members_at self.old.end (value_at self.old.end room)
-            (length self.old.rest.now) self.old.rest.now)) }
+            (members_at self.old.end (value_at self.old.end room) (length self.old.rest.now) self.old.rest.now)) }
         ensures end { self.new.end ≡ self.old.end }
         ensures shrinks { length self.new.rest.now ≤ length self.old.rest.now }
         ensures no_memory { IfErr result (λ e. e ≢ NbtFault.OutOfMemory) }

@@ -14,13 +14,9 @@ use crate::view::View;
 
 /// The value of the root that the bytes begin with, in those bytes: as `read_root`, but it takes no memory.
 pub fn root_view(bytes: &[u8]) -> Result<View<'_>, NbtFault>
-    // What is seen is the value of a root at the front of the bytes.
     ensures found { IfOk result (λ v. Root bytes.now v) }
-    // Such a root is seen.
     ensures only { (t : Nbt) → Root bytes.now t → MatchResult result (λ v. v ≡ t) (λ _. ⊥) }
-    // A fault is the first one in the bytes.
     ensures fault { IfErr result (λ e. FaultOf bytes.now e) }
-    // Such a fault is answered.
     ensures refused { (e : NbtFault) → FaultOf bytes.now e → MatchResult result (λ _. ⊥) (λ f. f ≡ e) }
     ensures no_memory { IfErr result (λ e. e ≢ NbtFault.OutOfMemory) }
 {

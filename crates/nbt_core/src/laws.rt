@@ -13,14 +13,12 @@ pub fn one_root()
 
 /// All bytes begin with a root or have a fault.
 pub fn root_or_fault()
-    ensures { (bytes : List ℕ)
-        → ((t : Nbt) × Root bytes t) ⊎ ((fault : NbtFault) × FaultOf bytes fault) }
+    ensures { (bytes : List ℕ) → ((t : Nbt) × Root bytes t) ⊎ ((fault : NbtFault) × FaultOf bytes fault) }
 {}
 
 /// Bytes that begin with a root have no fault.
 pub fn root_has_no_fault()
-    ensures { (bytes : List ℕ) (t : Nbt) (fault : NbtFault)
-        → Root bytes t → FaultOf bytes fault → ⊥ }
+    ensures { (bytes : List ℕ) (t : Nbt) (fault : NbtFault) → Root bytes t → FaultOf bytes fault → ⊥ }
 {}
 
 /// Bytes have one fault at most.

@@ -29,8 +29,7 @@ impl<'a> Reader<'a> {
     /// The next `n` bytes.
     #[tactic(auto, unfolding(crate::specs::Reading::run_at))]
     pub fn run(&mut self, n: usize) -> Result<&'a [u8], NbtFault>
-        ensures read { Gives (λ run. run.now) result self.new.rest.now
-            (run_at self.old.end n self.old.rest.now) }
+        ensures read { Gives (λ run. run.now) result self.new.rest.now (run_at self.old.end n self.old.rest.now) }
         ensures end { self.new.end ≡ self.old.end }
         ensures shrinks { length self.new.rest.now ≤ length self.old.rest.now }
         ensures length { IfOk result (λ run. length run.now ≡ n) }
@@ -47,8 +46,7 @@ impl<'a> Reader<'a> {
     /// The next `N` bytes, as an array.
     #[tactic(auto, unfolding(crate::specs::Reading::run_at))]
     pub fn array<const N: usize>(&mut self) -> Result<[u8; N], NbtFault>
-        ensures read { Gives (λ run. run) result self.new.rest.now
-            (run_at self.old.end N self.old.rest.now) }
+        ensures read { Gives (λ run. run) result self.new.rest.now (run_at self.old.end N self.old.rest.now) }
         ensures end { self.new.end ≡ self.old.end }
         ensures shrinks { length self.new.rest.now ≤ length self.old.rest.now }
     {
@@ -60,8 +58,7 @@ impl<'a> Reader<'a> {
     /// The next byte, as a signed number.
     #[tactic(auto, unfolding(crate::specs::Reading::signed_at))]
     pub fn byte(&mut self) -> Result<i8, NbtFault>
-        ensures read { Gives (λ n. n) result self.new.rest.now
-            (signed_at self.old.end w8 1 self.old.rest.now) }
+        ensures read { Gives (λ n. n) result self.new.rest.now (signed_at self.old.end w8 1 self.old.rest.now) }
         ensures end { self.new.end ≡ self.old.end }
         ensures shrinks { length self.new.rest.now ≤ length self.old.rest.now }
     {
@@ -71,8 +68,7 @@ impl<'a> Reader<'a> {
     /// The next two bytes, big-endian, as a signed number.
     #[tactic(auto, unfolding(crate::specs::Reading::signed_at))]
     pub fn short(&mut self) -> Result<i16, NbtFault>
-        ensures read { Gives (λ n. n) result self.new.rest.now
-            (signed_at self.old.end w16 2 self.old.rest.now) }
+        ensures read { Gives (λ n. n) result self.new.rest.now (signed_at self.old.end w16 2 self.old.rest.now) }
         ensures end { self.new.end ≡ self.old.end }
         ensures shrinks { length self.new.rest.now ≤ length self.old.rest.now }
     {
@@ -82,8 +78,7 @@ impl<'a> Reader<'a> {
     /// The next four bytes, big-endian, as a signed number.
     #[tactic(auto, unfolding(crate::specs::Reading::signed_at))]
     pub fn int(&mut self) -> Result<i32, NbtFault>
-        ensures read { Gives (λ n. n) result self.new.rest.now
-            (int_at self.old.end self.old.rest.now) }
+        ensures read { Gives (λ n. n) result self.new.rest.now (int_at self.old.end self.old.rest.now) }
         ensures end { self.new.end ≡ self.old.end }
         ensures shrinks { length self.new.rest.now ≤ length self.old.rest.now }
         ensures no_memory { IfErr result (λ e. e ≢ NbtFault.OutOfMemory) }
@@ -94,8 +89,7 @@ impl<'a> Reader<'a> {
     /// The next eight bytes, big-endian, as a signed number.
     #[tactic(auto, unfolding(crate::specs::Reading::signed_at))]
     pub fn long(&mut self) -> Result<i64, NbtFault>
-        ensures read { Gives (λ n. n) result self.new.rest.now
-            (signed_at self.old.end w64 8 self.old.rest.now) }
+        ensures read { Gives (λ n. n) result self.new.rest.now (signed_at self.old.end w64 8 self.old.rest.now) }
         ensures end { self.new.end ≡ self.old.end }
         ensures shrinks { length self.new.rest.now ≤ length self.old.rest.now }
     {
@@ -105,8 +99,7 @@ impl<'a> Reader<'a> {
     /// The count of a list: one below 0 counts nothing.
     #[tactic(auto, unfolding(crate::specs::Reading::count_at))]
     pub fn count(&mut self) -> Result<u32, NbtFault>
-        ensures read { Gives (λ n. n) result self.new.rest.now
-            (count_at self.old.end self.old.rest.now) }
+        ensures read { Gives (λ n. n) result self.new.rest.now (count_at self.old.end self.old.rest.now) }
         ensures end { self.new.end ≡ self.old.end }
         ensures shrinks { length self.new.rest.now ≤ length self.old.rest.now }
         ensures no_memory { IfErr result (λ e. e ≢ NbtFault.OutOfMemory) }
@@ -138,8 +131,7 @@ impl<'a> Reader<'a> {
     /// A length of two bytes, and so many bytes.
     #[tactic(auto, unfolding(crate::specs::Reading::text_at))]
     pub fn text(&mut self) -> Result<&'a [u8], NbtFault>
-        ensures read { Gives (λ text. text.now) result self.new.rest.now
-            (text_at self.old.end self.old.rest.now) }
+        ensures read { Gives (λ text. text.now) result self.new.rest.now (text_at self.old.end self.old.rest.now) }
         ensures end { self.new.end ≡ self.old.end }
         ensures shrinks { length self.new.rest.now ≤ length self.old.rest.now }
         ensures no_memory { IfErr result (λ e. e ≢ NbtFault.OutOfMemory) }
@@ -151,8 +143,7 @@ impl<'a> Reader<'a> {
     /// The kind that the next id names, or `None` for End.
     #[tactic(auto, unfolding(crate::specs::Reading::kind_at))]
     pub fn kind(&mut self) -> Result<Option<Kind>, NbtFault>
-        ensures read { Gives (λ kind. kind) result self.new.rest.now
-            (kind_at self.old.end self.old.rest.now) }
+        ensures read { Gives (λ kind. kind) result self.new.rest.now (kind_at self.old.end self.old.rest.now) }
         ensures end { self.new.end ≡ self.old.end }
         ensures shrinks { length self.new.rest.now ≤ length self.old.rest.now }
         ensures takes_one { IfOk result (λ _. length self.new.rest.now < length self.old.rest.now) }

@@ -27,17 +27,13 @@ fn root(alloc: Global, bytes: &[u8]) -> Result<Tag, NbtFault>
     }
 }
 
-/// The value of the root that the bytes begin with. The root may have any name, and bytes after it
-/// are ignored. Lists and compounds nest at most 512 deep, the root being the first; both rules and
-/// the limit are this project's own. Places in faults are offsets from 0.
+/// The value of the root that the bytes begin with. The root may have any name, and bytes after it are ignored. Lists
+/// and compounds nest at most 512 deep, the root being the first; both rules and the limit are this project's own.
+/// Places in faults are offsets from 0.
 pub fn read_root(alloc: Global, bytes: &[u8]) -> Result<Tag, NbtFault>
-    // What is read is the value of a root at the front of the bytes.
     ensures found { IfOk result (λ t. Root bytes.now (nbt t)) }
-    // Such a root is read.
     ensures only { (t : Nbt) → Root bytes.now t → IsAnswer NbtFault.OutOfMemory result (λ x. nbt x ≡ t) }
-    // A fault is the first one in the bytes.
     ensures fault { IfErr result (λ e. e ≢ NbtFault.OutOfMemory → FaultOf bytes.now e) }
-    // Such a fault is answered.
     ensures refused { (e : NbtFault) → FaultOf bytes.now e → IsRefusal NbtFault.OutOfMemory result e }
     // Memory is wanted for bytes alone that begin with the id of a compound.
     ensures memory { IfErr result (λ e. e ≡ NbtFault.OutOfMemory → take 1 bytes.now ≡ 10 ∷ []) }

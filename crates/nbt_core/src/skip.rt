@@ -13,8 +13,7 @@ impl Reader<'_> {
     /// Passes over a payload, in which `room` containers may nest, and judges it. No memory is taken.
     #[cycle(skip)]
     pub fn skip(&mut self, kind: Kind, room: u16) -> Result<(), NbtFault>
-        ensures read { Skips result self.new.rest.now
-            (value_at self.old.end room kind self.old.rest.now) }
+        ensures read { Skips result self.new.rest.now (value_at self.old.end room kind self.old.rest.now) }
         ensures end { self.new.end ≡ self.old.end }
         ensures shrinks { length self.new.rest.now ≤ length self.old.rest.now }
         ensures no_memory { IfErr result (λ e. e ≢ NbtFault.OutOfMemory) }
@@ -34,8 +33,7 @@ impl Reader<'_> {
 
     /// Passes over a payload that holds no other.
     fn skip_leaf(&mut self, kind: LeafKind) -> Result<(), NbtFault>
-        ensures read { Skips result self.new.rest.now
-            (leaf_at self.old.end kind self.old.rest.now) }
+        ensures read { Skips result self.new.rest.now (leaf_at self.old.end kind self.old.rest.now) }
         ensures end { self.new.end ≡ self.old.end }
         ensures shrinks { length self.new.rest.now ≤ length self.old.rest.now }
         ensures no_memory { IfErr result (λ e. e ≢ NbtFault.OutOfMemory) }
@@ -79,8 +77,7 @@ impl Reader<'_> {
     /// Passes over the count of an array, and so many numbers of `size` bytes.
     fn skip_array(&mut self, size: usize) -> Result<(), NbtFault>
         requires { size ≤ 8 }
-        ensures read { Skips result self.new.rest.now
-            (counted_at self.old.end size self.old.rest.now) }
+        ensures read { Skips result self.new.rest.now (counted_at self.old.end size self.old.rest.now) }
         ensures end { self.new.end ≡ self.old.end }
         ensures shrinks { length self.new.rest.now ≤ length self.old.rest.now }
         ensures no_memory { IfErr result (λ e. e ≢ NbtFault.OutOfMemory) }
@@ -142,8 +139,7 @@ impl Reader<'_> {
     #[cycle(skip)]
     fn skip_entries(&mut self, room: u16) -> Result<(), NbtFault>
         ensures read { Skips result self.new.rest.now
-            (members_at self.old.end (value_at self.old.end room)
-            (length self.old.rest.now) self.old.rest.now) }
+            (members_at self.old.end (value_at self.old.end room) (length self.old.rest.now) self.old.rest.now) }
         ensures end { self.new.end ≡ self.old.end }
         ensures shrinks { length self.new.rest.now ≤ length self.old.rest.now }
         ensures no_memory { IfErr result (λ e. e ≢ NbtFault.OutOfMemory) }

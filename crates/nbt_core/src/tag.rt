@@ -106,8 +106,7 @@ impl Tags {
     }
 }
 
-/// The entries of a compound, in the order of the bytes, seen by contracts as names with their
-/// values.
+/// The entries of a compound, in the order of the bytes, seen by contracts as names with their values.
 #[cycle(tag)]
 #[derive(Debug, Drop)]
 pub struct Entries {

@@ -11,8 +11,7 @@ use crate::sequence::Sequence;
 use crate::tag::{Entries, Tag, Tags};
 use std::alloc::{AllocError, Global};
 
-/// How deep lists and compounds nest at most, the root being the first. This limit is the project's
-/// own.
+/// How deep lists and compounds nest at most, the root being the first. This limit is the project's own.
 pub const DEEPEST: u16 = 512;
 
 /// Adds an entry. Where it is the first, room is made for two: as many has a block of a structure, and a file has more
@@ -43,8 +42,7 @@ impl Reader<'_> {
     /// A payload, in which `room` containers may nest.
     #[cycle(payload)]
     fn payload(&mut self, alloc: Global, kind: Kind, room: u16) -> Result<Tag, NbtFault>
-        ensures read { Gives nbt result self.new.rest.now
-            (value_at self.old.end room kind self.old.rest.now) }
+        ensures read { Gives nbt result self.new.rest.now (value_at self.old.end room kind self.old.rest.now) }
         ensures end { self.new.end ≡ self.old.end }
         ensures shrinks { length self.new.rest.now ≤ length self.old.rest.now }
     {
@@ -121,8 +119,7 @@ impl Reader<'_> {
     #[cycle(payload)]
     fn entries(&mut self, alloc: Global, room: u16) -> Result<Vec<(Sequence<u8>, Tag)>, NbtFault>
         ensures read { Gives (λ v. members_of (entries_of v.items)) result self.new.rest.now
-            (members_at self.old.end (value_at self.old.end room)
-            (length self.old.rest.now) self.old.rest.now) }
+            (members_at self.old.end (value_at self.old.end room) (length self.old.rest.now) self.old.rest.now) }
         ensures end { self.new.end ≡ self.old.end }
         ensures shrinks { length self.new.rest.now ≤ length self.old.rest.now }
     {

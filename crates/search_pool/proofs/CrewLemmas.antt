@@ -2,7 +2,7 @@
 use Rattle.std.proofs.Common.{◌≡◌, ℕ, ◌≤◌, Bool, true, false, refl, arith}
 use Rattle.std.specs.Prelude.{◌&&◌, IsTrue, nat_lt}
 use Rattle.std.proofs.lemmas.Bool.{ltb-true}
-use Rattle.search_pool.specs.Crew.{is_crew}
+use Rattle.plan_options.specs.Crew.{is_crew}
 
 -- where both flags are set each is
 both : (a b : Bool) → (a && b) ≡ true → (a ≡ true) × (b ≡ true)

@@ -1,5 +1,4 @@
 -- public clauses cite
-pub mod Crew
 pub mod Reports
 pub mod Runs
 pub mod Tallies

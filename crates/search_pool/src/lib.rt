@@ -14,9 +14,8 @@ mod stock;
 mod turns;
 mod unrun;
 mod worker;
-mod workers;
 
 pub use gathering::PoolFault;
+pub use plan_options::Workers;
 pub use planning::plan_with;
 pub use report::Report;
-pub use workers::Workers;

@@ -7,8 +7,8 @@ ghost use Rattle.search_pool.specs.Slots.{AreOwners};
 ghost use Rattle.worker_results.specs.Naming.{AreThieves};
 
 use crate::deques::{stocked_all, thieves_of};
-use crate::workers::Workers;
 use piece_deque::{Owner, Thief};
+use plan_options::Workers;
 use proof_tree::Opened;
 use std::alloc::{AllocError, Global};
 

@@ -1,3 +1,1 @@
 pub mod RunLemmas
-pub mod UnaskedLemmas
-pub mod WordLemmas

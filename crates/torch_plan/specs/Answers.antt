@@ -12,12 +12,13 @@ use Rattle.cave_runs.specs.declared.fault.Input.TheVariants.{TableInput}
 use Rattle.cave_runs.specs.declared.fault.RunFault.{RunFault}
 use Rattle.cave_runs.specs.declared.fault.RunFault.TheVariants as faults
 use Rattle.cave_runs.specs.declared.plan.Outcome.{Outcome}
-use Rattle.torch_plan.specs.Requests.{IsAsked}
+use Rattle.command_words.specs.Requests.{IsAsked}
 use Rattle.torch_plan.specs.Sources.{Sources}
 use Rattle.torch_plan.specs.Status.{end_status, judged, status}
-use Rattle.torch_plan.specs.Usage.{AreWellFormed, IsExplained}
-use Rattle.torch_plan.specs.declared.request.Request.{Request}
-use Rattle.torch_plan.specs.declared.request.Request.TheVariants.{Dark, Plan, Check}
+use Rattle.command_words.specs.Mistakes.{AreWellFormed}
+use Rattle.torch_plan.specs.Usage.{IsExplained}
+use Rattle.command_words.specs.declared.request.Request.{Request}
+use Rattle.command_words.specs.declared.request.Request.TheVariants.{Dark, Plan, Check}
 
 -- what is known of a structure: `-` is standard input
 abbrev pub structure_in : Sources → List ℕ → Option (List ℕ)

@@ -2,7 +2,4 @@
 pub mod Status
 pub mod Sources
 pub mod Answers
-pub mod Options
-pub mod Requests
-pub mod Versions
 pub mod Usage

@@ -6,13 +6,13 @@ ghost use Rattle.clap.specs.Words.{kind_of};
 ghost use Rattle.torch_plan.specs.Status.{IsRefused, end_status, judged, status};
 ghost use Rattle.torch_plan.specs.Usage.{explained_status};
 
-use crate::request::{Request, request_of};
 use crate::runs::{answer_check, answer_dark, answer_plan};
 use crate::status::status_of;
 use crate::system::System;
 use cave_runs::{Outcome, RunFault, Verdict, Watcher};
 use clap::Error;
 use clap::error::ErrorKind;
+use command_words::{Request, request_of};
 use std::alloc::Global;
 use std::io::Write;
 use std::sync::Wait;

@@ -1,24 +1,22 @@
-//! The command line of torchplan, its runs, and their exit statuses.
+//! What the words of a command line ask for is done, over whatever opens files for it, and an exit status answered.
 #![tactic(auto)]
 
 mod advance;
 mod answering;
-mod command;
 mod planner;
-mod request;
 mod runs;
 mod status;
 mod system;
-mod version;
 
 pub use advance::Advance;
 pub use answering::answer;
 pub use cave_model::Rule;
 pub use cave_runs::{
-    Input, Name, Observer, OpenSides, Outcome, PlanOpts, RunFault, Unkept, Unobserved, Verdict,
-    Watcher, Workers, read_table, run_check, run_dark,
+    Input, Name, Observer, OpenSides, Outcome, RunFault, Unkept, Unobserved, Verdict, Watcher,
+    read_table, run_check, run_dark,
 };
+pub use command_words::{Request, request_of};
+pub use plan_options::{PlanOpts, Workers};
 pub use planner::{run_plan, run_plan_alone};
-pub use request::{Request, request_of};
 pub use status::status_of;
 pub use system::System;

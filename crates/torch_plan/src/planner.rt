@@ -4,7 +4,8 @@ ghost use Rattle.cave_model.specs.RuleOf.{rule_of};
 ghost use Rattle.cave_runs.specs.RunOfPlan.{IsRunOfPlan};
 
 use cave_model::Rule;
-use cave_runs::{Outcome, PlanOpts, RunFault, Watcher};
+use cave_runs::{Outcome, RunFault, Watcher};
+use plan_options::PlanOpts;
 use search_moves::Moves;
 use std::alloc::Global;
 use std::io::{Read, Write};

@@ -10,9 +10,8 @@ ghost use Rattle.torch_plan.specs.Answers.{AnswersCheck, AnswersDark, AnswersPla
 use crate::planner::run_plan;
 use crate::system::System;
 use cave_model::Rule;
-use cave_runs::{
-    Outcome, PlanOpts, RunFault, Unkept, Verdict, Watcher, read_table, run_check, run_dark,
-};
+use cave_runs::{Outcome, RunFault, Unkept, Verdict, Watcher, read_table, run_check, run_dark};
+use plan_options::PlanOpts;
 use std::alloc::Global;
 use std::io::{Read, Write};
 use std::sync::Wait;

@@ -1,7 +1,6 @@
 //! Command lines, as words.
 
-use crate::fields::unknown;
-use crate::shelf::Files;
+use case_texts::{Files, unknown};
 use std::alloc::{AllocError, Global};
 use std::test::Fail;
 

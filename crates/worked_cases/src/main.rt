@@ -6,22 +6,14 @@
 //! top what its lines mean.
 #![tactic(auto)]
 
-mod cases;
-mod caves;
-mod changes;
 mod commands;
-mod due;
-mod fields;
 mod judging;
 mod machine;
 mod record;
 mod running;
-mod series;
-mod shelf;
-mod texts;
 
 use crate::running::{Tally, tried};
-use crate::shelf::Shelf;
+use case_texts::{Shelf, put_caves, put_texts};
 use std::test::Fail;
 use std::{env, fs};
 
@@ -30,9 +22,9 @@ fn shelf_of(rt: &HostRuntime, caves: &str, texts: &str) -> Result<Shelf, Fail> {
     let alloc = rt.alloc();
     let mut shelf = Shelf::new(alloc);
     let text = fs::read_to_string(rt, caves)?;
-    caves::put_all(alloc, &mut shelf, text.as_str())?;
+    put_caves(alloc, &mut shelf, text.as_str())?;
     let text = fs::read_to_string(rt, texts)?;
-    texts::put_all(alloc, &mut shelf, text.as_str())?;
+    put_texts(alloc, &mut shelf, text.as_str())?;
     Ok(shelf)
 }
 

@@ -4,7 +4,8 @@ use Rattle.std.specs.Prelude.{string_bytes}
 use Rattle.clap.specs.Words.{Text, kind_of}
 use Rattle.clap.specs.declared.error.kind.ErrorKind.{ErrorKind}
 use Rattle.clap.specs.declared.error.kind.ErrorKind.TheVariants.{OutOfMemory}
-use Rattle.torch_plan.specs.Usage.{AreExplainedBy, IsExplained, explained_status}
+use Rattle.command_words.specs.Mistakes.{AreExplainedBy}
+use Rattle.torch_plan.specs.Usage.{IsExplained, explained_status}
 use Rattle.torch_plan.proofs.answering.answer.Goals as goal
 
 -- the status of words that were explained

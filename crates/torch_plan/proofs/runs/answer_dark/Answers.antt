@@ -3,7 +3,7 @@ use Rattle.std.specs.Prelude.{option_copied}
 use Rattle.cave_model.specs.RuleOf.{rule_of}
 use Rattle.torch_plan.specs.Answers.{table_in}
 use Rattle.torch_plan.proofs.RunLemmas.{dark_answered, file_in, standard_in, told_as}
-use Rattle.torch_plan.proofs.WordLemmas.{copied}
+use Rattle.command_words.proofs.WordLemmas.{copied}
 use Rattle.torch_plan.proofs.runs.answer_dark.Goals as goal
 
 pub returns-then-eq : goal.returns-then-eq

@@ -1,0 +1,2 @@
+pub mod UnaskedLemmas
+pub mod WordLemmas

@@ -1,0 +1,5 @@
+-- public clauses cite
+pub mod Options
+pub mod Requests
+pub mod Versions
+pub mod Mistakes

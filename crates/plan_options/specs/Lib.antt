@@ -1,0 +1,2 @@
+-- public clauses cite
+pub mod Crew
