@@ -1,9 +1,9 @@
-//! Runs from bytes to bytes, of what no file of cases can say: streams that fail, inputs at their limits, long texts,
-//! and the words of faults; and rings planned by many workers, which gates hold back until others have work too.
+//! Runs from bytes to bytes, of what no file of cases can say: streams that fail, inputs at their limits, and the words
+//! of faults; whole files as trees; and rings planned by many workers, which gates hold back until others have work too.
 #![tactic(auto)]
 
 #[cfg(test)]
-mod check_streams;
+mod certificate_streams;
 #[cfg(test)]
 mod counted;
 #[cfg(test)]
@@ -17,15 +17,13 @@ mod gates;
 #[cfg(test)]
 mod limits;
 #[cfg(test)]
-mod long_texts;
-#[cfg(test)]
 mod plan_streams;
 #[cfg(test)]
 mod planning;
 #[cfg(test)]
-mod reached;
-#[cfg(test)]
 mod ring_caves;
+#[cfg(test)]
+mod roots;
 #[cfg(test)]
 mod through;
 #[cfg(test)]

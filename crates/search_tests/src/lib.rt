@@ -5,8 +5,6 @@
 #[cfg(test)]
 mod beacons;
 #[cfg(test)]
-mod bit_rows;
-#[cfg(test)]
 mod certificates;
 #[cfg(test)]
 mod cores;
@@ -14,8 +12,6 @@ mod cores;
 mod deques;
 #[cfg(test)]
 mod desks;
-#[cfg(test)]
-mod dominance;
 #[cfg(test)]
 mod felt;
 #[cfg(test)]

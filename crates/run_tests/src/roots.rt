@@ -1,5 +1,5 @@
-//! Two whole files, byte by byte.
-use super::build::{are_ints, list, text};
+//! Two whole files, byte by byte, read as trees of tags.
+
 use nbt_core::{Tag, read_root};
 use std::process::Abort;
 use std::test::Fail;
@@ -53,6 +53,36 @@ const FILES: [Expected; 2] = [
         blocks: &[(0, 0), (1, 1), (2, 1)],
     },
 ];
+
+/// The items of the list of this name.
+fn list<'a>(tag: &'a Tag, name: &[u8]) -> Result<&'a [Tag], Fail> {
+    match tag.field(name) {
+        Some(Tag::List(items)) => Ok(items.as_slice()),
+        _ => Err(Fail::from("no such list")),
+    }
+}
+
+/// The bytes of the text of this name.
+fn text<'a>(tag: &'a Tag, name: &[u8]) -> Result<&'a [u8], Fail> {
+    match tag.field(name) {
+        Some(Tag::Text(text)) => Ok(text.as_slice()),
+        _ => Err(Fail::from("no such text")),
+    }
+}
+
+/// Whether the tags are Ints of these values.
+fn are_ints(tags: &[Tag], wanted: &[i32]) -> bool {
+    if tags.len() != wanted.len() {
+        return false;
+    }
+    for (tag, n) in tags.iter().zip(wanted) {
+        match tag {
+            Tag::Int(m) if m == n => {}
+            _ => return false,
+        }
+    }
+    true
+}
 
 /// The palette's states have these names, in this order.
 fn has_names(rt: &impl Abort, palette: &[Tag], names: &[&str]) -> Result<(), Fail> {
