@@ -1,5 +1,5 @@
-//! Runs from bytes to bytes, of what no file of cases can say: streams that fail, inputs at their limits, and the words
-//! of faults; whole files as trees; and rings planned by many workers, which gates hold back until others have work too.
+//! Runs from bytes to bytes, of what no file of cases can say: streams that fail, inputs at their limits, the words of
+//! faults; whole files as trees; and rings planned by many workers, which gates hold back until others have work too.
 #![tactic(auto)]
 
 #[cfg(test)]
