@@ -15,7 +15,7 @@ use Rattle.proof_rules.proofs.ListLemmas.{all_members, at_member, distinct_nil}
 use Rattle.proof_rules.proofs.BoundLemmas.{bounds, piece_serves}
 use Rattle.cave_regions.specs.Cover.{Covering, IsCover, IsCoverOfRegion}
 use Rattle.certificate_text.specs.Planned.{Plan}
-use Rattle.search_core.specs.Planned.{IsBest, IsStopped}
+use Rattle.search_traits.specs.Planned.{IsBest, IsStopped}
 use Rattle.cave_plan.specs.Bounded.{Bounded, all_torches, finished, total_floor}
 use Rattle.cave_plan.specs.Course.{Course, course, IsBounded, IsProved, AreFinished, AreProvedPlans, IsCourse, GoesOn}
 

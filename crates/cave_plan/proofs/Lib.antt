@@ -10,4 +10,4 @@ pub mod UpToLemmas
 pub mod CourseLemmas
 pub mod OutlineLemmas
 pub mod FaultLemmas
-pub mod RestLemmas
+pub mod WithinLemmas

@@ -5,7 +5,7 @@ use Rattle.set_cover.specs.Instance.{Instance, of_instance}
 use Rattle.proof_rules.specs.Good.{Good}
 use Rattle.cave_regions.specs.Cover.{IsCoverOfRegion}
 use Rattle.certificate_text.specs.Planned.{Plan}
-use Rattle.search_core.specs.Planned.{NoneBelow}
+use Rattle.search_traits.specs.Planned.{NoneBelow}
 use Rattle.cave_plan.specs.Bounded.{Bounded, all_torches, finished, total_floor}
 
 -- what is kept: the torches of all regions, a number that no torches are fewer than, whether the turns of a region

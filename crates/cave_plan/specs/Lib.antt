@@ -5,5 +5,3 @@ pub mod Outline
 pub mod Bounded
 pub mod Best
 pub mod Faults
--- private
-pub mod Turns

@@ -4,22 +4,20 @@ ghost use Rattle.std.specs.Arc.{arc_value};
 ghost use Rattle.cave_model.specs.Listing.{ListsAll};
 ghost use Rattle.certificate_text.specs.PlanOf.{plans_of};
 ghost use Rattle.proof_tree.specs.Shape.{tree_of};
-ghost use Rattle.search_core.specs.Planned.{IsBest, IsStopped};
-ghost use Rattle.search_core.specs.Turns.{IsWithin};
+ghost use Rattle.search_traits.specs.Planned.{IsBest, IsStopped};
+ghost use Rattle.search_traits.specs.Planning.{PlansRegions};
+ghost use Rattle.search_traits.specs.Turns.{IsWithin};
 ghost use Rattle.cave_plan.specs.Course.{GoesOn, IsCourse, course};
-ghost use Rattle.cave_plan.specs.Faults.{StopsRegion};
 ghost use Rattle.cave_plan.specs.declared.fault.PlanFault.{PlanFault};
 
-use crate::crew::{Crew, plan_by_one};
-use crate::fault::{PlanFault, RegionFault};
+use crate::fault::PlanFault;
 use cave_base::Cell;
 use cave_regions::{Cover, Region};
 use certificate_text::Planned;
 use proof_tree::Proof;
-use search_core::{BestPlan, Observer, Strategy};
+use search_traits::{BestPlan, Observer, Planner, RegionFault};
 use std::alloc::{AllocError, Global};
-use std::sync::{Arc, Wait};
-use std::thread::Threads;
+use std::sync::Arc;
 
 /// The plans of regions, as far as they go.
 #[derive(Drop)]
@@ -104,32 +102,30 @@ impl Course {
         Ok(())
     }
 
-    /// Takes what so many workers found of one region more.
-    fn add_region(
+    /// Takes what is planned of one region more.
+    fn plan_next<F: Fn(&Arc<Region>) -> Result<BestPlan, RegionFault>>(
         &mut self,
-        turns: Option<u64>,
+        planner: &Planner<F>,
         region: Arc<Region>,
-        workers: u32,
-        planned: Result<BestPlan, RegionFault>,
     ) -> Result<(), PlanFault>
-        requires best { IfOk planned (λ plan. IsBest (arc_value region) plan.cover (tree_of plan.proof)) }
-        requires granted { IfOk planned (λ plan. IsWithin turns plan.turns) }
-        requires stopped { IfErr planned (StopsRegion workers (arc_value region) turns) }
-        requires within { IsWithin turns self.old.turns }
-        ensures within { IsWithin turns self.new.turns }
-        ensures done { OnOk result (GoesOn turns (arc_value region)
+        requires callable { F.IsAlwaysCallable planner.now.plan }
+        requires plans { PlansRegions (λ region. arc_value region.now) planner.now.workers planner.now.turns
+            (F.post planner.now.plan) }
+        requires within { IsWithin planner.now.turns self.old.turns }
+        ensures within { IsWithin planner.now.turns self.new.turns }
+        ensures done { OnOk result (GoesOn planner.now.turns (arc_value region)
             (course self.old.torches.items self.old.floor self.old.stopped (plans_of self.old.parts.items))
             (course self.new.torches.items self.new.floor self.new.stopped (plans_of self.new.parts.items))) }
         ensures fault { IfErr result (λ e. e ≢ PlanFault.OutOfMemory → e ≡ PlanFault.NoThread) }
-        ensures threads { IfErr result (λ e. e ≡ PlanFault.NoThread → 1 < workers) }
+        ensures threads { IfErr result (λ e. e ≡ PlanFault.NoThread → 1 < planner.now.workers) }
     {
-        match planned {
+        match (planner.plan)(&region) {
             Ok(plan) => {
                 self.turns = u64::max(self.turns, plan.turns);
-                Ok(self.add_best(turns, region, plan.cover, plan.proof)?)
+                Ok(self.add_best(planner.turns, region, plan.cover, plan.proof)?)
             }
             Err(RegionFault::Stopped { cover, floor }) => {
-                Ok(self.add_stopped(turns, &cover, floor)?)
+                Ok(self.add_stopped(planner.turns, &cover, floor)?)
             }
             Err(RegionFault::NoThread) => Err(PlanFault::NoThread),
             Err(RegionFault::OutOfMemory) => Err(PlanFault::OutOfMemory),
@@ -138,42 +134,20 @@ impl Course {
 }
 
 /// The plans of all regions, each with all the turns.
-pub fn plan_regions<X: Threads + Wait + Sync, S: Strategy + Send + Sync, O: Observer>(
+pub fn plan_regions<F: Fn(&Arc<Region>) -> Result<BestPlan, RegionFault>, O: Observer>(
     alloc: Global,
     regions: Vec<Region>,
-    crew: &Crew<'_, X, S, O>,
-    turns: Option<u64>,
-) -> Result<Course, PlanFault>
-    ensures found { IfOk result (λ c. IsCourse regions.items turns
-        (course c.torches.items c.floor c.stopped (plans_of c.parts.items))) }
-    ensures within { IfOk result (λ c. IsWithin turns c.turns) }
-    ensures fault { IfErr result (λ e. e ≢ PlanFault.OutOfMemory → e ≡ PlanFault.NoThread) }
-    ensures threads { IfErr result (λ e. e ≡ PlanFault.NoThread → 1 < crew.now.workers.number) }
-{
-    let mut course = Course::new(alloc);
-    let count = regions.len();
-    let mut number: usize = 0;
-    for region in regions {
-        number = number.saturating_add(1);
-        crew.observer.region(number, count);
-        let region = Arc::new(alloc, region)?;
-        let planned = crew.plan_region(alloc, &region, turns);
-        course.add_region(turns, region, crew.workers.number, planned)?;
-    }
-    Ok(course)
-}
-
-/// The same by the caller's thread alone.
-pub fn plan_regions_alone<S: Strategy, O: Observer>(
-    alloc: Global,
-    regions: Vec<Region>,
-    turns: Option<u64>,
+    planner: &Planner<F>,
     observer: &O,
 ) -> Result<Course, PlanFault>
-    ensures found { IfOk result (λ c. IsCourse regions.items turns
+    requires callable { F.IsAlwaysCallable planner.now.plan }
+    requires plans { PlansRegions (λ region. arc_value region.now) planner.now.workers planner.now.turns
+        (F.post planner.now.plan) }
+    ensures found { IfOk result (λ c. IsCourse regions.items planner.now.turns
         (course c.torches.items c.floor c.stopped (plans_of c.parts.items))) }
-    ensures within { IfOk result (λ c. IsWithin turns c.turns) }
-    ensures memory { IfErr result (λ e. e ≡ PlanFault.OutOfMemory) }
+    ensures within { IfOk result (λ c. IsWithin planner.now.turns c.turns) }
+    ensures fault { IfErr result (λ e. e ≢ PlanFault.OutOfMemory → e ≡ PlanFault.NoThread) }
+    ensures threads { IfErr result (λ e. e ≡ PlanFault.NoThread → 1 < planner.now.workers) }
 {
     let mut course = Course::new(alloc);
     let count = regions.len();
@@ -182,8 +156,7 @@ pub fn plan_regions_alone<S: Strategy, O: Observer>(
         number = number.saturating_add(1);
         observer.region(number, count);
         let region = Arc::new(alloc, region)?;
-        let planned = plan_by_one::<S, O>(alloc, &region, turns, observer);
-        course.add_region(turns, region, 1, planned)?;
+        course.plan_next(planner, region)?;
     }
     Ok(course)
 }

@@ -2,14 +2,12 @@
 #![tactic(auto)]
 
 mod course;
-mod crew;
 mod drawing;
 mod fault;
 pub mod laws;
 mod outline;
 
-pub use crew::Crew;
 pub use drawing::plan_text;
 pub use fault::PlanFault;
-pub use outline::{Outline, plan_cave, plan_cave_alone};
-pub use search_core::{Observer, Strategy, Unobserved};
+pub use outline::{Outline, plan_cave};
+pub use search_traits::{BestPlan, Observer, Planner, RegionFault, Unobserved};

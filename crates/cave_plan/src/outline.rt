@@ -1,25 +1,25 @@
 //! The plan of a cave.
 ghost use Rattle.std.specs.Prelude.{◌≡◌, ◌≢◌, ◌<◌, IfOk, IfErr, string_bytes};
+ghost use Rattle.std.specs.Arc.{arc_value};
 ghost use Rattle.cave_model.specs.Cave.{IsWorld};
 ghost use Rattle.certificate_text.specs.PlanOf.{plans_of};
-ghost use Rattle.search_core.specs.Turns.{IsWithin};
+ghost use Rattle.search_traits.specs.Planning.{PlansRegions};
+ghost use Rattle.search_traits.specs.Turns.{IsWithin};
 ghost use Rattle.cave_plan.specs.Course.{course, floor_if};
 ghost use Rattle.cave_plan.specs.Faults.{IsRefusedPlan, NamesUnlightable};
 ghost use Rattle.cave_plan.specs.Outline.{AreRegionsIn, CountsDark, IsCourseIn, IsOutlineOf};
 ghost use Rattle.cave_plan.specs.declared.fault.PlanFault.{PlanFault};
 
-use crate::course::{Course, in_order, plan_regions, plan_regions_alone};
-use crate::crew::Crew;
+use crate::course::{Course, in_order, plan_regions};
 use crate::drawing::plan_text;
 use crate::fault::PlanFault;
 use cave_model::{Rule, World};
 use cave_regions::{Region, split};
 use certificate_text::Planned;
 use cover_rows::Problem;
-use search_core::{Observer, Strategy};
+use search_traits::{BestPlan, Observer, Planner, RegionFault};
 use std::alloc::{AllocError, Global};
-use std::sync::Wait;
-use std::thread::Threads;
+use std::sync::Arc;
 
 /// The plan of a cave.
 #[derive(Drop)]
@@ -100,47 +100,30 @@ fn regions_of(alloc: Global, world: &World) -> Result<(Vec<Region>, usize), Plan
 /// proves that fewer don't do. The regions are planned one after another, each with all the turns; where those of one
 /// were spent, the torches are the best that were found. The rows of the whole cave are let go before
 /// the search.
-pub fn plan_cave<X: Threads + Wait + Sync, S: Strategy + Send + Sync, O: Observer>(
+pub fn plan_cave<F: Fn(&Arc<Region>) -> Result<BestPlan, RegionFault>, O: Observer>(
     alloc: Global,
     world: &World,
-    crew: &Crew<'_, X, S, O>,
-    turns: Option<u64>,
+    planner: &Planner<F>,
+    observer: &O,
 ) -> Result<Outline, PlanFault>
+    requires callable { F.IsAlwaysCallable planner.now.plan }
+    requires plans { PlansRegions (λ region. arc_value region.now) planner.now.workers planner.now.turns
+        (F.post planner.now.plan) }
     // Best torches, or, where turns were limited, safe ones and a number that none are fewer than.
     ensures found { IfOk result (λ o.
-        IsOutlineOf world.now turns (string_bytes o.text) o.stopped (plans_of o.parts.items)) }
+        IsOutlineOf world.now planner.now.turns (string_bytes o.text) o.stopped (plans_of o.parts.items)) }
     // No region that was planned to the end took more turns than the limit.
-    ensures within { IfOk result (λ o. IsWithin turns o.turns) }
+    ensures within { IfOk result (λ o. IsWithin planner.now.turns o.turns) }
     // A fault but want of threads names the least dark cell that no place lights.
     ensures fault { IfErr result (λ e. e ≢ PlanFault.OutOfMemory → e ≢ PlanFault.NoThread
         → NamesUnlightable world.now e) }
     // Threads are asked for only where more workers than one are.
-    ensures threads { IfErr result (λ e. e ≡ PlanFault.NoThread → 1 < crew.now.workers.number) }
+    ensures threads { IfErr result (λ e. e ≡ PlanFault.NoThread → 1 < planner.now.workers) }
     // Such a fault is answered, before any worker is asked for.
     ensures refused { (e : PlanFault) → NamesUnlightable world.now e → IsRefusedPlan result e }
 {
     let (regions, dark) = regions_of(alloc, world)?;
-    let plans = plan_regions(alloc, regions, crew, turns)?;
-    let outline = outline_from(alloc, world, plans, dark, turns)?;
-    Ok(outline)
-}
-
-/// The same by the caller's thread alone: it takes no handle, and waits for nobody.
-pub fn plan_cave_alone<S: Strategy, O: Observer>(
-    alloc: Global,
-    world: &World,
-    turns: Option<u64>,
-    observer: &O,
-) -> Result<Outline, PlanFault>
-    ensures found { IfOk result (λ o.
-        IsOutlineOf world.now turns (string_bytes o.text) o.stopped (plans_of o.parts.items)) }
-    ensures within { IfOk result (λ o. IsWithin turns o.turns) }
-    ensures fault { IfErr result (λ e. e ≢ PlanFault.OutOfMemory → NamesUnlightable world.now e) }
-    ensures threads { IfErr result (λ e. e ≢ PlanFault.NoThread) }
-    ensures refused { (e : PlanFault) → NamesUnlightable world.now e → IsRefusedPlan result e }
-{
-    let (regions, dark) = regions_of(alloc, world)?;
-    let plans = plan_regions_alone::<S, O>(alloc, regions, turns, observer)?;
-    let outline = outline_from(alloc, world, plans, dark, turns)?;
+    let plans = plan_regions(alloc, regions, planner, observer)?;
+    let outline = outline_from(alloc, world, plans, dark, planner.turns)?;
     Ok(outline)
 }

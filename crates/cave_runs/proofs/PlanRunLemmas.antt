@@ -329,9 +329,3 @@ pub ended_in : {X : Type 0} (fault : RunFault) (r : Result X RunFault) (cave : C
     → AppendsFront old new text → IfErr r (λ e. LeavesIn e cave turns old new proof proof)
 ended_in fault r cave turns text plans old new proof is failed stopped front = rw is
     (stop_failed fault cave turns text plans old new proof failed stopped front)
-
--- one worker asks for no thread
-pub none_asked : {X : Type 0} (r : Result X RunFault) → IfErr r (λ e. e ≢ faults.NoThread)
-    → IfErr r (λ e. e ≡ faults.NoThread → 1 < 1)
-none_asked (Ok x) never = tt
-none_asked (Err e) never = λ is. absurd (never is)

@@ -12,7 +12,7 @@ use Rattle.proof_rules.specs.Certificate.{Certificate, torches_of}
 use Rattle.certificate_text.specs.Planned.{Plan, certificate_text}
 use Rattle.certificate_text.specs.Writing.{AppendsFront, AppendsPart}
 use Rattle.proof_check.specs.Accepted.{Accepts, IsBestPlan}
-use Rattle.search_core.specs.Turns.{IsWithin}
+use Rattle.search_traits.specs.Turns.{IsWithin}
 use Rattle.cave_plan.specs.Best.{AreByLeastCell, IsInLeastVersion}
 use Rattle.cave_plan.specs.Bounded.{Bounded, IsPlanWithin, IsSumOf}
 use Rattle.cave_plan.specs.Outline.{Prints, IsPlanned, IsStoppedAt, IsOutlineOf}

@@ -1,4 +1,4 @@
--- How a run of a plan ends, by a crew or by one worker. This is this project's own.
+-- How a run of a plan ends, whoever plans its regions. This is this project's own.
 use Rattle.std.specs.Prelude.{◌≡◌, ◌≢◌, ◌<◌, ℕ, List, Option, Result, IfOk, IfErr, IfSome}
 use Rattle.cave_model.specs.Rule.{Rule}
 use Rattle.proof_check.specs.Reading.{GivesAtMost}

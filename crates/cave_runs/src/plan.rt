@@ -1,8 +1,10 @@
 //! The plan of a structure, from the bytes read to the bytes written.
 ghost use Rattle.std.specs.Prelude.{◌≡◌, ◌≢◌, ◌<◌, IfOk, IfErr, IfSome, OnOk, option_copied, string_bytes};
+ghost use Rattle.std.specs.Arc.{arc_value};
 ghost use Rattle.cave_base.specs.Answer.{IsRefusal};
 ghost use Rattle.cave_model.specs.RuleOf.{rule_of};
-ghost use Rattle.search_core.specs.Turns.{IsWithin};
+ghost use Rattle.search_traits.specs.Planning.{PlansRegions};
+ghost use Rattle.search_traits.specs.Turns.{IsWithin};
 ghost use Rattle.cave_plan.specs.Outline.{IsOutlineOf, IsPlanned};
 ghost use Rattle.proof_check.specs.Reading.{GivesAtMost};
 ghost use Rattle.certificate_text.specs.PlanOf.{plans_of};
@@ -20,15 +22,13 @@ use crate::watcher::{Watcher, tell_sides};
 use crate::writing::put_all;
 use cave_base::coordinates;
 use cave_model::{Rule, World};
-use cave_plan::{Crew, Outline, PlanFault, Strategy, plan_cave};
+use cave_plan::{BestPlan, Outline, PlanFault, Planner, RegionFault, plan_cave};
 use cave_reading::read_cave;
+use cave_regions::Region;
 use certificate_text::write_certificate;
-use plan_options::PlanOpts;
 use std::alloc::Global;
 use std::io::{Read, Write};
-use std::marker::PhantomData;
-use std::sync::Wait;
-use std::thread::Threads;
+use std::sync::Arc;
 
 /// How a plan ended.
 #[derive(Clone, Copy, Debug, PartialEq, Eq)]
@@ -40,20 +40,23 @@ pub enum Outcome {
 }
 
 /// The plan of a world; a dark cell that no place lights is told by its coordinates.
-fn outline_world<X: Threads + Wait + Sync, S: Strategy + Send + Sync, O: Watcher>(
+fn outline_world<F: Fn(&Arc<Region>) -> Result<BestPlan, RegionFault>, O: Watcher>(
     alloc: Global,
     world: &World,
-    crew: &Crew<'_, X, S, O>,
-    turns: Option<u64>,
+    planner: &Planner<F>,
+    observer: &O,
 ) -> Result<Outline, RunFault>
+    requires callable { F.IsAlwaysCallable planner.now.plan }
+    requires plans { PlansRegions (λ region. arc_value region.now) planner.now.workers planner.now.turns
+        (F.post planner.now.plan) }
     ensures found { IfOk result (λ o.
-        IsOutlineOf world.now turns (string_bytes o.text) o.stopped (plans_of o.parts.items)) }
-    ensures within { IfOk result (λ o. IsWithin turns o.turns) }
+        IsOutlineOf world.now planner.now.turns (string_bytes o.text) o.stopped (plans_of o.parts.items)) }
+    ensures within { IfOk result (λ o. IsWithin planner.now.turns o.turns) }
     ensures fault { IfErr result (λ e. e ≢ RunFault.OutOfMemory → e ≢ RunFault.NoThread → NamesUnlit world.now e) }
-    ensures threads { IfErr result (λ e. e ≡ RunFault.NoThread → 1 < crew.now.workers.number) }
+    ensures threads { IfErr result (λ e. e ≡ RunFault.NoThread → 1 < planner.now.workers) }
     ensures refused { (e : RunFault) → NamesUnlit world.now e → IsRefusal RunFault.OutOfMemory result e }
 {
-    match plan_cave(alloc, world, crew, turns) {
+    match plan_cave(alloc, world, planner, observer) {
         Ok(outline) => Ok(outline),
         Err(PlanFault::NoThread) => Err(RunFault::NoThread),
         Err(PlanFault::OutOfMemory) => Err(RunFault::OutOfMemory),
@@ -65,26 +68,29 @@ fn outline_world<X: Threads + Wait + Sync, S: Strategy + Send + Sync, O: Watcher
 }
 
 /// The cave that the bytes tell, with its plan.
-fn plan_bytes<X: Threads + Wait + Sync, S: Strategy + Send + Sync, O: Watcher>(
+fn plan_bytes<F: Fn(&Arc<Region>) -> Result<BestPlan, RegionFault>, O: Watcher>(
     alloc: Global,
     bytes: &[u8],
     table: Option<&[u8]>,
     rule: Rule,
-    turns: Option<u64>,
-    crew: &Crew<'_, X, S, O>,
+    planner: &Planner<F>,
+    observer: &O,
 ) -> Result<(World, Outline), RunFault>
+    requires callable { F.IsAlwaysCallable planner.now.plan }
+    requires plans { PlansRegions (λ region. arc_value region.now) planner.now.workers planner.now.turns
+        (F.post planner.now.plan) }
     ensures found { IfOk result (λ p. TellsPlans bytes.now (option_copied table.entry) (rule_of rule)
-        turns p.0 (string_bytes p.1.text) p.1.stopped (plans_of p.1.parts.items)) }
-    ensures within { IfOk result (λ p. IsWithin turns p.1.turns) }
+        planner.now.turns p.0 (string_bytes p.1.text) p.1.stopped (plans_of p.1.parts.items)) }
+    ensures within { IfOk result (λ p. IsWithin planner.now.turns p.1.turns) }
     ensures fault { IfErr result (λ e. e ≢ RunFault.OutOfMemory → e ≢ RunFault.NoThread
         → IsNoPlan bytes.now (option_copied table.entry) (rule_of rule) e) }
-    ensures threads { IfErr result (λ e. e ≡ RunFault.NoThread → 1 < crew.now.workers.number) }
+    ensures threads { IfErr result (λ e. e ≡ RunFault.NoThread → 1 < planner.now.workers) }
     ensures refused { (e : RunFault) → IsNoPlan bytes.now (option_copied table.entry) (rule_of rule) e
         → IsRefusal RunFault.OutOfMemory result e }
 {
     let world = read_cave(alloc, bytes, table, rule)?;
-    tell_sides(&world, crew.observer);
-    let outline = outline_world(alloc, &world, crew, turns)?;
+    tell_sides(&world, observer);
+    let outline = outline_world(alloc, &world, planner, observer)?;
     Ok((world, outline))
 }
 
@@ -107,7 +113,7 @@ fn put_proved<W: Write, V: Write>(
 }
 
 /// Writes the text of a plan, and before it the certificate, where the search came to its end.
-pub(crate) fn put_plan<W: Write, V: Write>(
+fn put_plan<W: Write, V: Write>(
     alloc: Global,
     world: &World,
     outline: &Outline,
@@ -133,10 +139,9 @@ pub(crate) fn put_plan<W: Write, V: Write>(
     })
 }
 
-/// The run of a plan by a crew.
-fn run_by_crew<
-    X: Threads + Wait + Sync,
-    S: Strategy + Send + Sync,
+/// The run of a plan, clause by clause.
+fn run_by<
+    F: Fn(&Arc<Region>) -> Result<BestPlan, RegionFault>,
     R: Read,
     W: Write,
     V: Write,
@@ -146,64 +151,62 @@ fn run_by_crew<
     reader: &mut R,
     table: Option<&[u8]>,
     rule: Rule,
-    turns: Option<u64>,
-    crew: &Crew<'_, X, S, O>,
+    planner: &Planner<F>,
+    observer: &O,
     writer: &mut W,
     proof: &mut V,
 ) -> Result<Outcome, RunFault>
+    requires callable { F.IsAlwaysCallable planner.now.plan }
+    requires plans { PlansRegions (λ region. arc_value region.now) planner.now.workers planner.now.turns
+        (F.post planner.now.plan) }
     ensures done { IfOk result (λ outcome. IfSome (R.remaining reader.old) (λ bytes.
-        Plans bytes (option_copied table.entry) (rule_of rule) turns outcome
+        Plans bytes (option_copied table.entry) (rule_of rule) planner.now.turns outcome
         (W.contents writer.old) (W.contents writer.new) (V.contents proof.old) (V.contents proof.new))) }
     ensures left { IfErr result (λ e. Leaves e (R.remaining reader.old) (option_copied table.entry)
-        (rule_of rule) turns
+        (rule_of rule) planner.now.turns
         (W.contents writer.old) (W.contents writer.new) (V.contents proof.old) (V.contents proof.new)) }
     ensures fault { IfErr result (λ e. IsOfInput e → e ≢ RunFault.NoThread → IfSome (R.remaining reader.old)
         (λ bytes. IsNoPlanOfInput bytes (option_copied table.entry) (rule_of rule) e)) }
     ensures refused { IfSome (R.remaining reader.old) (λ bytes. (e : RunFault)
         → IsNoPlanOfInput bytes (option_copied table.entry) (rule_of rule) e → IsRefusedRun result e) }
-    ensures threads { IfErr result (λ e. e ≡ RunFault.NoThread → 1 < crew.now.workers.number) }
+    ensures threads { IfErr result (λ e. e ≡ RunFault.NoThread → 1 < planner.now.workers) }
     ensures before { IfErr result (λ e. e ≡ RunFault.ReadFailed
         → GivesAtMost structure_limit (R.remaining reader.old) (R.remaining reader.new)) }
 {
     let bytes = read_all(alloc, reader, STRUCTURE_LIMIT, Input::StructureInput)?;
-    let (world, outline) = plan_bytes(alloc, &bytes, table, rule, turns, crew)?;
-    put_plan(alloc, &world, &outline, turns, writer, proof)
+    let (world, outline) = plan_bytes(alloc, &bytes, table, rule, planner, observer)?;
+    put_plan(alloc, &world, &outline, planner.turns, writer, proof)
 }
 
 /// Reads a structure to the end of the reader, plans the fewest torches that leave none of its cells dark, and writes
 /// the proof's certificate to `proof` and the plan's text to `writer`. All is read before it is judged, all regions are
 /// planned before a byte is written, and the whole text of the plan is made before its first byte is. The rows are
 /// those of the user's table, where there is one, before the shipped ones. Where the turns of a region were spent, the
-/// text says how few torches there might be, and no certificate is written. Where more workers than one search, each
-/// is a thread of its own, which the observer may hold back; before the search it is told where free cells lie at a
-/// side of the box. The strategy proposes, and what it proposes changes no promise.
+/// text says how few torches there might be, and no certificate is written. Before the search the observer is told where
+/// free cells lie at a side of the box. Who plans the regions changes no promise: where it waits for nobody, this is
+/// proved to return.
 pub fn run_plan<
-    S: Strategy + Send + Sync,
-    X: Threads + Wait + Sync,
+    F: Fn(&Arc<Region>) -> Result<BestPlan, RegionFault>,
     R: Read,
     W: Write,
     V: Write,
     O: Watcher,
 >(
-    rt: &X,
     alloc: Global,
     reader: &mut R,
     table: Option<&[u8]>,
-    opts: &PlanOpts,
+    rule: Rule,
+    planner: &Planner<F>,
     observer: &O,
     writer: &mut W,
     proof: &mut V,
 ) -> Result<Outcome, RunFault>
+    requires callable { F.IsAlwaysCallable planner.now.plan }
+    requires plans { PlansRegions (λ region. arc_value region.now) planner.now.workers planner.now.turns
+        (F.post planner.now.plan) }
     ensures { IsRunOfPlan (R.remaining reader.old) (R.remaining reader.new) (option_copied table.entry)
-        (rule_of opts.now.rule) opts.now.turns opts.now.workers.number result
+        (rule_of rule) planner.now.turns planner.now.workers result
         (W.contents writer.old) (W.contents writer.new) (V.contents proof.old) (V.contents proof.new) }
 {
-    let crew: Crew<'_, X, S, O> = Crew {
-        rt,
-        workers: opts.workers,
-        strategy: PhantomData,
-        observer,
-    };
-    let PlanOpts { rule, turns, .. } = *opts;
-    run_by_crew(alloc, reader, table, rule, turns, &crew, writer, proof)
+    run_by(alloc, reader, table, rule, planner, observer, writer, proof)
 }

@@ -1,7 +1,7 @@
 -- How many turns gleaning takes.
 use Rattle.std.proofs.Common.{ℕ, ◌+◌, ◌≤◌, List, [], ◌∷◌, ◌++◌, length, Option, Some, None, arith}
 use Rattle.std.proofs.Common.{◌≡◌}
-use Rattle.search_core.specs.Turns.{Works}
+use Rattle.search_traits.specs.Turns.{Works}
 use Rattle.gathering.specs.Gathered.{EachTook}
 
 -- no piece takes no turn

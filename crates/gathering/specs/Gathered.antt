@@ -4,8 +4,8 @@ use Rattle.set_cover.specs.Instance.{Instance}
 use Rattle.cave_regions.specs.Cover.{Covering}
 use Rattle.proof_rules.specs.Tree.{Tree}
 use Rattle.proof_tree.specs.Piece.{Fathomed}
-use Rattle.search_core.specs.Planned.{IsStopped}
-use Rattle.search_core.specs.Turns.{AreSpent}
+use Rattle.search_traits.specs.Planned.{IsStopped}
+use Rattle.search_traits.specs.Turns.{AreSpent}
 use Rattle.event_core.specs.State.{State, Begins, IsDone}
 use Rattle.event_core.specs.Plays.{Steps, Plays}
 use Rattle.event_core.specs.Assembled.{IsAssembled}

@@ -4,7 +4,7 @@ ghost use Rattle.event_core.specs.State.{IsDone};
 ghost use Rattle.event_core.specs.Events.{IsWorker};
 ghost use Rattle.event_core.specs.Kept.{state_of};
 ghost use Rattle.search_core.specs.declared.halt.Halt.TheVariants.{TurnsSpent};
-ghost use Rattle.search_core.specs.Turns.{AreSpent, Works};
+ghost use Rattle.search_traits.specs.Turns.{AreSpent, Works};
 ghost use Rattle.gathering.specs.Gathered.{EachTook, Gleans};
 ghost use Rattle.gathering.specs.Gleaning.{Finishes, GleansWhere, MayFinish, NoneHeld};
 

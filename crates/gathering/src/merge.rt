@@ -2,8 +2,8 @@
 ghost use Rattle.std.specs.Prelude.{◌≡◌, ◌<◌, ◌+◌, ◌^◌, length, Contains, IfErr, IfOk, IfSome};
 ghost use Rattle.std.specs.Arc.{arc_value};
 ghost use Rattle.proof_tree.specs.Shape.{tree_of};
-ghost use Rattle.search_core.specs.Planned.{IsBest};
-ghost use Rattle.search_core.specs.Turns.{AreSpent, IsWithin};
+ghost use Rattle.search_traits.specs.Planned.{IsBest};
+ghost use Rattle.search_traits.specs.Turns.{AreSpent, IsWithin};
 ghost use Rattle.gathering.specs.Gathered.{EachTook, IsGathered, StopsGathering};
 
 use crate::fault::PoolFault;

@@ -1,7 +1,4 @@
 -- public clauses cite
-pub mod Sizes
-pub mod Turns
-pub mod Planned
 pub mod Stops
 pub mod Pieces
 -- private

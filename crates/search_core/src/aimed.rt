@@ -2,9 +2,9 @@
 ghost use Rattle.std.specs.Prelude.{◌≡◌, ◌≤◌, IsTrue, length, min};
 
 use crate::alone::AloneDesk;
-use crate::desk::Desk;
 use cave_model::OutOfMemory;
 use cave_regions::Cover;
+use search_traits::Desk;
 
 /// A desk of a search alone, which shows no more than the size that the search is after.
 #[derive(Drop)]

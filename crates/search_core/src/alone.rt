@@ -1,21 +1,13 @@
 //! The desk of a search alone.
 ghost use Rattle.std.specs.Prelude.{◌≡◌, length};
 ghost use Rattle.search_core.specs.Alone.{IsKept};
-ghost use Rattle.search_core.specs.Turns.{IsWithin};
+ghost use Rattle.search_traits.specs.Turns.{IsWithin};
 
-use crate::desk::Desk;
 use cave_model::OutOfMemory;
 use cave_regions::Cover;
 use proof_tree::Proof;
+use search_traits::{BestPlan, Desk};
 use std::marker::Model;
-
-/// A cover, a tree, and how many turns were granted.
-#[derive(Drop)]
-pub struct BestPlan {
-    pub cover: Cover,
-    pub proof: Proof,
-    pub turns: u64,
-}
 
 /// It keeps the smallest cover that it was offered, and counts turns.
 #[derive(Drop)]

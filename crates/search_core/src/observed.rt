@@ -1,10 +1,9 @@
 //! A proposer whose nodes are told to an observer.
 ghost use Rattle.pack_bound.specs.Nodes.{IsStateOf};
 
-use crate::observer::Observer;
-use crate::proposer::{Proposal, Proposer};
 use cave_regions::Region;
 use pack_bound::Node;
+use search_traits::{Observer, Proposal, Proposer};
 use std::alloc::{AllocError, Global};
 
 /// It proposes what the inner one does, and tells of each node.

@@ -3,3 +3,4 @@ pub mod ReportLemmas
 pub mod SlotLemmas
 pub mod StartLemmas
 pub mod TurnLemmas
+pub mod RestLemmas

@@ -5,8 +5,8 @@ use Rattle.std.proofs.lemmas.List.Elements.{All-head, All-tail}
 use native.Mathlib.Nat.{add-mul, one-mul}
 use Rattle.set_cover.specs.Instance.{Instance}
 use Rattle.cave_regions.specs.Cover.{Covering}
-use Rattle.search_core.specs.Planned.{IsFloor}
-use Rattle.search_core.specs.Turns.{AreSpent, IsWithin}
+use Rattle.search_traits.specs.Planned.{IsFloor}
+use Rattle.search_traits.specs.Turns.{AreSpent, IsWithin}
 use Rattle.gathering.specs.Gathered.{StopsGathering}
 use Rattle.gathering.specs.declared.fault.PoolFault.TheVariants.{Stopped}
 use Rattle.worker_results.specs.Results.{Handed}

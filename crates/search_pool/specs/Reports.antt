@@ -5,8 +5,8 @@ use Rattle.cave_regions.specs.Cover.{Covering}
 use Rattle.proof_tree.specs.Shape.{tree_of}
 use Rattle.proof_tree.specs.Opened.{Split}
 use Rattle.proof_tree.specs.Piece.{Subproblem}
-use Rattle.search_core.specs.Planned.{IsLeaf, IsStopped}
-use Rattle.search_core.specs.Turns.{IsWithin}
+use Rattle.search_traits.specs.Planned.{IsLeaf, IsStopped}
+use Rattle.search_traits.specs.Turns.{IsWithin}
 use Rattle.schedule_law.specs.Joined.{all_back, all_kids, all_opened}
 use Rattle.schedule_law.specs.Worked.{IsCoverFor, Worked}
 use Rattle.gathering.specs.Gathered.{IsGathered}

@@ -3,8 +3,8 @@ ghost use Rattle.std.specs.Prelude.{◌≡◌, ◌≤◌, Contains, IfErr, IfOk,
 ghost use Rattle.std.specs.Arc.{arc_value};
 ghost use Rattle.worker_results.specs.Joining.{IsRootSplit};
 ghost use Rattle.proof_tree.specs.Shape.{tree_of};
-ghost use Rattle.search_core.specs.Planned.{IsBest, IsLeaf, ProvesAt};
-ghost use Rattle.search_core.specs.Turns.{IsWithin};
+ghost use Rattle.search_traits.specs.Planned.{IsBest, IsLeaf, ProvesAt};
+ghost use Rattle.search_traits.specs.Turns.{IsWithin};
 ghost use Rattle.search_pool.specs.Reports.{AddsUp, IsOneLeaf, IsReport, StopsPool};
 
 use crate::merging::merged;

@@ -5,7 +5,7 @@ ghost use Rattle.beacon.specs.Marks.{at_first};
 ghost use Rattle.proof_tree.specs.Opened.{kids_of};
 ghost use Rattle.worker_results.specs.Naming.{AreThieves};
 ghost use Rattle.worker_results.specs.Joining.{IsRootSplit, StartWith};
-ghost use Rattle.search_core.specs.Turns.{IsWithin};
+ghost use Rattle.search_traits.specs.Turns.{IsWithin};
 ghost use Rattle.search_pool.specs.Runs.{IsRun};
 ghost use Rattle.search_pool.specs.Slots.{AreOwners};
 

@@ -4,16 +4,20 @@ ghost use Rattle.cave_model.specs.RuleOf.{rule_of};
 ghost use Rattle.cave_runs.specs.RunOfPlan.{IsRunOfPlan};
 
 use cave_model::Rule;
-use cave_runs::{Outcome, RunFault, Watcher};
+use cave_regions::Region;
+use cave_runs::{Outcome, Planner, RunFault, Watcher};
 use plan_options::PlanOpts;
+use search_core::plan_by_one;
 use search_moves::Moves;
+use search_pool::Crew;
 use std::alloc::Global;
 use std::io::{Read, Write};
-use std::sync::Wait;
+use std::marker::PhantomData;
+use std::sync::{Arc, Wait};
 use std::thread::Threads;
 
 /// The run of a plan by this project's own strategy: by one worker without a thread, by more with a thread for each.
-/// What it answers and writes is said at `cave_runs::run_plan`, whose promise holds for every strategy.
+/// What it answers and writes is said at `cave_runs::run_plan`, whose promise holds for every planner.
 pub fn run_plan<X: Threads + Wait + Sync, R: Read, W: Write, V: Write, O: Watcher>(
     rt: &X,
     alloc: Global,
@@ -33,8 +37,19 @@ pub fn run_plan<X: Threads + Wait + Sync, R: Read, W: Write, V: Write, O: Watche
             alloc, reader, table, opts.rule, opts.turns, observer, writer, proof,
         );
     }
-    cave_runs::run_plan::<Moves, X, R, W, V, O>(
-        rt, alloc, reader, table, opts, observer, writer, proof,
+    let crew: Crew<'_, X, Moves, O> = Crew {
+        rt,
+        workers: opts.workers,
+        strategy: PhantomData,
+        observer,
+    };
+    let planner = Planner {
+        workers: opts.workers.number,
+        turns: opts.turns,
+        plan: |region: &Arc<Region>| crew.plan_region(alloc, region, opts.turns),
+    };
+    cave_runs::run_plan(
+        alloc, reader, table, opts.rule, &planner, observer, writer, proof,
     )
 }
 
@@ -53,7 +68,12 @@ pub fn run_plan_alone<R: Read, W: Write, V: Write, O: Watcher>(
         (rule_of rule) turns 1 result
         (W.contents writer.old) (W.contents writer.new) (V.contents proof.old) (V.contents proof.new) }
 {
-    cave_runs::run_plan_alone::<Moves, R, W, V, O>(
-        alloc, reader, table, rule, turns, observer, writer, proof,
+    let planner = Planner {
+        workers: 1,
+        turns,
+        plan: |region: &Arc<Region>| plan_by_one::<Moves, O>(alloc, region, turns, observer),
+    };
+    cave_runs::run_plan(
+        alloc, reader, table, rule, &planner, observer, writer, proof,
     )
 }

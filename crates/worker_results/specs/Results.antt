@@ -8,7 +8,7 @@ use Rattle.proof_tree.specs.Piece.{Subproblem}
 use Rattle.beacon.specs.declared.known.Known.{Known}
 use Rattle.beacon.specs.Marks.{Seated, known_coded}
 use Rattle.schedule_law.specs.Worked.{IsWork}
-use Rattle.search_core.specs.Turns.{AreSpent, IsWithin}
+use Rattle.search_traits.specs.Turns.{AreSpent, IsWithin}
 use Rattle.worker_results.specs.Shares.{Shared, shared_coded, AddsUp, work_of}
 use Rattle.worker_results.specs.Spendings.{spending_coded}
 use Rattle.worker_results.specs.declared.spending.Spending.{Spending}

@@ -1,7 +1,7 @@
 -- The turns of workers. This is this project's own.
 use Rattle.std.specs.Prelude.{◌≡◌, ℕ, ◌+◌, Bool, true, false, List, [], ◌∷◌, All, Option, None, refl}
 use Rattle.std.specs.Coded.{Coded, code_by, coded×, coded_ℕ, coded_bool, coded_option}
-use Rattle.search_core.specs.Turns.{AreSpent, IsWithin}
+use Rattle.search_traits.specs.Turns.{AreSpent, IsWithin}
 use Rattle.worker_results.specs.declared.spending.Spending.{Spending}
 
 -- the code by which they are told apart, made of those of their parts

@@ -5,7 +5,7 @@ use Rattle.proof_tree.specs.Piece.{Subproblem, Fathomed}
 use Rattle.proof_tree.specs.Opened.{Split, kids_of}
 use Rattle.proof_tree.specs.Weights.{weigh}
 use Rattle.schedule_law.specs.Worked.{IsOpenedIn}
-use Rattle.search_core.specs.Turns.{AreSpent}
+use Rattle.search_traits.specs.Turns.{AreSpent}
 use Rattle.worker_results.specs.Shares.{AreClosedFrom, Shared}
 use Rattle.worker_results.specs.declared.step.Tried.{Tried}
 use Rattle.worker_results.specs.declared.step.Tried.TheVariants.{Got, Empty, Again, OutOfMemory}

@@ -1,6 +1,6 @@
 //! Closing the piece that was taken last.
 ghost use Rattle.std.specs.Prelude.{◌≡◌, ◌≢◌, ◌≤◌};
-ghost use Rattle.search_core.specs.Turns.{Works};
+ghost use Rattle.search_traits.specs.Turns.{Works};
 ghost use Rattle.worker_results.specs.Steps.{AreSameHeaps, ClosedLast, IsSpentOnly, KeepFloors};
 ghost use Rattle.worker_results.specs.declared.step.Step.TheVariants.{Made};
 

@@ -1,6 +1,6 @@
 //! Opening the piece that was taken last.
 ghost use Rattle.std.specs.Prelude.{◌≡◌, ◌≢◌, ◌≤◌, ◌+◌, IfErr, IfOk, vec_len, vec_capacity};
-ghost use Rattle.search_core.specs.Turns.{Works};
+ghost use Rattle.search_traits.specs.Turns.{Works};
 ghost use Rattle.worker_results.specs.Steps.{AreSameHeaps, IsOpening, IsSpentOnly, KeepFloors, OpenedLast};
 ghost use Rattle.worker_results.specs.declared.step.Step.TheVariants.{Made};
 

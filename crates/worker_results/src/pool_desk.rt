@@ -2,7 +2,7 @@
 ghost use Rattle.std.specs.Prelude.{◌≡◌, None, false, true, IfSome};
 ghost use Rattle.std.specs.Arc.{arc_value};
 ghost use Rattle.schedule_law.specs.Worked.{IsCoverFor};
-ghost use Rattle.search_core.specs.Turns.{AreSpent, IsWithin};
+ghost use Rattle.search_traits.specs.Turns.{AreSpent, IsWithin};
 ghost use Rattle.worker_results.specs.Results.{IsNewSeatAt, IsSeatAt, KeepsTold};
 ghost use Rattle.worker_results.specs.Spendings.{IsSpending};
 

@@ -1,7 +1,7 @@
 use Rattle.cave_runs.proofs.plan.run_plan.Goals as goal
 
 pub returns : goal.returns
-returns g c = let run = c.run_by_crew.ensures in
+returns g c = let run = c.run_by.ensures in
     record {
       done = run.done;
       left = run.left;

@@ -1,7 +1,7 @@
 use Rattle.std.proofs.Common.{◌∙◌, ℕ, Bool, List, Option, length, refl, ap, sym, subst, arith}
 use Rattle.event_core.specs.State.{State}
 use Rattle.event_core.specs.Kept.{state_of}
-use Rattle.search_core.specs.Turns.{Works}
+use Rattle.search_traits.specs.Turns.{Works}
 use Rattle.gathering.specs.Gathered.{EachTook}
 use Rattle.gathering.specs.Gleaning.{GleansWhere}
 use Rattle.gathering.proofs.GleanLemmas.{glean_start, glean_next, glean_past}

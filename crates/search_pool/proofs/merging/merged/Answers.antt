@@ -2,7 +2,7 @@ use Rattle.std.proofs.Common.{ℕ, List, Option, sym, ap, ◌∙◌, subst, arit
 use Rattle.std.specs.Arc.{arc_value}
 use Rattle.cave_regions.specs.Cover.{Covering}
 use Rattle.proof_rules.specs.Tree.{Tree}
-use Rattle.search_core.specs.Turns.{IsWithin}
+use Rattle.search_traits.specs.Turns.{IsWithin}
 use Rattle.gathering.specs.Gathered.{IsGathered, StopsGathering}
 use Rattle.gathering.specs.declared.fault.PoolFault.TheVariants.{Stopped}
 use Rattle.schedule_law.specs.Worked.{Worked}

@@ -1,5 +1,5 @@
 use Rattle.std.proofs.Common.{◌≡◌, ◌∙◌, ℕ, List, length, ap, subst, sym, arith}
-use Rattle.search_core.specs.Turns.{IsWithin}
+use Rattle.search_traits.specs.Turns.{IsWithin}
 use Rattle.search_pool.specs.Rows.{AreSpendings, all_granted, counted}
 use Rattle.search_pool.proofs.SlotLemmas.{in_a_row, length-map, owned_long}
 use Rattle.search_pool.proofs.CrewLemmas.{few_workers}

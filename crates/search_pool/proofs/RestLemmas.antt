@@ -1,11 +1,11 @@
 -- What is left of a region's turns.
-use Rattle.std.proofs.Common.{◌≡◌, ℕ, ◌+◌, ◌-◌, ◌^◌, Option, Some, None, max, min, refl, arith}
+use Rattle.std.proofs.Common.{◌≡◌, ℕ, ◌+◌, ◌-◌, ◌^◌, Option, Some, None, min, refl, arith}
 use Rattle.set_cover.specs.Instance.{Instance}
-use Rattle.search_core.specs.Turns.{IsWithin}
-use Rattle.cave_plan.specs.Faults.{StopsRegion}
-use Rattle.cave_plan.specs.Turns.{rest}
-use Rattle.cave_plan.specs.declared.fault.RegionFault.{RegionFault}
-use Rattle.cave_plan.specs.declared.fault.RegionFault.TheVariants.{Stopped, NoThread, OutOfMemory}
+use Rattle.search_traits.specs.Faults.{StopsRegion}
+use Rattle.search_traits.specs.Turns.{IsWithin}
+use Rattle.search_traits.specs.declared.region_fault.RegionFault.{RegionFault}
+use Rattle.search_traits.specs.declared.region_fault.RegionFault.TheVariants.{Stopped, NoThread, OutOfMemory}
+use Rattle.search_pool.specs.Rest.{rest}
 
 -- what was stopped with the turns that were left was stopped with all of them
 pub stops_rest : (workers : ℕ) (region : Instance) (turns : Option ℕ) (granted : ℕ) (fault : RegionFault)
@@ -21,14 +21,3 @@ pub within_rest : (turns : Option ℕ) (granted more : ℕ) → IsWithin turns g
     → IsWithin (rest turns granted) more → IsWithin turns (min (more + granted) (2 ^ 64 - 1))
 within_rest None granted more before after = tt
 within_rest (Some limit) granted more before after = omega (arith, before, after)
-
--- no turn is within any limit
-pub within_none : (turns : Option ℕ) (granted : ℕ) → granted ≡ 0 → IsWithin turns granted
-within_none None granted none = tt
-within_none (Some most) granted none = omega (arith, none)
-
--- the greater of two numbers within the limit is within it
-pub within_max : (turns : Option ℕ) (granted more : ℕ) → IsWithin turns granted → IsWithin turns more
-    → IsWithin turns (max granted more)
-within_max None granted more these those = tt
-within_max (Some most) granted more these those = omega (arith, these, those)

@@ -4,7 +4,7 @@ use Rattle.cave_regions.specs.Cover.{Covering}
 use Rattle.proof_tree.specs.Shape.{tree_of}
 use Rattle.std.specs.Arc.{arc_value}
 use Rattle.search_core.proofs.AloneLemmas.{proved_floor}
-use Rattle.cave_plan.proofs.crew.known.Goals as goal
+use Rattle.search_pool.proofs.crew.known.Goals as goal
 
 pub returns : goal.returns
 returns g c =

@@ -1,0 +1,11 @@
+-- Why many workers have no plan of a region, as any planner tells it. This is this project's own.
+use Rattle.gathering.specs.declared.fault.PoolFault.{PoolFault}
+use Rattle.gathering.specs.declared.fault.PoolFault.TheVariants as pool
+use Rattle.search_traits.specs.declared.region_fault.RegionFault.{RegionFault}
+use Rattle.search_traits.specs.declared.region_fault.RegionFault.TheVariants as told
+
+-- how many turns were granted isn't told on
+abbrev pub of_pool : PoolFault → RegionFault
+of_pool (pool.Stopped cover floor granted) = told.Stopped cover floor
+of_pool pool.NoThread = told.NoThread
+of_pool pool.OutOfMemory = told.OutOfMemory

@@ -1,0 +1,12 @@
+-- Why a region has no plan. This is this project's own.
+use Rattle.std.specs.Prelude.{◌<◌, ℕ, Option}
+use Rattle.set_cover.specs.Instance.{Instance}
+use Rattle.search_traits.specs.Planned.{IsStopped}
+use Rattle.search_traits.specs.declared.region_fault.RegionFault.{RegionFault}
+use Rattle.search_traits.specs.declared.region_fault.RegionFault.TheVariants as region
+
+-- what so many workers tell where they have no plan: threads are wanted only by more than one
+abbrev pub StopsRegion : ℕ → Instance → Option ℕ → RegionFault → Type 0
+StopsRegion workers instance turns (region.Stopped cover floor) = IsStopped instance turns cover floor
+StopsRegion workers instance turns region.NoThread = 1 < workers
+StopsRegion workers instance turns region.OutOfMemory = Unit {0}

@@ -1,0 +1,16 @@
+//! The roles of a search, and what they tell each other: who proposes, where a size to beat is shown, who is told how
+//! it gets on, and who plans a region, whether by one thread or by many. Those who search and those who ask for a plan
+//! stand on these alone, and not on each other.
+#![tactic(auto)]
+
+mod desk;
+mod observer;
+mod planner;
+mod proposer;
+mod region_fault;
+
+pub use desk::Desk;
+pub use observer::{Observer, Unobserved};
+pub use planner::{BestPlan, Planner};
+pub use proposer::{Proposal, Proposer, Strategy};
+pub use region_fault::RegionFault;

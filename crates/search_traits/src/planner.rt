@@ -1,0 +1,22 @@
+//! Who plans the regions of a cave.
+
+use cave_regions::Cover;
+use proof_tree::Proof;
+
+/// A cover, a tree, and how many turns were granted.
+#[derive(Drop)]
+pub struct BestPlan {
+    pub cover: Cover,
+    pub proof: Proof,
+    pub turns: u64,
+}
+
+/// One worker or many, and how many turns each region has, or any number of them: what is promised of a plan doesn't
+/// tell who made it. `plan` plans one region, as `PlansRegions` says. Who makes it holds the handles for threads, if it
+/// starts some; so what is planned by one that starts none is proved to return.
+#[derive(Drop)]
+pub struct Planner<F> {
+    pub workers: u32,
+    pub turns: Option<u64>,
+    pub plan: F,
+}
