@@ -182,9 +182,9 @@ fn run_by<
 /// the proof's certificate to `proof` and the plan's text to `writer`. All is read before it is judged, all regions are
 /// planned before a byte is written, and the whole text of the plan is made before its first byte is. The rows are
 /// those of the user's table, where there is one, before the shipped ones. Where the turns of a region were spent, the
-/// text says how few torches there might be, and no certificate is written. Before the search the observer is told where
-/// free cells lie at a side of the box. Who plans the regions changes no promise: where it waits for nobody, this is
-/// proved to return.
+/// text says how few torches there might be, and no certificate is written. Before the search the observer is told
+/// where free cells lie at a side of the box. Who plans the regions changes no promise: where that waits for nobody,
+/// this is proved to return.
 pub fn run_plan<
     F: Fn(&Arc<Region>) -> Result<BestPlan, RegionFault>,
     R: Read,
