@@ -70,11 +70,3 @@ fn eight_workers_find_two_torches_200_times(rt: HostRuntime) -> Result<(), Fail>
     }
     Ok(())
 }
-
-#[test]
-fn workers_are_1_to_64(rt: HostRuntime) -> Result<(), Fail> {
-    assert!(rt; Workers::new(0).is_none());
-    assert!(rt; Workers::new(65).is_none());
-    assert!(rt; matches!(Workers::new(64), Some(workers) if workers.number == 64));
-    Ok(())
-}

@@ -1,50 +1,22 @@
-//! Readers and writers that fail, for good or once, by `dark` and by the reading of tables.
+//! Readers and writers that fail once by `dark`, and tables from readers that fail.
 
 use cave_files::caves::{FELT_TABLE, PILLAR};
-use cave_files::streams::{
-    idle_writer, once_failing_reader_of, once_failing_writer, reader_of, writer_of,
-};
+use cave_files::streams::{once_failing_reader_of, once_failing_writer, reader_of};
 use std::alloc::Global;
 use std::io::{Read, Write};
 use std::test::Fail;
 use torch_plan::{Rule, RunFault, Unobserved, read_table, run_dark};
 
-const TEXT: &[u8] = b"dark 1\n0 1 0\n";
+/// The dark text of the pillar.
+pub(crate) const TEXT: &[u8] = b"dark 1\n0 1 0\n";
 
 /// Prints the dark cells of what the reader has, by the shipped rows.
-fn shown<R: Read, W: Write>(alloc: Global, reader: &mut R, writer: &mut W) -> Result<(), RunFault> {
+pub(crate) fn shown<R: Read, W: Write>(
+    alloc: Global,
+    reader: &mut R,
+    writer: &mut W,
+) -> Result<(), RunFault> {
     run_dark(alloc, reader, None, Rule::new(2, 1), &Unobserved, writer)
-}
-
-#[test]
-fn a_read_that_fails_anywhere_is_told(rt: HostRuntime) -> Result<(), Fail> {
-    let alloc = rt.alloc();
-    let bytes = PILLAR.bytes(alloc)?;
-    for fails_at in 0..=bytes.len() {
-        let mut written = Vec::new(alloc);
-        let ended = shown(alloc, &mut reader_of(&bytes, fails_at), &mut written);
-        assert!(rt; matches!(&ended, Err(RunFault::ReadFailed)));
-        assert!(rt; written.is_empty());
-    }
-    Ok(())
-}
-
-#[test]
-fn a_write_that_fails_leaves_a_beginning(rt: HostRuntime) -> Result<(), Fail> {
-    let alloc = rt.alloc();
-    let bytes = PILLAR.bytes(alloc)?;
-    for fails_at in 0..TEXT.len() {
-        let mut writer = writer_of(alloc, fails_at);
-        let ended = shown(alloc, &mut bytes.as_slice(), &mut writer);
-        assert!(rt; matches!(&ended, Err(RunFault::WriteFailed)));
-        assert_eq!(rt; writer.taken.as_slice(), &TEXT[..fails_at]);
-    }
-    // One that takes nothing has failed.
-    let mut writer = idle_writer(alloc);
-    let ended = shown(alloc, &mut bytes.as_slice(), &mut writer);
-    assert!(rt; matches!(&ended, Err(RunFault::WriteFailed)));
-    assert!(rt; writer.taken.is_empty());
-    Ok(())
 }
 
 #[test]

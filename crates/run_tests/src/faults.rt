@@ -4,6 +4,7 @@ use crate::planning::line_of;
 use block_rows::{RowFault, RowsFault};
 use cover_rows::CoverFault;
 use nbt_core::NbtFault;
+use proof_check::CheckFault;
 use scan_core::{Field, ScanFault};
 use std::test::Fail;
 use torch_plan::{Advance, Input, OpenSides, RunFault, Verdict, status_of};
@@ -117,6 +118,19 @@ fn faults_have_their_words(rt: HostRuntime) -> Result<(), Fail> {
     for (fault, words) in &table {
         let line = line_of(rt.alloc(), fault)?;
         assert_eq!(rt; line.as_str(), *words);
+    }
+    Ok(())
+}
+
+#[test]
+fn faults_of_a_certificate_have_their_words(rt: HostRuntime) -> Result<(), Fail> {
+    for (fault, words) in [
+        (CheckFault::ReadFailed, "cannot read"),
+        (CheckFault::TooLong, "proof: file too long"),
+        (CheckFault::OutOfMemory, "out of memory"),
+    ] {
+        let told = format!(in rt.alloc(); "{fault}")?;
+        assert_eq!(rt; told.as_str(), words);
     }
     Ok(())
 }

@@ -1,9 +1,10 @@
 //! Runs from bytes to bytes, of what no file of cases can say: streams that fail, inputs at their limits, the words of
-//! faults; whole files as trees; and rings planned by many workers, which gates hold back until others have work too.
+//! faults; whole files as trees; rings planned by many workers, which gates hold back until others have work too; help
+//! that can't be printed, and the proof's file against the run's own.
 #![tactic(auto)]
 
 #[cfg(test)]
-mod certificate_streams;
+mod answering;
 #[cfg(test)]
 mod counted;
 #[cfg(test)]
@@ -24,6 +25,8 @@ mod planning;
 mod ring_caves;
 #[cfg(test)]
 mod roots;
+#[cfg(test)]
+mod shelf;
 #[cfg(test)]
 mod through;
 #[cfg(test)]

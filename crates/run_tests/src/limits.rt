@@ -1,8 +1,10 @@
-//! Inputs at their limits and past them, a reader without end, and a table without bytes.
+//! Inputs at their limits and past them, and readers without end.
 
 use crate::planning::freely;
-use cave_files::streams::zeros_of;
+use cave_files::caves::PILLAR;
+use cave_files::streams::{Endless, zeros_of};
 use nbt_core::NbtFault;
+use proof_check::{CheckFault, check_from};
 use scan_core::ScanFault;
 use std::test::Fail;
 use torch_plan::{Input, Rule, RunFault, Unobserved, read_table, run_check, run_dark, run_plan};
@@ -11,7 +13,7 @@ use torch_plan::{Input, Rule, RunFault, Unobserved, read_table, run_check, run_d
 const STRUCTURE_LIMIT: usize = 67_108_864;
 
 /// The bytes that a table may have.
-const TABLE_LIMIT: usize = 1_048_576;
+pub(crate) const TABLE_LIMIT: usize = 1_048_576;
 
 /// The bytes that are read at a time.
 const BUFFER: usize = 8_192;
@@ -86,20 +88,14 @@ fn a_reader_without_end_is_left_one_buffer_past_the_limit(rt: HostRuntime) -> Re
 }
 
 #[test]
-fn a_table_may_be_empty_or_of_the_limit(rt: HostRuntime) -> Result<(), Fail> {
+fn a_certificate_without_end_is_given_up(rt: HostRuntime) -> Result<(), Fail> {
     let alloc = rt.alloc();
-    let table = read_table(alloc, &mut zeros_of(0))?;
-    assert!(rt; table.is_empty());
-    let mut spaces = Vec::new(alloc);
-    for _ in 0..TABLE_LIMIT {
-        spaces.push(b' ')?;
+    let structure = PILLAR.bytes(alloc)?;
+    for byte in [b'\n', b't'] {
+        let mut reader = Endless { byte };
+        let rule = Rule::new(2, 1);
+        let ended = check_from(alloc, &structure, None, rule, &mut reader, u64::MAX);
+        assert!(rt; matches!(&ended, Err(CheckFault::ReadFailed)));
     }
-    let mut reader = spaces.as_slice();
-    let table = read_table(alloc, &mut reader)?;
-    assert_eq!(rt; table.len(), TABLE_LIMIT);
-    spaces.push(b' ')?;
-    let mut reader = spaces.as_slice();
-    let refused = read_table(alloc, &mut reader);
-    assert!(rt; matches!(refused, Err(RunFault::TooLong(Input::TableInput))));
     Ok(())
 }

@@ -119,15 +119,3 @@ fn a_structure_of_nothing_and_a_pillar(rt: HostRuntime) -> Result<(), Fail> {
     }
     Ok(())
 }
-
-#[test]
-fn each_byte_of_a_file_may_have_any_value(rt: HostRuntime) {
-    for i in 0..PILLAR.len() {
-        let mut bytes = PILLAR;
-        for byte in 0..=255 {
-            bytes[i] = byte;
-            let is_read = read_root(rt.alloc(), &bytes).is_ok();
-            assert!(rt; is_read || byte != PILLAR[i], "byte {i}");
-        }
-    }
-}

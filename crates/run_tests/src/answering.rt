@@ -1,7 +1,6 @@
 //! Help that can't be printed, and the proof's file against the proof of the run.
 
 use crate::shelf::{Notes, Shelf};
-use crate::words::words_of;
 use cave_files::caves::{AIR, DUG, FELT, FELT_TABLE, LOW_27, PILLAR, ROCK, STONE, TWO_CORRIDORS};
 use cave_files::{Fill, Structure};
 use std::alloc::{AllocError, Global};
@@ -10,6 +9,15 @@ use std::sync::Wait;
 use std::test::Fail;
 use std::thread::Threads;
 use torch_plan::{Rule, Unobserved, answer, run_plan_alone};
+
+/// The words of a command line, parted by spaces.
+pub(crate) fn words_of(alloc: Global, line: &str) -> Result<Vec<String>, AllocError> {
+    let mut words = Vec::new(alloc);
+    for word in line.split(' ') {
+        words.push(String::from_str(alloc, word)?)?;
+    }
+    Ok(words)
+}
 
 #[test]
 fn help_that_cannot_be_printed_is_a_failed_write(rt: HostRuntime) -> Result<(), Fail> {
