@@ -7,6 +7,7 @@ mod bits;
 mod cyclic_core;
 mod dominance;
 mod lists;
+mod node_places;
 mod reduced_instance;
 mod reduced_zone;
 mod rows_left;
@@ -19,5 +20,6 @@ pub use bits::{
 pub use cyclic_core::CyclicCore;
 pub use dominance::{Dominance, first_dominating, is_dominated, undominated};
 pub use lists::{NumberLists, small};
+pub use node_places::NodePlaces;
 pub use reduced_instance::{InRegion, ReducedInstance, undominated_places};
 pub use reduced_zone::ReducedZone;

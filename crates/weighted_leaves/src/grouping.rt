@@ -1,34 +1,66 @@
-//! Groups of a weighted leaf, of weights in fixed point.
+//! Groups of a weighted leaf, of whole weights.
 
 use crate::kernel::Left;
-use crate::rounding::whole;
+use crate::whole_weights::WholeWeights;
 use instance_reduction::is_set;
 use proof_rules::{Group, Share, Shares};
 use std::alloc::{AllocError, Global};
 
-/// Adds the group of those of these cells that are left, with their weights times the capacity; none where no cell
-/// weighs anything.
+/// Adds the group of those of these cells that are left, one weight each, at a capacity of one; none where none is.
+pub(crate) fn push_alone(
+    alloc: Global,
+    groups: &mut Vec<Group>,
+    left: Left<'_>,
+    cells: &[u32],
+) -> Result<(), AllocError> {
+    let mut shares = Vec::new(alloc);
+    for cell in cells {
+        push_share(&mut shares, left, *cell, 1)?;
+    }
+    push_shares(groups, 1, shares)
+}
+
+/// Adds the group of those of these cells that are left and weigh anything; none where none does.
 pub(crate) fn push_group(
     alloc: Global,
     groups: &mut Vec<Group>,
     left: Left<'_>,
-    capacity: u32,
     cells: &[u32],
-    weights: &[i64],
+    whole: &WholeWeights,
 ) -> Result<(), AllocError> {
     let mut shares = Vec::new(alloc);
-    for (index, number) in cells.iter().enumerate() {
-        let number = *number as usize;
-        let weight = whole(weights.get(index).copied().unwrap_or(0), capacity);
-        if let Some(cell) = left.instance.cells().get(number) {
-            if weight > 0 && is_set(left.cells, number) {
-                shares.push(Share {
-                    cell: cell.number(),
-                    weight,
-                })?;
-            }
+    for (index, cell) in cells.iter().enumerate() {
+        push_share(&mut shares, left, *cell, whole.weight(index))?;
+    }
+    push_shares(groups, whole.capacity(), shares)
+}
+
+/// Adds the share of a cell of the instance, if it is left and weighs anything.
+fn push_share(
+    shares: &mut Vec<Share>,
+    left: Left<'_>,
+    cell: u32,
+    weight: u32,
+) -> Result<(), AllocError> {
+    let number = cell as usize;
+    if let Some(cell) = left.instance.cells().get(number) {
+        if weight > 0 && is_set(left.cells, number) {
+            shares.push(Share {
+                cell: cell.number(),
+                weight,
+            })?;
         }
     }
+    Ok(())
+}
+
+/// Adds the group of these shares, where there are any.
+fn push_shares(
+    groups: &mut Vec<Group>,
+    capacity: u32,
+    shares: Vec<Share>,
+) -> Result<(), AllocError> {
+    let mut shares = shares;
     if shares.is_empty() {
         return Ok(());
     }

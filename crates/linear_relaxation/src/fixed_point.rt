@@ -1,12 +1,13 @@
 //! Numbers in fixed point, and lists of them. Sums wrap: nothing rests on them.
 
 /// One: so many bits stand behind the point.
-pub(crate) const BITS: u32 = 20;
+pub const BITS: u32 = 20;
 
-pub(crate) const ONE: i64 = 1 << 20;
+/// One.
+pub const ONE: i64 = 1 << 20;
 
 /// The number with this index, or 0 where there is none.
-pub(crate) fn at(numbers: &[i64], index: usize) -> i64 {
+pub fn at(numbers: &[i64], index: usize) -> i64 {
     numbers.get(index).copied().unwrap_or(0)
 }
 
@@ -27,7 +28,7 @@ pub(crate) fn ratio(amount: i64, by: i64) -> i64 {
 }
 
 /// So many whole ones.
-pub(crate) fn ones(count: u64) -> i64 {
+pub fn ones(count: u64) -> i64 {
     signed(count).saturating_mul(ONE)
 }
 
@@ -49,7 +50,7 @@ pub(crate) fn sum_at(numbers: &[i64], indices: &[u32]) -> i64 {
 }
 
 /// The greatest of the numbers at these indices.
-pub(crate) fn most_at(numbers: &[i64], indices: &[u32]) -> i64 {
+pub fn most_at(numbers: &[i64], indices: &[u32]) -> i64 {
     let mut most: i64 = 0;
     for index in indices {
         most = most.max(at(numbers, *index as usize));
@@ -58,7 +59,7 @@ pub(crate) fn most_at(numbers: &[i64], indices: &[u32]) -> i64 {
 }
 
 /// Adds an amount to the numbers at these indices.
-pub(crate) fn add_at(numbers: &mut [i64], indices: &[u32], amount: i64) {
+pub fn add_at(numbers: &mut [i64], indices: &[u32], amount: i64) {
     for index in indices {
         let index = *index as usize;
         if index < numbers.len() {
@@ -76,24 +77,23 @@ pub(crate) fn sum(numbers: &[i64]) -> i64 {
     sum
 }
 
-/// Adds the others, each to the number in its place.
-pub(crate) fn add_all(numbers: &mut [i64], others: &[i64]) {
+/// Sets the numbers to the others.
+pub(crate) fn copy_all(numbers: &mut [i64], others: &[i64]) {
     for index in 0..numbers.len() {
-        numbers[index] = numbers[index].wrapping_add(at(others, index));
+        numbers[index] = at(others, index);
     }
 }
 
-/// Divides all, none of which is negative.
-pub(crate) fn divide_all(numbers: &mut [i64], by: u32) {
-    let by = u64::from(by.max(1));
-    for number in numbers.iter_mut() {
-        let amount = *number;
-        *number = signed(amount.max(0).unsigned_abs() / by);
+/// Sets the numbers to what lies this part of the way from those ahead to the first ones.
+pub(crate) fn draw_back(numbers: &mut [i64], ahead: &[i64], first: &[i64], part: i64) {
+    for index in 0..numbers.len() {
+        let from = at(ahead, index);
+        let way = at(first, index).wrapping_sub(from);
+        numbers[index] = from.wrapping_add(way.wrapping_mul(part) >> BITS);
     }
 }
 
-pub(crate) fn clear(numbers: &mut [i64]) {
-    for number in numbers.iter_mut() {
-        *number = 0;
-    }
+/// One by a number.
+pub(crate) fn one_of(by: u32) -> i64 {
+    signed(ONE.unsigned_abs() / u64::from(by.max(1)))
 }

@@ -1,0 +1,13 @@
+//! The linear relaxation of a set cover instance, in fixed point: weights of cells of which no place lights more than
+//! one in all, found by steps of a primal-dual method, and what they show to be needed. All of it proposes, and nothing
+//! is promised of it but that it ends and stays in bounds: judges accept or refuse what is made of it.
+#![tactic(auto)]
+
+mod fixed_point;
+mod relaxation;
+mod rounding;
+mod runs;
+
+pub use fixed_point::{BITS, ONE, add_at, at, most_at, ones};
+pub use relaxation::Relaxation;
+pub use rounding::{left_out, places_for, whole};
