@@ -3,18 +3,15 @@ use Rattle.std.proofs.Common.{◌≡◌, ℕ, zero, suc, ◌+◌, ◌<◌, ◌�
 use Rattle.std.proofs.Common.{Contains, All, get_or, refl, sym, ap, subst, ◌∙◌, arith, inl, inr}
 use Rattle.std.proofs.lemmas.Bool.{cases_eq}
 use Rattle.std.proofs.lemmas.List.{length-map, map-append, take_more, get_or-map}
-use Rattle.std.proofs.lemmas.List.Elements.{Contains-push_cases, Contains-get_or}
-use Rattle.std.proofs.lemmas.List.Kept.{AllPairs-from_increasing}
+use Rattle.std.proofs.lemmas.List.Elements.{Contains-append_cases, Contains-push_cases, Contains-get_or}
 use Rattle.cave_model.specs.Plan.{AreDistinct}
 use Rattle.lit_lists.specs.Lists.{LitLists}
 use Rattle.lit_lists.proofs.PairLemmas.{fresh}
 use Rattle.proof_rules.proofs.ListLemmas.{no_member, cons_cases, later, here, at_member, distinct_nil, distinct_cons}
 use Rattle.proof_rules.proofs.ListLemmas.{distinct_append, no_more}
 use Rattle.weight_judge.specs.declared.claims.Claim.{Claim}
-use Rattle.weight_judge.specs.Held.{places_at, AreListsBelow}
 use Rattle.weight_judge.proofs.ClaimLemmas.{to_map}
-use Rattle.node_judges.specs.Tests.{IsFree, AreLeft, lit_by}
-use Rattle.node_judges.specs.Tests.{AreInside}
+use Rattle.node_judges.specs.Tests.{IsFree, AreLitBy}
 use Rattle.node_judges.specs.Weighed.{cells_claimed, AreFreeOnce, AreAllLeft}
 
 -- ---- distinct numbers below a bound are few
@@ -97,16 +94,17 @@ module _ (lists : LitLists) (cells chosen : List ℕ) (claims : List Claim) (i :
       take_map (suc i) [] = refl
       take_map (suc i) (c ∷ cs) = ap (λ (l : List ℕ). c.cell ∷ l) (take_map i cs)
 
--- ---- places that are left
+  -- nor are the claims of free cells, each once, where a chosen place lights the cell
+  pub repeated_or_lit : (lit : List ℕ) → AreLitBy lists chosen lit
+      → Contains (lit ++ cells_claimed (take i claims)) (get_or claims i d).cell
+      → ¬ AreFreeOnce lists cells chosen (cells_claimed claims)
+  repeated_or_lit lit l c s = elim
+      (Contains-append_cases lit (cells_claimed (take i claims)) (get_or claims i d).cell c) [
+        | inl has ↦ (s.free (get_or claims i d).cell cell_there).unlit ((l.each (get_or claims i d).cell).0 has)
+        | inr before ↦ repeated before s
+      ]
 
--- one list more
-pub left_more : (lists : LitLists) (barred : List ℕ) (claims : List Claim) (places : List (List ℕ)) (c : Claim)
-    (these : List ℕ) → AreAllLeft lists barred claims places → AreLeft (lit_by lists c.cell) barred these
-    → AreAllLeft lists barred (claims ++ c ∷ []) (places ++ these ∷ [])
-left_more lists barred [] [] c these a l = (l, tt)
-left_more lists barred [] (p ∷ ps) c these a l = absurd a
-left_more lists barred (x ∷ xs) [] c these a l = absurd a
-left_more lists barred (x ∷ xs) (p ∷ ps) c these a l = (a.0, left_more lists barred xs ps c these a.1 l)
+-- ---- places that are left
 
 -- as many lists as claims
 pub length-left : (lists : LitLists) (barred : List ℕ) (claims : List Claim) (places : List (List ℕ))
@@ -115,28 +113,3 @@ length-left lists barred [] [] a = refl
 length-left lists barred [] (p ∷ ps) a = absurd a
 length-left lists barred (x ∷ xs) [] a = absurd a
 length-left lists barred (x ∷ xs) (p ∷ ps) a = omega (arith, length-left lists barred xs ps a.1)
-
--- each list has distinct places of the box
-pub left_below : (lists : LitLists) (barred : List ℕ) (limit : ℕ) (claims : List Claim) (places : List (List ℕ))
-    → AreInside lists limit → AreAllLeft lists barred claims places → AreListsBelow limit places
-left_below lists barred limit claims places inside a = record {
-  once = λ k. once claims places a k;
-  below = λ k. below claims places a k;
-} where
-  once : (claims : List Claim) (places : List (List ℕ)) → AreAllLeft lists barred claims places → (k : ℕ)
-      → AreDistinct (places_at places k)
-  once [] [] a k = distinct_nil
-  once [] (p ∷ ps) a k = absurd a
-  once (x ∷ xs) [] a k = absurd a
-  once (x ∷ xs) (p ∷ ps) a zero = λ i j d lt h e.
-      (let r = AllPairs-from_increasing p a.0.ascending i j d lt h in omega arith)
-  once (x ∷ xs) (p ∷ ps) a (suc k) = once xs ps a.1 k
-
-  below : (claims : List Claim) (places : List (List ℕ)) → AreAllLeft lists barred claims places → (k : ℕ)
-      → All (λ place. place < limit) (places_at places k)
-  below [] [] a k = λ i d h. absurd (omega (arith, h))
-  below [] (p ∷ ps) a k = absurd a
-  below (x ∷ xs) [] a k = absurd a
-  below (x ∷ xs) (p ∷ ps) a zero = λ i d h.
-      inside.each (get_or p i d) x.cell ((a.0.exact (get_or p i d)).0 (Contains-get_or p i d h)).0
-  below (x ∷ xs) (p ∷ ps) a (suc k) = below xs ps a.1 k

@@ -2,3 +2,5 @@ pub mod TallyLemmas
 pub mod TestLemmas
 pub mod LeafLemmas
 pub mod ClaimedLemmas
+pub mod LitLemmas
+pub mod LoadLemmas

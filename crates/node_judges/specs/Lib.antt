@@ -2,3 +2,5 @@
 pub mod Tally
 pub mod Tests
 pub mod Weighed
+-- private
+pub mod Loads

@@ -60,6 +60,15 @@ abbrev pub DecidesApart : LitLists → List ℕ → List ℕ → List ℕ → Li
 DecidesApart lists cells chosen barred these result = MatchBool result
     (AreApartIn lists cells chosen barred these) (AreDistinct these → ¬ AreApartIn lists cells chosen barred these)
 
+-- the lists of the places and those of the cells have the same pairs, of cells below this number
+pub record AreMatched (lists : LitLists) (limit : ℕ) : Type 0 where
+  pub same : (place cell : ℕ) → Contains (row_at lists.pairs.lights place) cell ↔ Contains (lit_by lists cell) place
+  pub below : (place cell : ℕ) → Contains (row_at lists.pairs.lights place) cell → cell < limit
+
+-- these are the cells that the places light
+pub record AreLitBy (lists : LitLists) (places these : List ℕ) : Type 0 where
+  pub each : (cell : ℕ) → Contains these cell ↔ Meet (lit_by lists cell) places
+
 -- the places of each cell ascend
 pub record AreAscending (lists : LitLists) : Type 0 where
   pub each : (cell : ℕ) → IsStrictlyIncreasing (lit_by lists cell)

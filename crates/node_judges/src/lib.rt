@@ -3,6 +3,7 @@
 #![tactic(auto)]
 
 mod leaf;
+mod loads;
 mod tally;
 mod testing;
 mod weighted;

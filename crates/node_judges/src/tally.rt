@@ -79,11 +79,11 @@ impl Tally {
         }
     }
 
-    /// How many cells the box has.
-    pub fn width(&self) -> usize
-        ensures { result ≡ length self.now.counts }
+    /// The cells, in their order.
+    pub fn items(&self) -> &[Cell]
+        ensures { result.now ≡ self.now.items }
     {
-        self.counts.len()
+        self.items.as_slice()
     }
 
     /// How many cells there are.

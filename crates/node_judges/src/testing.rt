@@ -1,4 +1,5 @@
-ghost use Rattle.std.specs.Prelude.{◌≡◌, ℕ, ◌⊎◌, ◌++◌, ◌↔◌, ◌<◌, length, All, Contains, IsTrue, IfOk, OnOk, MatchBool};
+ghost use Rattle.std.specs.Prelude.{◌≡◌, ℕ, ◌⊎◌, [], ◌++◌, ◌↔◌, ◌<◌, length, All, Contains, IsTrue, IfOk, OnOk};
+ghost use Rattle.std.specs.Prelude.{MatchBool};
 ghost use Rattle.std.specs.List.Sorted.{IsStrictlyIncreasing};
 ghost use Rattle.cave_model.specs.Plan.{AreDistinct};
 ghost use Rattle.proof_rules.specs.Omitted.{left_without};
@@ -46,8 +47,22 @@ pub fn mark(places: &[Cell], tally: &mut Tally) -> Result<(), AllocError>
     Ok(())
 }
 
+/// Puts the cells that the places light into the empty tally.
+pub fn mark_lit(lists: &Lists, places: &Tally, tally: &mut Tally) -> Result<(), AllocError>
+    requires none { tally.old.items ≡ [] }
+    requires matched { tests.AreMatched lists.now (length tally.old.counts) }
+    ensures lit { OnOk result (tests.AreLitBy lists.now places.now.items tally.new.items) }
+    ensures whole { length tally.new.counts ≡ length tally.old.counts }
+{
+    let places = places.items();
+    for place in places {
+        mark(lists.lights(*place), tally)?;
+    }
+    Ok(())
+}
+
 /// Whether the cell is of what is left of the region.
-fn is_left(region: &Tally, omitted: &Tally, cell: Cell) -> bool
+pub fn is_left(region: &Tally, omitted: &Tally, cell: Cell) -> bool
     ensures left { IsTrue result ↔ Contains (left_without omitted.now.items region.now.items) cell }
     ensures inside { IsTrue result → cell < length region.now.counts }
 {

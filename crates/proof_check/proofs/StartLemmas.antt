@@ -1,11 +1,13 @@
 -- The judge before the first line.
-use Rattle.std.proofs.Common.{◌≡◌, [], length, refl, sym, ◌∙◌, arith}
+use Rattle.std.proofs.Common.{◌≡◌, ℕ, [], length, refl, sym, subst, ◌∙◌, arith}
 use Rattle.cave_base.specs.Box.{cell_count}
 use Rattle.cave_model.specs.Cave.{Cave}
+use Rattle.cave_model.specs.Spawn.{IsDark}
 use Rattle.cave_model.specs.Torches.{IsPlace}
 use Rattle.lit_lists.specs.Lists.{LitLists, AreListsOf}
 use Rattle.lit_lists.proofs.PairLemmas.{marked_inside}
 use Rattle.proof_rules.proofs.ListLemmas.{no_member}
+use Rattle.weight_judge.specs.Rooms.{AreNoRooms}
 use Rattle.proof_check.specs.Heard.{IsAfter}
 use Rattle.proof_check.specs.Homes.{AreHomesOf}
 use Rattle.proof_check.specs.Judged.{start}
@@ -30,6 +32,16 @@ wide_start cave lists nodes known n = record {
         (IsPlace cave) lists.places place known.places ((known.lit_by place cell).0 h).legal in
         omega (arith, known.places.whole));
   };
+  matched = record {
+    same = λ place cell. (
+      λ h. (known.lit_by place cell).1 ((known.lights place cell).0 h),
+      λ h. (known.lights place cell).1 ((known.lit_by place cell).0 h),
+    );
+    below = λ place cell h. (let lt = marked_inside cave
+        (IsDark cave) lists.dark cell known.dark ((known.lights place cell).0 h).dark in
+        omega (arith, known.places.whole));
+  };
+  rooms = subst (λ (n : ℕ). AreNoRooms n nodes.rooms) (sym known.places.whole) n.rooms;
 }
 
 -- a new judge with empty homes has heard no line

@@ -11,11 +11,12 @@ use Rattle.proof_check.specs.Judged.{Weighing, idle, JudgeState, Judged, at, stu
 use Rattle.proof_check.specs.Judged.{GroupSteps}
 use Rattle.proof_check.specs.Judged.{BranchSteps, BarSteps, OmitSteps, NodeSteps}
 use Rattle.proof_check.specs.Track.{IsAt}
-use Rattle.node_judges.specs.Tests.{AreInside}
+use Rattle.weight_judge.specs.Rooms.{AreNoRooms}
+use Rattle.node_judges.specs.Tests.{AreInside, AreMatched}
 use Rattle.proof_check.specs.declared.nodes.NodeJudge.{NodeJudge}
 use Rattle.proof_check.specs.declared.weighing.Weighing as held
 
--- the tallies are as wide as the box, and none is seen
+-- the tallies are as wide as the box, none is seen, and no place has a room
 pub record IsWide (lists : LitLists) (nodes : NodeJudge) : Type 0 where
   pub region : length nodes.region.counts ≡ length lists.places
   pub seen : length nodes.seen.counts ≡ length lists.places
@@ -25,6 +26,8 @@ pub record IsWide (lists : LitLists) (nodes : NodeJudge) : Type 0 where
   pub few : length lists.places ≤ 4294967296
   pub none : nodes.seen.items ≡ []
   pub inside : AreInside lists (length lists.places)
+  pub matched : AreMatched lists (length lists.places)
+  pub rooms : AreNoRooms (length lists.places) nodes.rooms
 
 -- nothing is judged, in a box of so many cells
 pub record IsNew (count : ℕ) (nodes : NodeJudge) : Type 0 where
@@ -46,6 +49,7 @@ pub record IsNew (count : ℕ) (nodes : NodeJudge) : Type 0 where
   pub weighed_at : nodes.weighing.line ≡ 0
   pub to_come : nodes.weighing.to_come ≡ 0
   pub no_groups : nodes.weighing.groups.items ≡ []
+  pub rooms : AreNoRooms count nodes.rooms
 
 -- what is left of the region
 abbrev pub left_in : NodeJudge → List ℕ
@@ -125,6 +129,7 @@ pub record BeginsRegion (cells : List ℕ) (old new : NodeJudge) : Type 0 where
   pub region : ((cell : ℕ) → Contains cells cell → cell < length old.region.counts) → new.region.items ≡ cells
   pub whole : length new.region.counts ≡ length old.region.counts
   pub seen : new.seen ≡ old.seen
+  pub rooms : new.rooms ≡ old.rooms
   pub track : new.track ≡ old.track
   pub floor : new.floor ≡ old.floor
   pub weak : new.weak ≡ old.weak
@@ -143,6 +148,7 @@ pub record Expects (count : ℕ) (old new : NodeJudge) : Type 0 where
   pub long : length new.track.omitted.counts ≡ length old.track.omitted.counts
   pub region : new.region ≡ old.region
   pub seen : new.seen ≡ old.seen
+  pub rooms : new.rooms ≡ old.rooms
   pub weak : new.weak ≡ old.weak
   pub bad : new.bad ≡ old.bad
   pub weighing : new.weighing ≡ old.weighing

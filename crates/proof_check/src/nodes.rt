@@ -14,7 +14,7 @@ use node_judges::{Tally, are_left, is_dominated, is_free, is_leaf, is_weighted, 
 use proof_rules::Group;
 use std::alloc::{AllocError, Global};
 use std::mem;
-use weight_judge::places_for_all;
+use weight_judge::{Rooms, places_for_all};
 
 /// The judge of nodes.
 #[derive(Drop)]
@@ -24,6 +24,8 @@ pub struct NodeJudge {
     pub region: Tally,
     /// Scratch of the leaves: the places or the cells seen.
     pub seen: Tally,
+    /// Scratch of the weighted leaves: what each place may still light.
+    pub rooms: Rooms,
     pub track: Track,
     /// The size that the region's tree is to prove.
     pub floor: usize,
@@ -42,6 +44,7 @@ impl NodeJudge {
     {
         let region = Tally::new(alloc, count)?;
         let seen = Tally::new(alloc, count)?;
+        let rooms = Rooms::new(alloc, count as usize)?;
         let chosen = Tally::new(alloc, count)?;
         let barred = Tally::new(alloc, count)?;
         let omitted = Tally::new(alloc, count)?;
@@ -55,6 +58,7 @@ impl NodeJudge {
             alloc,
             region,
             seen,
+            rooms,
             track,
             floor: 0,
             weak: None,
@@ -111,6 +115,7 @@ impl NodeJudge {
             &self.track.chosen,
             &self.track.barred,
             &mut self.seen,
+            &mut self.rooms,
             groups,
         )?;
         if !fits {

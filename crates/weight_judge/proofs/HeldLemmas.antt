@@ -13,8 +13,8 @@ use Rattle.weight_judge.specs.declared.claims.Claim.{Claim}
 use Rattle.weight_judge.specs.declared.rooms.Room.{Room}
 use Rattle.weight_judge.specs.Claims.{AreClaims}
 use Rattle.weight_judge.specs.Held.{places_at, if_held, held, weight_claimed, AreKept, AreAllKept}
-use Rattle.weight_judge.specs.Rooms.{room_at, Takes, LacksRoom, LackRoom, AreTaken, HasRoom, IsRoomOf, AreRooms}
-use Rattle.weight_judge.specs.Rooms.{AreNoRooms}
+use Rattle.weight_judge.specs.Rooms.{room_at, Takes, TakesAt, LacksRoom, LackRoom, AreTaken, HasRoom, IsRoomOf}
+use Rattle.weight_judge.specs.Rooms.{AreNoRooms, AreRooms}
 
 -- ---- lists of claims
 
@@ -184,51 +184,72 @@ room_keeps xs (Some room) r = record {
   within = λ a h. (let k = r.kept a h in omega (arith, k));
 }
 
+-- no claims may be held
+pub kept_none : AreKept []
+kept_none = room_keeps [] None refl
+
 -- before the first claim each place has all its room
 pub rooms_none : (count : ℕ) (rooms : List (Option Room)) → AreNoRooms count rooms → AreRooms [] [] rooms
 rooms_none count rooms none = record { each = λ place. subst (IsRoomOf []) (sym (none.none place)) refl }
 
 module _ (claims : List Claim) (lists : List (List ℕ)) (whole : length lists ≡ length claims) (are : AreClaims claims)
   where
-    -- a claim more is taken
+    -- a claim more is taken from the room of a place that lights its cell; that of another place stays
+    pub room_more : (i : ℕ) (d : Claim) (old new : List (Option Room)) → i < length claims → (place : ℕ)
+        → IsRoomOf (held place (take i claims) (take i lists)) (room_at old place)
+        → (Contains (places_at lists i) place → TakesAt place (get_or claims i d) old new)
+        → ((¬ Contains (places_at lists i) place) → room_at new place ≡ room_at old place)
+        → IsRoomOf (held place (take (i + 1) claims) (take (i + 1) lists)) (room_at new place)
+    room_more i d old new lt place r here other = elim (has_or_not (places_at lists i) place) [
+      | inl lit ↦ (let at = here lit in
+          subst (IsRoomOf (held place (take (i + 1) claims) (take (i + 1) lists))) (sym at.1)
+          (subst (λ (l : List Claim). HasRoom l at.0) (sym (held_in claims lists whole i d lt place lit))
+          (room_takes (held place (take i claims) (take i lists)) (get_or claims i d) (room_at old place) at.0
+          (λ a h e. are.same a (get_or claims i d)
+          (from_take i claims a (held_from place (take i claims) (take i lists) a h))
+          (Contains-get_or claims i d lt) e) r at.2)))
+      | inr dark ↦ subst (λ (l : List Claim). IsRoomOf l (room_at new place))
+          (sym (held_out claims lists whole i d lt place dark))
+          (subst (IsRoomOf (held place (take i claims) (take i lists))) (sym (other dark)) r)
+    ] where
+      from_take : (i : ℕ) (xs : List Claim) (a : Claim) → Contains (take i xs) a → Contains xs a
+      from_take i xs a h = subst (λ (l : List Claim). Contains l a) (take-append-drop i xs)
+          (Contains-append_left (take i xs) (drop i xs) a h)
+
+    -- a claim more is taken from all rooms
     pub rooms_more : (i : ℕ) (d : Claim) (old new : List (Option Room)) → i < length claims
         → AreRooms (take i claims) (take i lists) old → AreTaken (places_at lists i) (get_or claims i d) old new
         → AreRooms (take (i + 1) claims) (take (i + 1) lists) new
     rooms_more i d old new lt r t = record {
-      each = λ place. elim (has_or_not (places_at lists i) place) [
-        | inl lit ↦ (let at = t.here place lit in
-            subst (IsRoomOf (held place (take (i + 1) claims) (take (i + 1) lists))) (sym at.1)
-            (subst (λ (l : List Claim). HasRoom l at.0) (sym (held_in claims lists whole i d lt place lit))
-            (room_takes (held place (take i claims) (take i lists)) (get_or claims i d) (room_at old place) at.0
-            (λ a h e. are.same a (get_or claims i d)
-            (from_take i claims a (held_from place (take i claims) (take i lists) a h))
-            (Contains-get_or claims i d lt) e) (r.each place) at.2)))
-        | inr dark ↦ subst (λ (l : List Claim). IsRoomOf l (room_at new place))
-            (sym (held_out claims lists whole i d lt place dark))
-            (subst (IsRoomOf (held place (take i claims) (take i lists))) (sym (t.others place dark)) (r.each place))
-      ];
-    } where
-      from_take : (i : ℕ) (xs : List Claim) (a : Claim) → Contains (take i xs) a → Contains xs a
-      from_take i xs a h = subst (λ (l : List Claim). Contains l a) (take-append-drop i xs)
-          (Contains-append_left (take i xs) (drop i xs) a h)
+      each = λ place. room_more i d old new lt place (r.each place) (t.here place) (t.others place);
+    }
+
+    -- where a place that lights the cell lacks room, it holds more than it may
+    pub room_lack : (i : ℕ) (d : Claim) (room : Option Room) → i < length claims → (place : ℕ)
+        → Contains (places_at lists i) place → IsRoomOf (held place (take i claims) (take i lists)) room
+        → LacksRoom (get_or claims i d) room → ¬ AreAllKept claims lists
+    room_lack i d room lt place lit r l all =
+        room_lacks (held place (take i claims) (take i lists)) (get_or claims i d) room r l
+        (subst AreKept (held_in claims lists whole i d lt place lit)
+        (kept_front (held place (take (i + 1) claims) (take (i + 1) lists))
+        (held place (drop (i + 1) claims) (drop (i + 1) lists))
+        (subst AreKept (held_front claims lists whole i d lt place) (all.each place))))
 
     -- where one of the places lacks room, some place holds more than it may
     pub rooms_lack : (i : ℕ) (d : Claim) (old : List (Option Room)) → i < length claims
         → AreRooms (take i claims) (take i lists) old → LackRoom (get_or claims i d) (places_at lists i) old
         → ¬ AreAllKept claims lists
-    rooms_lack i d old lt r l all = room_lacks (held l.0 (take i claims) (take i lists)) (get_or claims i d)
-        (room_at old l.0) (r.each l.0) l.2
-        (subst AreKept (held_in claims lists whole i d lt l.0 l.1)
-        (kept_front (held l.0 (take (i + 1) claims) (take (i + 1) lists))
-        (held l.0 (drop (i + 1) claims) (drop (i + 1) lists))
-        (subst AreKept (held_front claims lists whole i d lt l.0) (all.each l.0))))
+    rooms_lack i d old lt r l all = room_lack i d (room_at old l.0) lt l.0 l.1 (r.each l.0) l.2 all
 
-    -- after the last claim all may be held
+    -- after the last claim a place may hold its claims
+    pub room_all : (i : ℕ) (room : Option Room) → length claims ≤ i → (place : ℕ)
+        → IsRoomOf (held place (take i claims) (take i lists)) room → AreKept (held place claims lists)
+    room_all i room le place r = room_keeps (held place claims lists) room
+        (subst (λ (l : List Claim). IsRoomOf (held place l lists) room) (take_all i claims le)
+        (subst (λ (l : List (List ℕ)). IsRoomOf (held place (take i claims) l) room)
+        (take_all i lists (omega (arith, le, whole))) r))
+
+    -- and so may all
     pub rooms_all : (i : ℕ) (rooms : List (Option Room)) → length claims ≤ i
         → AreRooms (take i claims) (take i lists) rooms → AreAllKept claims lists
-    rooms_all i rooms le r = record {
-      each = λ place. room_keeps (held place claims lists) (room_at rooms place)
-          (subst (λ (l : List Claim). IsRoomOf (held place l lists) (room_at rooms place)) (take_all i claims le)
-          (subst (λ (l : List (List ℕ)). IsRoomOf (held place (take i claims) l) (room_at rooms place))
-          (take_all i lists (omega (arith, le, whole))) (r.each place)));
-    }
+    rooms_all i rooms le r = record { each = λ place. room_all i (room_at rooms place) le place (r.each place) }

@@ -1,6 +1,5 @@
 -- public clauses cite
 pub mod Claims
 pub mod Held
-pub mod Rows
--- private
 pub mod Rooms
+pub mod Rows

@@ -35,6 +35,12 @@ pub record IsTaken (place : ℕ) (claim : Claim) (old new : List (Option Room)) 
   pub others : (other : ℕ) → other ≢ place → room_at new other ≡ room_at old other
   pub here : TakesAt place claim old new
 
+-- the place lights no cell any more, and the others what they did
+pub record IsCleared (place : ℕ) (old new : List (Option Room)) : Type 0 where
+  pub whole : length new ≡ length old
+  pub here : room_at new place ≡ None
+  pub others : (other : ℕ) → other ≢ place → room_at new other ≡ room_at old other
+
 -- it was taken from the rooms of these places, and from no other
 pub record AreTaken (places : List ℕ) (claim : Claim) (old new : List (Option Room)) : Type 0 where
   pub whole : length new ≡ length old

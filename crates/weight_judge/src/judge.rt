@@ -6,7 +6,7 @@ ghost use Rattle.weight_judge.specs.Rooms.{AreNoRooms};
 
 use crate::claims::Claim;
 use crate::place_lists::PlaceLists;
-use crate::rooms::{Room, no_rooms, take_places};
+use crate::rooms::{Rooms, take_places};
 use std::alloc::{AllocError, Global};
 
 /// Whether no place lights more of a group than its capacity, and none lights cells of two groups. Each claim has the
@@ -22,13 +22,13 @@ pub fn keep_capacities(
     requires whole { length lists.now ≡ length claims.now }
     ensures { IfOk result (λ yes. IsTrue yes ↔ AreAllKept claims.now lists.now) }
 {
-    let mut rooms = no_rooms(alloc, count)?;
-    let kept = take_all(rooms.as_mut_slice(), claims, lists);
+    let mut rooms = Rooms::new(alloc, count)?;
+    let kept = take_all(&mut rooms, claims, lists);
     Ok(kept)
 }
 
 /// Takes all claims from rooms of which none lights a cell, if they have so much.
-fn take_all(rooms: &mut [Option<Room>], claims: &[Claim], lists: &PlaceLists) -> bool
+fn take_all(rooms: &mut Rooms, claims: &[Claim], lists: &PlaceLists) -> bool
     requires claims { AreClaims claims.now }
     requires lists { AreListsBelow (length rooms.old) lists.now }
     requires whole { length lists.now ≡ length claims.now }

@@ -13,3 +13,4 @@ pub use claims::{Claim, claims_of};
 pub use judge::keep_capacities;
 pub use needed::places_for_all;
 pub use place_lists::PlaceLists;
+pub use rooms::Rooms;

@@ -1,10 +1,12 @@
 //! What each place may still light of the group whose cells it lights.
 ghost use Rattle.std.specs.Prelude.{◌≡◌, ◌<◌, All, length, Some, None, IfOk, MatchBool, MatchOption};
 ghost use Rattle.cave_model.specs.Plan.{AreDistinct};
-ghost use Rattle.weight_judge.specs.Rooms.{AreNoRooms, AreTaken, IsTaken, LackRoom, LacksRoom, Takes, room_at};
+ghost use Rattle.weight_judge.specs.Rooms.{AreNoRooms, AreTaken, IsCleared, IsTaken, LackRoom, LacksRoom, Takes};
+ghost use Rattle.weight_judge.specs.Rooms.{room_at};
 
 use crate::claims::Claim;
 use std::alloc::{AllocError, Global};
+use std::marker::Model;
 
 /// The one group of which a place lights cells, and how much more of its weight the place may light.
 #[derive(Clone, Copy)]
@@ -12,17 +14,6 @@ pub struct Room {
     /// By its index.
     pub group: usize,
     pub left: u32,
-}
-
-/// So many places that light no cell.
-pub fn no_rooms(alloc: Global, count: usize) -> Result<Vec<Option<Room>>, AllocError>
-    ensures { IfOk result (λ rooms. AreNoRooms count rooms.items) }
-{
-    let mut rooms = Vec::new(alloc);
-    for _ in 0..count {
-        rooms.push(None)?;
-    }
-    Ok(rooms)
 }
 
 /// The room of a place that lights its first cell, that of the claim.
@@ -66,30 +57,64 @@ fn room_after(room: Option<Room>, claim: Claim) -> Option<Room>
     }
 }
 
-/// Takes the claim's weight from the room of a place, if that has so much.
-fn take_place(rooms: &mut [Option<Room>], place: usize, claim: Claim) -> bool
-    requires inside { place < length rooms.old }
-    ensures { MatchBool result (IsTaken place claim rooms.old rooms.new)
-        (LacksRoom claim (room_at rooms.old place)) }
-{
-    match room_after(rooms[place], claim) {
-        None => false,
-        Some(room) => {
-            rooms[place] = Some(room);
-            true
+/// For each place of a box what it may still light of the group whose cells it lights.
+#[derive(Drop)]
+pub struct Rooms {
+    /// By the number of the place; None where it lights no cell.
+    rooms: Vec<Option<Room>>,
+}
+
+impl Model for Rooms {
+    ghost use Rattle.std.specs.Prelude.{List, Option};
+    ghost use Rattle.weight_judge.specs.declared.rooms.Room.{Room};
+
+    ghost Value = { List (Option Room) };
+
+    ghost view = { λ r. r.rooms.items };
+}
+
+impl Rooms {
+    /// So many places that light no cell.
+    pub fn new(alloc: Global, count: usize) -> Result<Rooms, AllocError>
+        ensures { IfOk result (AreNoRooms count) }
+    {
+        let rooms = vec![in alloc; None; count]?;
+        Ok(Rooms { rooms })
+    }
+
+    /// Takes the claim's weight from the room of a place, if that has so much.
+    pub fn take(&mut self, place: u32, claim: Claim) -> bool
+        requires inside { place < length self.old }
+        ensures { MatchBool result (IsTaken place claim self.old self.new)
+            (LacksRoom claim (room_at self.old place) × self.new ≡ self.old) }
+    {
+        match room_after(self.rooms[place as usize], claim) {
+            None => false,
+            Some(room) => {
+                self.rooms[place as usize] = Some(room);
+                true
+            }
         }
+    }
+
+    /// The place lights no cell any more.
+    pub fn clear(&mut self, place: u32)
+        requires inside { place < length self.old }
+        ensures { IsCleared place self.old self.new }
+    {
+        self.rooms[place as usize] = None;
     }
 }
 
 /// Takes the claim's weight from the rooms of the places that light its cell, if all have so much.
-pub fn take_places(rooms: &mut [Option<Room>], places: &[u32], claim: Claim) -> bool
+pub fn take_places(rooms: &mut Rooms, places: &[u32], claim: Claim) -> bool
     requires inside { All (λ place. place < length rooms.old) places.now }
     requires once { AreDistinct places.now }
     ensures { MatchBool result (AreTaken places.now claim rooms.old rooms.new)
         (LackRoom claim places.now rooms.old) }
 {
     for place in places {
-        if !take_place(rooms, *place as usize, claim) {
+        if !rooms.take(*place, claim) {
             return false;
         }
     }

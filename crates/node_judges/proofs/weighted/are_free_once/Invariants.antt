@@ -1,4 +1,4 @@
-use Rattle.std.proofs.Common.{◌≡◌, ◌<◌, length, take, All}
+use Rattle.std.proofs.Common.{◌≡◌, ◌<◌, ◌++◌, length, take, All}
 use Rattle.proof_rules.specs.Omitted.{left_without}
 use Rattle.node_judges.specs.Weighed.{cells_claimed, AreFreeOnce}
 use Rattle.node_judges.proofs.weighted.are_free_once.Given as goal
@@ -6,7 +6,7 @@ use Rattle.node_judges.proofs.weighted.are_free_once.Given as goal
 abbrev pub invariant-loop-claim : goal.invariant-loop-claim
 invariant-loop-claim l = record {
   whole : length l.seen.counts ≡ length l.fn.seen.counts;
-  seen : l.seen.items ≡ cells_claimed (take l.claim-index l.claims);
+  seen : l.seen.items ≡ l.initial.seen.items ++ cells_claimed (take l.claim-index l.claims);
   once : AreFreeOnce l.lists (left_without l.omitted.items l.region.items) l.chosen.items
       (cells_claimed (take l.claim-index l.claims));
   below : All (λ cell. cell < length l.fn.seen.counts) (cells_claimed (take l.claim-index l.claims));

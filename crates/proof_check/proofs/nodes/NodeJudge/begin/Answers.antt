@@ -8,6 +8,7 @@ returns c = record {
         ∙ ap (λ (l : List ℕ). l ++ c.args.cells.now) c.cut.ensures.items;
     whole = c.in_ok-mark.ensures.whole ∙ c.cut.ensures.whole;
     seen = refl;
+    rooms = refl;
     track = refl;
     floor = refl;
     weak = refl;
