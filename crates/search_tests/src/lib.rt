@@ -19,6 +19,8 @@ mod gathered;
 #[cfg(test)]
 mod kids;
 #[cfg(test)]
+mod omissions;
+#[cfg(test)]
 mod pieces;
 #[cfg(test)]
 mod rings;

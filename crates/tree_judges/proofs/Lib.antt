@@ -4,3 +4,4 @@ pub mod KidLemmas
 pub mod ThinLemmas
 pub mod OpenLemmas
 pub mod WeightedLemmas
+pub mod OmissionLemmas

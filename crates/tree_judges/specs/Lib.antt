@@ -3,4 +3,5 @@ pub mod Bars
 pub mod Kids
 pub mod Thinning
 -- private
+pub mod Omission
 pub mod Weighted

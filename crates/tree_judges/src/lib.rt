@@ -4,6 +4,7 @@
 
 mod bars;
 mod numbering;
+mod omission;
 mod open_lists;
 mod thinning;
 mod tree_judge;

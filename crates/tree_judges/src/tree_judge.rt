@@ -1,11 +1,13 @@
 //! Judging a whole tree, as a copied or a pruned one.
 ghost use Rattle.std.specs.Prelude.{◌≡◌, IsTrue, IfOk, length};
-ghost use Rattle.set_cover.specs.Bits.{Has};
+ghost use Rattle.set_cover.specs.Bits.{Has, IsWithout};
 ghost use Rattle.proof_tree.specs.Shape.{tree_of, forest_of};
 ghost use Rattle.pack_bound.specs.Nodes.{IsStateOf, Closes};
 ghost use Rattle.pack_bound.specs.Judged.{AreKidPlaces};
 ghost use Rattle.tree_judges.specs.Kids.{ClosesKids};
+ghost use Rattle.tree_judges.specs.Omission.{ClosesWithout};
 
+use crate::omission::{avoids, is_bar_over, may_be_omitted, omitted_row, unlit_without};
 use crate::weighted_leaf::is_weighted_leaf;
 use cave_regions::Region;
 use pack_bound::{Node, is_bar, is_leaf, open_places};
@@ -52,7 +54,51 @@ pub fn is_good(
             let good = is_good(alloc, region, node, kid.tree(), floor)?;
             Ok(good)
         }
-        Proof::Omit { .. } => Ok(false),
+        Proof::Omit { cells, kid } => {
+            if !may_be_omitted(region, cells.as_slice()) {
+                return Ok(false);
+            }
+            let omitted = omitted_row(alloc, region, cells.as_slice())?;
+            let left = unlit_without(alloc, node, &omitted)?;
+            let good = is_good_without(alloc, region, node, &omitted, &left, kid.tree(), floor)?;
+            Ok(good)
+        }
+    }
+}
+
+/// Whether the tree closes what is left without the cells of a row, at the floor. The places that it leaves out first
+/// are judged without these cells; what stands below them closes all that is left, and speaks of none of these cells.
+/// The node is used up.
+#[cycle(judging)]
+fn is_good_without(
+    alloc: Global,
+    region: &Region,
+    node: &mut Node,
+    omitted: &[u64],
+    left: &[u64],
+    tree: &Proof,
+    floor: u64,
+) -> Result<bool, AllocError>
+    requires state { IsStateOf region.now node.old }
+    requires left { IsWithout node.old.unlit omitted.now left.now }
+    ensures { IfOk result (λ yes. IsTrue yes → ClosesWithout region.now node.old omitted.now floor (tree_of tree.now)) }
+{
+    match tree {
+        Proof::Bar { place, by, kid } => {
+            if !is_bar_over(region, node, left, *place, *by) {
+                return Ok(false);
+            }
+            node.bar(*place);
+            let good = is_good_without(alloc, region, node, omitted, left, kid.tree(), floor)?;
+            Ok(good)
+        }
+        _ => {
+            if !avoids(tree, omitted) {
+                return Ok(false);
+            }
+            let good = is_good(alloc, region, node, tree, floor)?;
+            Ok(good)
+        }
     }
 }
 

@@ -1,10 +1,13 @@
-use Rattle.std.proofs.Common.{take}
+use Rattle.std.proofs.Common.{take, ◌+◌}
 use Rattle.proof_tree.specs.Shape.{tree_of, forest_of, tree_size, forest_size}
 use Rattle.tree_judges.specs.Kids.{KidsSoFar}
 use Rattle.tree_judges.proofs.tree_judge.+judging.Given as goal
 
 abbrev pub decreases-is_good : goal.decreases-is_good
 decreases-is_good l = tree_size (tree_of l.tree.now)
+
+abbrev pub decreases-is_good_without : goal.decreases-is_good_without
+decreases-is_good_without l = tree_size (tree_of l.tree.now) + 1
 
 abbrev pub decreases-are_good : goal.decreases-are_good
 decreases-are_good l = forest_size (forest_of l.trees.now)
