@@ -3,6 +3,7 @@
 //! is promised of it but that it ends and stays in bounds: judges accept or refuse what is made of it.
 #![tactic(auto)]
 
+mod fewer_cells;
 mod fixed_point;
 mod relaxation;
 mod rounding;

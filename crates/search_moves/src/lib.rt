@@ -7,8 +7,11 @@ mod barring;
 mod branching;
 mod carrying;
 mod groups;
+mod lessening;
 mod moves;
+mod needless_kids;
 mod pruning;
+mod spoken;
 mod strategy;
 
 pub use moves::Moves;

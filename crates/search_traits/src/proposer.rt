@@ -42,8 +42,14 @@ pub trait Strategy: Proposer + Drop {
     fn at(alloc: Global, region: &Region, node: &Node) -> Result<Self, AllocError>
         requires { IsStateOf region.now node.now };
 
-    /// The tree, or a shorter one, both by indices.
-    fn shortened(&self, alloc: Global, region: &Region, tree: &Proof) -> Result<Proof, AllocError>;
+    /// The tree of a node, or a shorter one, both by indices.
+    fn shortened(
+        &self,
+        alloc: Global,
+        region: &Region,
+        node: &Node,
+        tree: &Proof,
+    ) -> Result<Proof, AllocError>;
 
     /// The places of the region that it can do without, left out of the others: those that stay, ascending, by their
     /// indices.

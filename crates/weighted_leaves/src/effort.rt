@@ -4,6 +4,9 @@
 /// How many nodes a search has before it is long.
 const SHORT_SEARCH: u64 = 400;
 
+/// How many nodes it has before its leaves are made short.
+const SHORT_TREE: u64 = 64;
+
 /// How many runs of steps there are at the first node, below it, and in a long search.
 const FIRST_RUNS: u32 = 16;
 
@@ -17,6 +20,8 @@ const LONG_RUNS: u32 = 24;
 pub(crate) struct Effort {
     pub runs: u32,
     pub is_long: bool,
+    /// Whether leaves are made short.
+    pub is_brief: bool,
 }
 
 impl Effort {
@@ -26,12 +31,14 @@ impl Effort {
             return Effort {
                 runs: FIRST_RUNS,
                 is_long: false,
+                is_brief: false,
             };
         }
         let is_long = nodes >= SHORT_SEARCH;
         Effort {
             runs: if is_long { LONG_RUNS } else { RUNS },
             is_long,
+            is_brief: nodes >= SHORT_TREE,
         }
     }
 }

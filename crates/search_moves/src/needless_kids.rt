@@ -1,0 +1,159 @@
+//! Kids that a finished branch can do without. Where a kid's place lights, of the cells that the trees of the other
+//! kids speak of, only such as the place of another kid lights too, the rest of what it lights is left out above the
+//! branch, and then the place for the other one. Weights stand on few of the cells, so that in a long search many kids
+//! go (this project's own). Where no leaf is weighted a branch keeps its kids: earlier versions of the certificate,
+//! which know no cells that are left out, can say it.
+
+use crate::spoken::Spoken;
+use cave_regions::Region;
+use instance_reduction::{InRegion, ReducedInstance, has_each, is_set, keep_all, set_bit};
+use proof_tree::Proof;
+use std::alloc::{AllocError, Global};
+use tree_judges::Bar;
+
+/// A region, and its reduced instance.
+#[derive(Clone, Copy)]
+pub(crate) struct Site<'a> {
+    pub region: &'a Region,
+    pub instance: &'a ReducedInstance,
+}
+
+/// Rows of the cells that are unlit at a node, and of the places that are barred there.
+#[derive(Drop)]
+pub(crate) struct Left {
+    pub unlit: Vec<u64>,
+    pub barred: Vec<u64>,
+}
+
+/// A tree, and what it speaks of.
+#[derive(Drop)]
+pub(crate) struct Told {
+    pub tree: Proof,
+    pub spoken: Spoken,
+}
+
+/// Which kids of a branch can go, the places to leave out for that, and a row of the cells.
+#[derive(Drop)]
+pub(crate) struct Needless {
+    pub is_gone: Vec<bool>,
+    pub bars: Vec<Bar>,
+    pub cells: Vec<u64>,
+}
+
+impl<'a> Site<'a> {
+    /// The kids of a branch that it can do without, the longest trees first.
+    pub(crate) fn needless(
+        self,
+        alloc: Global,
+        left: &Left,
+        cell: u32,
+        places: &[u32],
+        kids: &[Told],
+    ) -> Result<Needless, AllocError> {
+        let mut found = Needless {
+            is_gone: vec![in alloc; false; kids.len()]?,
+            bars: Vec::new(alloc),
+            cells: vec![in alloc; 0u64; left.unlit.len()]?,
+        };
+        if places.len() != kids.len() || !has_weights(kids) {
+            return Ok(found);
+        }
+        let mut order = Vec::with_capacity(alloc, kids.len())?;
+        for (index, kid) in kids.iter().enumerate() {
+            order.push((u64::MAX - kid.spoken.size(), index))?;
+        }
+        order.sort_unstable();
+        for _ in 0..kids.len() {
+            let before = found.bars.len();
+            for (_, index) in &order {
+                self.try_without(alloc, left, cell, places, kids, *index, &mut found)?;
+            }
+            if found.bars.len() == before {
+                break;
+            }
+        }
+        Ok(found)
+    }
+
+    /// Lets a kid go, if the branch can do without it.
+    fn try_without(
+        self,
+        alloc: Global,
+        left: &Left,
+        cell: u32,
+        places: &[u32],
+        kids: &[Told],
+        index: usize,
+        found: &mut Needless,
+    ) -> Result<(), AllocError> {
+        let place = places.get(index).copied().unwrap_or(u32::MAX);
+        if found.is_gone_at(index) || is_needed(kids, &found.is_gone, index, place) {
+            return Ok(());
+        }
+        let mut rest = vec![in alloc; 0u64; left.unlit.len()]?;
+        for (other, kid) in kids.iter().enumerate() {
+            if other != index && !found.is_gone_at(other) {
+                kid.spoken.write_cells(rest.as_mut_slice());
+            }
+        }
+        set_bit(rest.as_mut_slice(), cell as usize);
+        keep_all(rest.as_mut_slice(), &left.unlit);
+        let lit = self.instance.spread(InRegion::of(place));
+        for (other, by) in places.iter().enumerate() {
+            let by = *by;
+            if other != index
+                && !found.is_gone_at(other)
+                && (by as usize) < self.region.places().len()
+                && has_each(self.region.row_at(by as usize), &rest, lit)
+            {
+                found.bars.push(Bar { place, by })?;
+                let row = self.region.row_at(by as usize);
+                for cell in lit {
+                    let cell = *cell as usize;
+                    if is_set(&left.unlit, cell) && !is_set(row, cell) {
+                        set_bit(found.cells.as_mut_slice(), cell);
+                    }
+                }
+                found.go(index);
+                return Ok(());
+            }
+        }
+        Ok(())
+    }
+}
+
+impl Needless {
+    fn is_gone_at(&self, index: usize) -> bool {
+        self.is_gone.get(index).copied().unwrap_or(false)
+    }
+
+    fn go(&mut self, index: usize) {
+        let is_gone = self.is_gone.as_mut_slice();
+        if index < is_gone.len() {
+            is_gone[index] = true;
+        }
+    }
+}
+
+/// Whether a leaf of one of the trees is weighted.
+fn has_weights(kids: &[Told]) -> bool {
+    for kid in kids {
+        if kid.spoken.has_weights() {
+            return true;
+        }
+    }
+    false
+}
+
+/// Whether the place mustn't be barred above the tree of one of the kids before this one that stay.
+fn is_needed(kids: &[Told], is_gone: &[bool], index: usize, place: u32) -> bool {
+    for (other, kid) in kids.iter().enumerate() {
+        if other < index
+            && !is_gone.get(other).copied().unwrap_or(false)
+            && kid.spoken.has_place(place)
+        {
+            return true;
+        }
+    }
+    false
+}

@@ -1,0 +1,89 @@
+//! What a finished tree speaks of, by the indices of cells and places in the region.
+
+use cave_regions::Region;
+use instance_reduction::{is_set, join_into, set_bit};
+use proof_rules::Group;
+use std::alloc::{AllocError, Global};
+
+/// What a tree speaks of, how long it is, and whether one of its leaves is weighted.
+#[derive(Drop)]
+pub(crate) struct Spoken {
+    /// A row of the cells that it lists, branches on or leaves out.
+    cells: Vec<u64>,
+    /// A row of the places that mustn't be barred above it: those of its bars and of the kids of its branches.
+    places: Vec<u64>,
+    /// How many cells it lists.
+    size: u64,
+    has_weights: bool,
+}
+
+impl Spoken {
+    /// Nothing.
+    pub(crate) fn none(alloc: Global, region: &Region) -> Result<Spoken, AllocError> {
+        Ok(Spoken {
+            cells: vec![in alloc; 0u64; region.width()]?,
+            places: vec![in alloc; 0u64; region.places().len() / 64 + 1]?,
+            size: 0,
+            has_weights: false,
+        })
+    }
+
+    pub(crate) fn size(&self) -> u64 {
+        self.size
+    }
+
+    pub(crate) fn has_weights(&self) -> bool {
+        self.has_weights
+    }
+
+    /// Whether the place mustn't be barred above the tree.
+    pub(crate) fn has_place(&self, place: u32) -> bool {
+        is_set(&self.places, place as usize)
+    }
+
+    /// Adds the cells to a row.
+    pub(crate) fn write_cells(&self, row: &mut [u64]) {
+        join_into(row, 0, &self.cells);
+    }
+
+    pub(crate) fn add_cells(&mut self, cells: &[u32]) {
+        for cell in cells {
+            self.add_cell(*cell);
+        }
+    }
+
+    pub(crate) fn add_groups(&mut self, groups: &[Group]) {
+        for group in groups {
+            for share in group.shares.as_slice() {
+                self.add_cell(share.cell);
+            }
+        }
+        self.has_weights = true;
+    }
+
+    fn add_cell(&mut self, cell: u32) {
+        set_bit(self.cells.as_mut_slice(), cell as usize);
+        self.size = self.size.saturating_add(1);
+    }
+
+    pub(crate) fn add_bar(&mut self, place: u32, by: u32) {
+        set_bit(self.places.as_mut_slice(), place as usize);
+        set_bit(self.places.as_mut_slice(), by as usize);
+    }
+
+    /// Adds a branch on a cell that these places light.
+    pub(crate) fn add_branch(&mut self, cell: u32, places: &[u32]) {
+        self.add_cell(cell);
+        for place in places {
+            set_bit(self.places.as_mut_slice(), *place as usize);
+        }
+    }
+
+    /// Adds what another tree speaks of.
+    pub(crate) fn join(&mut self, other: &Spoken) {
+        join_into(self.cells.as_mut_slice(), 0, &other.cells);
+        join_into(self.places.as_mut_slice(), 0, &other.places);
+        self.size = self.size.saturating_add(other.size);
+        self.has_weights = self.has_weights || other.has_weights;
+    }
+}
