@@ -8,7 +8,9 @@ mod fixed_point;
 mod relaxation;
 mod rounding;
 mod runs;
+mod whole_weights;
 
 pub use fixed_point::{BITS, ONE, add_at, at, most_at, ones};
 pub use relaxation::Relaxation;
-pub use rounding::{left_out, places_for, whole};
+pub use rounding::places_for;
+pub use whole_weights::WholeWeights;

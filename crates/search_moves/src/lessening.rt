@@ -1,15 +1,17 @@
 //! Finished trees without the kids that their branches can do without.
 
 use crate::groups::copied_groups;
-use crate::needless_kids::{Left, Needless, Site, Told};
+use crate::needless_kids::{Needless, NodeRows, RegionInstance, Told};
 use crate::pruning::{bars_above, copied};
 use crate::spoken::Spoken;
 use cave_regions::Region;
-use instance_reduction::{InRegion, ReducedInstance, bits_of, clear_bit, is_set, set_bit};
+use instance_reduction::{
+    InRegion, ReducedInstance, bits_of, clear_bit, drop_all, is_set, set_bit,
+};
 use pack_bound::Node;
 use proof_tree::{Below, Cells, Kids, Proof};
 use std::alloc::{AllocError, Global};
-use tree_judges::wrap;
+use tree_judges::{Bar, wrap};
 
 /// A copy of the tree of a node without the kids that its branches can do without.
 pub(crate) fn without_needless_kids(
@@ -19,32 +21,32 @@ pub(crate) fn without_needless_kids(
     node: &Node,
     tree: &Proof,
 ) -> Result<Proof, AllocError> {
-    let site = Site { region, instance };
-    let left = Left {
+    let site = RegionInstance { region, instance };
+    let left = NodeRows {
         unlit: Vec::from_slice(alloc, node.unlit())?,
         barred: Vec::from_slice(alloc, node.barred())?,
+        gone: vec![in alloc; 0u64; node.barred().len()]?,
     };
-    let told = lessened(alloc, site, left, tree, region.places().len())?;
+    let told = lessened(alloc, site, left, tree, region.places().len(), true)?;
     let Told { tree, spoken: _ } = told;
     Ok(tree)
 }
 
-/// The tree of a node without needless kids, if it isn't deeper than there is room.
+/// The tree of a node without what says of places that are gone and of cells that are left out above, if it isn't
+/// deeper than there is room; and without needless kids, where such are looked for.
 #[cycle(lessening)]
 fn lessened(
     alloc: Global,
-    site: Site<'_>,
-    left: Left,
+    site: RegionInstance<'_>,
+    left: NodeRows,
     tree: &Proof,
     room: usize,
+    is_first: bool,
 ) -> Result<Told, AllocError> {
     let mut left = left;
     let mut spoken = Spoken::none(alloc, site.region)?;
     let (bars, rest) = bars_above(alloc, tree)?;
-    for bar in &bars {
-        set_bit(left.barred.as_mut_slice(), bar.place as usize);
-        spoken.add_bar(bar.place, bar.by);
-    }
+    let bars = left.take_bars(alloc, &bars, &mut spoken)?;
     if room == 0 {
         return Ok(Told {
             tree: copied(alloc, &[])?,
@@ -53,23 +55,28 @@ fn lessened(
     }
     let bare = match rest {
         Proof::Branch { cell, kids } => {
-            let kids = all_lessened(alloc, site, &left, *cell, kids.trees(), room - 1)?;
-            site.branch(alloc, &left, *cell, kids, &mut spoken)?
+            let places = site.open_at(alloc, &left, *cell)?;
+            let trees = kids.trees();
+            let told = all_lessened(alloc, site, &left, &places, trees, room - 1, is_first)?;
+            let needless = site.needless(alloc, &left, *cell, &places, &told, is_first)?;
+            let kids = if needless.bars.is_empty() {
+                told
+            } else {
+                let trees = trees_of(alloc, told)?;
+                left.leave_out(&needless);
+                all_lessened(alloc, site, &left, &places, &trees, room - 1, false)?
+            };
+            branch(alloc, *cell, kids, needless, &mut spoken)?
         }
         Proof::Omit { cells, kid } => {
-            for cell in cells.as_slice() {
-                clear_bit(left.unlit.as_mut_slice(), *cell as usize);
-            }
+            let cells = left.omit(alloc, cells.as_slice())?;
+            let told = lessened(alloc, site, left, kid.tree(), room - 1, is_first)?;
             let Told {
                 tree,
                 spoken: below,
-            } = lessened(alloc, site, left, kid.tree(), room - 1)?;
+            } = told;
             spoken.join(&below);
-            spoken.add_cells(cells.as_slice());
-            Proof::Omit {
-                cells: Cells::of(Vec::from_slice(alloc, cells.as_slice())?),
-                kid: Below::of(alloc, tree)?,
-            }
+            omitted(alloc, cells, tree)?
         }
         Proof::Leaf(cells) => {
             spoken.add_cells(cells.as_slice());
@@ -85,37 +92,40 @@ fn lessened(
     Ok(Told { tree, spoken })
 }
 
-/// The same for each tree of a branch on a cell.
+/// The same for each tree of a branch, whose kids have these places, but for those that are gone.
 #[cycle(lessening)]
 fn all_lessened(
     alloc: Global,
-    site: Site<'_>,
-    left: &Left,
-    cell: u32,
+    site: RegionInstance<'_>,
+    left: &NodeRows,
+    places: &[u32],
     trees: &[Proof],
     room: usize,
+    is_first: bool,
 ) -> Result<Vec<Told>, AllocError> {
-    let places = site.open_at(alloc, left, cell)?;
     let mut barred = Vec::from_slice(alloc, &left.barred)?;
     let mut found = Vec::with_capacity(alloc, trees.len())?;
     for index in 0..trees.len() {
         let place = places.get(index).copied().unwrap_or(u32::MAX);
-        let mut below = Left {
-            unlit: Vec::from_slice(alloc, &left.unlit)?,
-            barred: Vec::from_slice(alloc, &barred)?,
-        };
-        for lit in site.instance.spread(InRegion::of(place)) {
-            clear_bit(below.unlit.as_mut_slice(), *lit as usize);
+        if !is_set(&left.gone, place as usize) {
+            let mut below = NodeRows {
+                unlit: Vec::from_slice(alloc, &left.unlit)?,
+                barred: Vec::from_slice(alloc, &barred)?,
+                gone: Vec::from_slice(alloc, &left.gone)?,
+            };
+            for lit in site.instance.spread(InRegion::of(place)) {
+                clear_bit(below.unlit.as_mut_slice(), *lit as usize);
+            }
+            found.push(lessened(alloc, site, below, &trees[index], room, is_first)?)?;
         }
-        found.push(lessened(alloc, site, below, &trees[index], room)?)?;
         set_bit(barred.as_mut_slice(), place as usize);
     }
     Ok(found)
 }
 
-impl<'a> Site<'a> {
+impl<'a> RegionInstance<'a> {
     /// The places that light a cell and aren't barred: those of the kids of a branch on it.
-    fn open_at(self, alloc: Global, left: &Left, cell: u32) -> Result<Vec<u32>, AllocError> {
+    fn open_at(self, alloc: Global, left: &NodeRows, cell: u32) -> Result<Vec<u32>, AllocError> {
         let mut open = Vec::new(alloc);
         for place in self.instance.sources(InRegion::of(cell)) {
             if !is_set(&left.barred, *place as usize) {
@@ -124,50 +134,91 @@ impl<'a> Site<'a> {
         }
         Ok(open)
     }
+}
 
-    /// The branch on a cell without the kids that it can do without. What the tree speaks of gains what it does.
-    fn branch(
-        self,
+impl NodeRows {
+    /// Bars the places. Those of the bars whose places aren't gone: the tree speaks of what these go by.
+    fn take_bars(
+        &mut self,
         alloc: Global,
-        left: &Left,
-        cell: u32,
-        kids: Vec<Told>,
+        bars: &[Bar],
         spoken: &mut Spoken,
-    ) -> Result<Proof, AllocError> {
-        let places = self.open_at(alloc, left, cell)?;
-        let needless = self.needless(alloc, left, cell, &places, &kids)?;
-        let Needless {
-            is_gone,
-            bars,
-            cells,
-        } = needless;
-        let mut trees = Vec::new(alloc);
-        let mut index: usize = 0;
-        for kid in kids {
-            let Told {
-                tree,
-                spoken: below,
-            } = kid;
-            if !is_gone.get(index).copied().unwrap_or(false) {
-                spoken.join(&below);
-                trees.push(tree)?;
+    ) -> Result<Vec<Bar>, AllocError> {
+        let mut kept = Vec::new(alloc);
+        for bar in bars {
+            set_bit(self.barred.as_mut_slice(), bar.place as usize);
+            if !is_set(&self.gone, bar.place as usize) {
+                spoken.add_by(bar.by);
+                kept.push(*bar)?;
             }
-            index = index.saturating_add(1);
         }
-        spoken.add_branch(cell, self.instance.sources(InRegion::of(cell)));
-        for bar in &bars {
-            spoken.add_bar(bar.place, bar.by);
-        }
-        let omitted = bits_of(alloc, &cells)?;
-        spoken.add_cells(&omitted);
-        let kids = Kids::of(trees);
-        let tree = wrap(alloc, bars, Proof::Branch { cell, kids })?;
-        if omitted.is_empty() {
-            return Ok(tree);
-        }
-        Ok(Proof::Omit {
-            cells: Cells::of(omitted),
-            kid: Below::of(alloc, tree)?,
-        })
+        Ok(kept)
     }
+
+    /// Leaves out the cells. Those of them that weren't left out above.
+    fn omit(&mut self, alloc: Global, cells: &[u32]) -> Result<Vec<u32>, AllocError> {
+        let mut found = Vec::new(alloc);
+        for cell in cells {
+            if is_set(&self.unlit, *cell as usize) {
+                clear_bit(self.unlit.as_mut_slice(), *cell as usize);
+                found.push(*cell)?;
+            }
+        }
+        Ok(found)
+    }
+
+    /// Leaves out the places and cells for which kids go.
+    fn leave_out(&mut self, needless: &Needless) {
+        for bar in &needless.bars {
+            set_bit(self.gone.as_mut_slice(), bar.place as usize);
+        }
+        drop_all(self.unlit.as_mut_slice(), &needless.cells);
+    }
+}
+
+/// The branch on a cell below what is left out for it. What the tree speaks of gains what it does; cells that it leaves
+/// out aren't spoken of.
+fn branch(
+    alloc: Global,
+    cell: u32,
+    kids: Vec<Told>,
+    needless: Needless,
+    spoken: &mut Spoken,
+) -> Result<Proof, AllocError> {
+    for kid in &kids {
+        spoken.join(&kid.spoken);
+    }
+    spoken.add_cell(cell);
+    for bar in &needless.bars {
+        spoken.add_by(bar.by);
+    }
+    let Needless {
+        is_gone: _,
+        bars,
+        cells,
+    } = needless;
+    let kids = Kids::of(trees_of(alloc, kids)?);
+    let tree = wrap(alloc, bars, Proof::Branch { cell, kids })?;
+    omitted(alloc, bits_of(alloc, &cells)?, tree)
+}
+
+/// The tree below cells that are left out, if any are.
+fn omitted(alloc: Global, cells: Vec<u32>, tree: Proof) -> Result<Proof, AllocError> {
+    if cells.is_empty() {
+        return Ok(tree);
+    }
+    Ok(Proof::Omit {
+        cells: Cells::of(cells),
+        kid: Below::of(alloc, tree)?,
+    })
+}
+
+/// The trees alone.
+fn trees_of(alloc: Global, kids: Vec<Told>) -> Result<Vec<Proof>, AllocError> {
+    let mut trees = Vec::with_capacity(alloc, kids.len())?;
+    for kid in kids {
+        let Told { tree, spoken: _ } = kid;
+        trees.push(tree)?;
+    }
+    Ok(trees)
 }

@@ -13,16 +13,18 @@ use tree_judges::Bar;
 
 /// A region, and its reduced instance.
 #[derive(Clone, Copy)]
-pub(crate) struct Site<'a> {
+pub(crate) struct RegionInstance<'a> {
     pub region: &'a Region,
     pub instance: &'a ReducedInstance,
 }
 
-/// Rows of the cells that are unlit at a node, and of the places that are barred there.
+/// Rows of the cells that are unlit at a node and not left out, of the places that are barred there, and of those that
+/// are, though the tree doesn't know it.
 #[derive(Drop)]
-pub(crate) struct Left {
+pub(crate) struct NodeRows {
     pub unlit: Vec<u64>,
     pub barred: Vec<u64>,
+    pub gone: Vec<u64>,
 }
 
 /// A tree, and what it speaks of.
@@ -40,22 +42,23 @@ pub(crate) struct Needless {
     pub cells: Vec<u64>,
 }
 
-impl<'a> Site<'a> {
-    /// The kids of a branch that it can do without, the longest trees first.
+impl<'a> RegionInstance<'a> {
+    /// The kids of a branch that it can do without, the longest trees first; none where they aren't looked for.
     pub(crate) fn needless(
         self,
         alloc: Global,
-        left: &Left,
+        left: &NodeRows,
         cell: u32,
         places: &[u32],
         kids: &[Told],
+        is_first: bool,
     ) -> Result<Needless, AllocError> {
         let mut found = Needless {
             is_gone: vec![in alloc; false; kids.len()]?,
             bars: Vec::new(alloc),
             cells: vec![in alloc; 0u64; left.unlit.len()]?,
         };
-        if places.len() != kids.len() || !has_weights(kids) {
+        if !is_first || places.len() != kids.len() || !has_weights(kids) {
             return Ok(found);
         }
         let mut order = Vec::with_capacity(alloc, kids.len())?;
@@ -79,7 +82,7 @@ impl<'a> Site<'a> {
     fn try_without(
         self,
         alloc: Global,
-        left: &Left,
+        left: &NodeRows,
         cell: u32,
         places: &[u32],
         kids: &[Told],
@@ -145,12 +148,13 @@ fn has_weights(kids: &[Told]) -> bool {
     false
 }
 
-/// Whether the place mustn't be barred above the tree of one of the kids before this one that stay.
+/// Whether the place mustn't be barred above the tree of one of the kids before this one that stay. Where it is the
+/// place of a kid there, that one goes with it.
 fn is_needed(kids: &[Told], is_gone: &[bool], index: usize, place: u32) -> bool {
     for (other, kid) in kids.iter().enumerate() {
         if other < index
             && !is_gone.get(other).copied().unwrap_or(false)
-            && kid.spoken.has_place(place)
+            && kid.spoken.has_by(place)
         {
             return true;
         }

@@ -8,10 +8,10 @@ use std::alloc::{AllocError, Global};
 /// What a tree speaks of, how long it is, and whether one of its leaves is weighted.
 #[derive(Drop)]
 pub(crate) struct Spoken {
-    /// A row of the cells that it lists, branches on or leaves out.
+    /// A row of the cells that it lists or branches on.
     cells: Vec<u64>,
-    /// A row of the places that mustn't be barred above it: those of its bars and of the kids of its branches.
-    places: Vec<u64>,
+    /// A row of the places that others are left out for: they mustn't be barred above it.
+    bys: Vec<u64>,
     /// How many cells it lists.
     size: u64,
     has_weights: bool,
@@ -22,7 +22,7 @@ impl Spoken {
     pub(crate) fn none(alloc: Global, region: &Region) -> Result<Spoken, AllocError> {
         Ok(Spoken {
             cells: vec![in alloc; 0u64; region.width()]?,
-            places: vec![in alloc; 0u64; region.places().len() / 64 + 1]?,
+            bys: vec![in alloc; 0u64; region.places().len() / 64 + 1]?,
             size: 0,
             has_weights: false,
         })
@@ -37,8 +37,8 @@ impl Spoken {
     }
 
     /// Whether the place mustn't be barred above the tree.
-    pub(crate) fn has_place(&self, place: u32) -> bool {
-        is_set(&self.places, place as usize)
+    pub(crate) fn has_by(&self, place: u32) -> bool {
+        is_set(&self.bys, place as usize)
     }
 
     /// Adds the cells to a row.
@@ -61,28 +61,20 @@ impl Spoken {
         self.has_weights = true;
     }
 
-    fn add_cell(&mut self, cell: u32) {
+    pub(crate) fn add_cell(&mut self, cell: u32) {
         set_bit(self.cells.as_mut_slice(), cell as usize);
         self.size = self.size.saturating_add(1);
     }
 
-    pub(crate) fn add_bar(&mut self, place: u32, by: u32) {
-        set_bit(self.places.as_mut_slice(), place as usize);
-        set_bit(self.places.as_mut_slice(), by as usize);
-    }
-
-    /// Adds a branch on a cell that these places light.
-    pub(crate) fn add_branch(&mut self, cell: u32, places: &[u32]) {
-        self.add_cell(cell);
-        for place in places {
-            set_bit(self.places.as_mut_slice(), *place as usize);
-        }
+    /// Adds a place that another is left out for.
+    pub(crate) fn add_by(&mut self, by: u32) {
+        set_bit(self.bys.as_mut_slice(), by as usize);
     }
 
     /// Adds what another tree speaks of.
     pub(crate) fn join(&mut self, other: &Spoken) {
         join_into(self.cells.as_mut_slice(), 0, &other.cells);
-        join_into(self.places.as_mut_slice(), 0, &other.places);
+        join_into(self.bys.as_mut_slice(), 0, &other.bys);
         self.size = self.size.saturating_add(other.size);
         self.has_weights = self.has_weights || other.has_weights;
     }

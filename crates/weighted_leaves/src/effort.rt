@@ -1,11 +1,8 @@
-//! How much is done at a node. A long search gets more: its trees and their certificates become shorter by half, where
-//! a short one would take longer.
+//! How much is done at a node. A long search gets more: its trees and their leaves become shorter, where a short one
+//! would take longer.
 
 /// How many nodes a search has before it is long.
 const SHORT_SEARCH: u64 = 400;
-
-/// How many nodes it has before its leaves are made short.
-const SHORT_TREE: u64 = 64;
 
 /// How many runs of steps there are at the first node, below it, and in a long search.
 const FIRST_RUNS: u32 = 16;
@@ -15,13 +12,12 @@ const RUNS: u32 = 8;
 const LONG_RUNS: u32 = 24;
 
 /// How many runs of steps a node gets at most, and whether the search is long: then weights that aren't likely to show
-/// enough are given up sooner, and cells to branch on are tried by their kids' own relaxations.
+/// enough are given up sooner, cells to branch on are tried by their kids' own relaxations, and weights that barely
+/// show enough get some runs more.
 #[derive(Clone, Copy)]
 pub(crate) struct Effort {
     pub runs: u32,
     pub is_long: bool,
-    /// Whether leaves are made short.
-    pub is_brief: bool,
 }
 
 impl Effort {
@@ -31,14 +27,12 @@ impl Effort {
             return Effort {
                 runs: FIRST_RUNS,
                 is_long: false,
-                is_brief: false,
             };
         }
         let is_long = nodes >= SHORT_SEARCH;
         Effort {
             runs: if is_long { LONG_RUNS } else { RUNS },
             is_long,
-            is_brief: nodes >= SHORT_TREE,
         }
     }
 }

@@ -1,8 +1,8 @@
 //! Groups of a weighted leaf, of whole weights.
 
 use crate::kernel::Left;
-use crate::whole_weights::WholeWeights;
 use instance_reduction::is_set;
+use linear_relaxation::WholeWeights;
 use proof_rules::{Group, Share, Shares};
 use std::alloc::{AllocError, Global};
 
@@ -26,7 +26,7 @@ pub(crate) fn push_group(
     groups: &mut Vec<Group>,
     left: Left<'_>,
     cells: &[u32],
-    whole: &WholeWeights,
+    whole: &WholeWeights<'_>,
 ) -> Result<(), AllocError> {
     let mut shares = Vec::new(alloc);
     for (index, cell) in cells.iter().enumerate() {

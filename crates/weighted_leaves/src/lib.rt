@@ -12,6 +12,5 @@ mod kid_relaxation;
 mod leaf;
 mod parts;
 mod solving;
-mod whole_weights;
 
 pub use leaf::WeightedLeaves;
