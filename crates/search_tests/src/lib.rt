@@ -25,4 +25,6 @@ mod pieces;
 #[cfg(test)]
 mod rings;
 #[cfg(test)]
+mod shortened;
+#[cfg(test)]
 mod turns;
