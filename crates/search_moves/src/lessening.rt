@@ -32,8 +32,8 @@ pub(crate) fn without_needless_kids(
     Ok(tree)
 }
 
-/// The tree of a node without what says of places that are gone and of cells that are left out above, if it isn't
-/// deeper than there is room; and without needless kids, where such are looked for.
+/// The tree of a node without the kids and bars of places that are gone, if it isn't deeper than there is room; and
+/// without needless kids, where such are looked for.
 #[cycle(lessening)]
 fn lessened(
     alloc: Global,
@@ -69,13 +69,15 @@ fn lessened(
             branch(alloc, *cell, kids, needless, &mut spoken)?
         }
         Proof::Omit { cells, kid } => {
-            let cells = left.omit(alloc, cells.as_slice())?;
+            left.omit(cells.as_slice());
             let told = lessened(alloc, site, left, kid.tree(), room - 1, is_first)?;
             let Told {
                 tree,
                 spoken: below,
             } = told;
             spoken.join(&below);
+            spoken.add_cells(cells.as_slice());
+            let cells = Vec::from_slice(alloc, cells.as_slice())?;
             omitted(alloc, cells, tree)?
         }
         Proof::Leaf(cells) => {
@@ -155,16 +157,11 @@ impl NodeRows {
         Ok(kept)
     }
 
-    /// Leaves out the cells. Those of them that weren't left out above.
-    fn omit(&mut self, alloc: Global, cells: &[u32]) -> Result<Vec<u32>, AllocError> {
-        let mut found = Vec::new(alloc);
+    /// Leaves out the cells.
+    fn omit(&mut self, cells: &[u32]) {
         for cell in cells {
-            if is_set(&self.unlit, *cell as usize) {
-                clear_bit(self.unlit.as_mut_slice(), *cell as usize);
-                found.push(*cell)?;
-            }
+            clear_bit(self.unlit.as_mut_slice(), *cell as usize);
         }
-        Ok(found)
     }
 
     /// Leaves out the places and cells for which kids go.
@@ -176,8 +173,7 @@ impl NodeRows {
     }
 }
 
-/// The branch on a cell below what is left out for it. What the tree speaks of gains what it does; cells that it leaves
-/// out aren't spoken of.
+/// The branch on a cell below what is left out for it. What the tree speaks of gains what it does.
 fn branch(
     alloc: Global,
     cell: u32,
@@ -199,7 +195,9 @@ fn branch(
     } = needless;
     let kids = Kids::of(trees_of(alloc, kids)?);
     let tree = wrap(alloc, bars, Proof::Branch { cell, kids })?;
-    omitted(alloc, bits_of(alloc, &cells)?, tree)
+    let cells = bits_of(alloc, &cells)?;
+    spoken.add_cells(&cells);
+    omitted(alloc, cells, tree)
 }
 
 /// The tree below cells that are left out, if any are.

@@ -8,7 +8,7 @@ use std::alloc::{AllocError, Global};
 /// What a tree speaks of, how long it is, and whether one of its leaves is weighted.
 #[derive(Drop)]
 pub(crate) struct Spoken {
-    /// A row of the cells that it lists or branches on.
+    /// A row of the cells that it lists, branches on or leaves out.
     cells: Vec<u64>,
     /// A row of the places that others are left out for: they mustn't be barred above it.
     bys: Vec<u64>,
