@@ -1,5 +1,5 @@
 //! What is wrong with a user's table: the first fault in its order. None of this takes memory.
-ghost use Rattle.std.specs.Prelude.{◌≡◌, map, option_map};
+ghost use Rattle.std.specs.Prelude.{◌≡◌, option_map};
 ghost use Rattle.toml.specs.View.{items_view, table_view, view};
 ghost use Rattle.cave_base.specs.Class.{gives_way_as_air};
 ghost use Rattle.block_rows.specs.Columns.{has_only};

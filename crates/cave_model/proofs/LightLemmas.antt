@@ -5,7 +5,7 @@ use Rattle.std.proofs.lemmas.Bool.{cases_lt}
 use Rattle.cave_base.specs.Box.{cell_count}
 use Rattle.cave_model.specs.Cells.{Face, west, east, north, south, below, above, beyond, AreNeighbours}
 use Rattle.cave_model.specs.Cave.{Cave, class_at, IsSound}
-use Rattle.cave_model.specs.Light.{entering_cost, Path, BringsFrom, Brings, IsGreatest, IsLevelOf}
+use Rattle.cave_model.specs.Light.{entering_cost, Path, BringsFrom, Brings, IsLevelOf}
 use Rattle.cave_model.specs.Light.Path.{start, onward}
 use Rattle.cave_model.specs.Relaxation.{brought, best_of, relaxed}
 use Rattle.cave_model.proofs.FaceLemmas.{opposite, neighbours_mutual, mutual_beyond}
@@ -204,17 +204,6 @@ settled_level cave levels cell s h = record {
         b.0 cell b.1.0 s b.1.1,
   );
 }
-
--- two levels of one cell are equal
-pub one_greatest : (Kind : ℕ → Type 0) (a b : ℕ) → IsGreatest Kind a → IsGreatest Kind b → a ≡ b
-one_greatest Kind a b p q = elim p.reached [
-  | inl e ↦ elim q.reached [ inl f ↦ omega arith | inr k ↦ (let le : b ≤ a = p.most b k in omega arith) ]
-  | inr h ↦ elim q.reached [
-    | inl f ↦ (let le : a ≤ b = q.most a h in omega arith)
-    | inr k ↦
-        (let le : b ≤ a = p.most b k in let ge : a ≤ b = q.most a h in omega arith)
-  ]
-]
 
 -- light of a level comes just where the level is as high
 pub brings_level : (cave : Cave) (cell level n : ℕ) → IsLevelOf cave cell level → 0 < n → n ≤ level → Brings cave cell n

@@ -1,10 +1,10 @@
 -- The neighbours that light can enter, and the one list in which those of all cells stand.
 use Rattle.std.proofs.Common.{◌≡◌, ℕ, ◌+◌, ◌-◌, ◌*◌, ◌<◌, ◌≤◌, List, [], ◌∷◌, ◌++◌, length, get_or, take, drop}
-use Rattle.std.proofs.Common.{slice_index, Contains, Option, Some, None, refl, sym, ap, subst, ◌∙◌, arith, inl, inr}
+use Rattle.std.proofs.Common.{slice_index, Contains, Option, Some, None, sym, ap, subst, ◌∙◌, arith, inl, inr}
 use Rattle.std.proofs.Common.{append_assoc, length-append, length-drop}
 use Rattle.std.proofs.Math.Seq.{drop-append_seam}
 use Rattle.std.proofs.lemmas.Bool.{cases_lt}
-use Rattle.std.proofs.lemmas.List.{append-nil, drop-append-le, take-append-le, take_all, get_or_push}
+use Rattle.std.proofs.lemmas.List.{drop-append-le, take-append-le, take_all, get_or_push}
 use Rattle.std.proofs.lemmas.List.{get_or_append_left, get_or_past, length_push}
 use Rattle.std.proofs.lemmas.List.Elements.{Contains-append_left, Contains-push, Contains-push_cases}
 use Rattle.std.proofs.lemmas.List.FromFn.{get_or-map-range_with_len, length-map-range_with_len}
@@ -14,12 +14,7 @@ use Rattle.cave_model.specs.Cave.{Cave}
 use Rattle.cave_model.specs.Light.{entering_cost}
 use Rattle.cave_model.specs.Parts.{part, parts, AreStarts, GoesOn}
 use Rattle.cave_model.specs.Passages.{LeadsTo, passages_from, ArePassages}
-use Rattle.cave_model.proofs.FaceLemmas.{neighbours_mutual}
 use Rattle.cave_model.proofs.NeighbourLemmas.{listed_shares, index_of, index_below, listed_at}
-
--- where light can go lies in the box
-pub leads_inside : (cave : Cave) (cell to : ℕ) → LeadsTo cave cell to → to < cell_count cave.size
-leads_inside cave cell to leads = (neighbours_mutual cave.size cell to leads.shared).inside
 
 -- ---- one neighbour after another
 
@@ -53,16 +48,6 @@ last_or_earlier cave near count to is earlier last = elim (cases_lt is.index cou
   | inr le ↦ (let same : count ≡ is.index = omega (arith, is.early) in
       last (ap (λ (k : ℕ). get_or near k None) same ∙ is.there))
 ]
-
--- before the first nothing is listed
-pub goes_none : (cave : Cave) (near : List (Option ℕ)) (cells : List ℕ) → GoesOnBy cave near 0 cells cells
-goes_none cave near cells = record {
-  more = [];
-  joined = sym (append-nil cells);
-  few = omega arith;
-  are_such = λ to h. absurd (omega (arith, h.1));
-  all_such = λ to is. absurd (omega (arith, is.early));
-}
 
 -- the next is listed
 pub goes_push : (cave : Cave) (near : List (Option ℕ)) (count to : ℕ) (old new : List ℕ)
@@ -159,22 +144,6 @@ back_part cells more from to at end =
     ap (λ (n : ℕ). take (to - from) (drop n (cells ++ more))) at
     ∙ ap (take (to - from)) (drop-append_seam cells more)
     ∙ take_all (to - from) more (omega (arith, length-append cells more))
-
--- before the first cell there is no row
-pub lists_no_row : (cave : Cave) → ListsPassages cave 0 (0 ∷ []) []
-lists_no_row cave = record {
-  whole = refl;
-  starting = record {
-    some = omega arith;
-    ascending = λ row h. absurd (omega arith);
-    inside = λ row h. (let first : row ≡ 0 = omega arith in
-        subst (λ (n : ℕ). slice_index (0 ∷ []) n ≤ 0) (sym first) (omega arith));
-  };
-  last = refl;
-  few = omega arith;
-  are_such = λ cell to h. absurd (omega arith);
-  all_such = λ cell to h. absurd (omega arith);
-}
 
 module _ (cave : Cave) (count : ℕ) (starts cells new : List ℕ) (s : ListsPassages cave count starts cells)
     (on : GoesOn cave count cells new) where

@@ -1,7 +1,7 @@
 //! The text of a plan.
-ghost use Rattle.std.specs.Prelude.{◌≡◌, ◌<◌, ◌++◌, ◌∷◌, [], All, IfOk, string_bytes, flat_map, option_copied};
+ghost use Rattle.std.specs.Prelude.{◌≡◌, ◌<◌, All, IfOk, string_bytes, flat_map};
 ghost use Rattle.std.specs.List.Sorted.{IsStrictlyIncreasing};
-ghost use Rattle.cave_base.specs.Box.{cell_count, point};
+ghost use Rattle.cave_base.specs.Box.{cell_count};
 ghost use Rattle.cave_plan.specs.PlanText as texts;
 
 use cave_base::{Cell, Class, coordinates, number};

@@ -4,7 +4,7 @@ use Rattle.std.proofs.Common.{arith, inl, inr, length-append, length-set, get_or
 use Rattle.std.specs.Global.{Vec}
 use Rattle.std.proofs.lemmas.Bool.{cases_lt, cases_eq}
 use Rattle.std.proofs.lemmas.List.{map-set, length-map, get_or_past, get_or-map, get_or_push, get_or_append_left}
-use Rattle.cave_model.proofs.ListingLemmas.{ListsBelow, lists_none, lists_skip, lists_push, lists_all}
+use Rattle.cave_model.proofs.ListingLemmas.{ListsBelow, lists_skip, lists_push, lists_all}
 use Rattle.cave_regions.specs.Grouping.{bucket, AreNone, IsPushed, AreGroups}
 
 -- ---- the type
@@ -75,12 +75,6 @@ all_none count lists s = record {
 pub record Grouping (Kind : ℕ → ℕ → Type 0) (count item : ℕ) (buckets : List (List ℕ)) : Type 0 where
   pub whole : length buckets ≡ count
   pub each : (key : ℕ) → ListsBelow (Kind key) item (bucket buckets key)
-
--- before the first item all groups are empty
-pub grouping_none : (Kind : ℕ → ℕ → Type 0) (count : ℕ) (buckets : List (List ℕ)) → AreNone count buckets
-    → Grouping Kind count 0 buckets
-grouping_none Kind count buckets none =
-    record { whole = none.whole; each = λ key. lists_none (Kind key) (bucket buckets key) (none.none key) }
 
 -- the next item joins the group of its one key
 pub grouping_push : (Kind : ℕ → ℕ → Type 0) (count item key : ℕ) (old new : List (List ℕ)) → Kind key item

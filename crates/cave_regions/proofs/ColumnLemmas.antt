@@ -28,14 +28,6 @@ pub place_within : (instance : Instance) (place : ℕ) → place < length instan
     → place < 64 * height_of instance
 place_within instance place inside = omega arith
 
--- the words have room for the bit
-pub column_room : (instance : Instance) (words : List ℕ) (count place cell : ℕ) → place < length instance.places
-    → cell < length instance.cells → AreColumns instance count words
-    → to_column instance place cell < 64 * length words
-column_room instance words count place cell inside of_it s =
-    let room = row_room (length instance.cells) (height_of instance) cell of_it in
-    omega (arith, room, place_within instance place inside, s.whole)
-
 -- one place more
 pub columns_more : (instance : Instance) (old new : List ℕ) (place : ℕ) → place < length instance.places
     → AreColumns instance place old → Moves old (row_of instance place) (to_column instance place) new

@@ -9,7 +9,7 @@ use Rattle.std.proofs.lemmas.List.Elements.{All-map}
 use Rattle.std.proofs.lemmas.List.Kept.{AllPairs-from_increasing}
 use Rattle.cave_model.specs.Plan.{AreDistinct}
 use Rattle.cave_model.specs.Regions.{ArePartsOf, all_cells}
-use Rattle.cave_model.proofs.ListingLemmas.{ListsBelow, lists_none, lists_skip, lists_push}
+use Rattle.cave_model.proofs.ListingLemmas.{ListsBelow, lists_skip, lists_push}
 use Rattle.set_cover.proofs.ListLemmas.{none_in}
 use Rattle.set_cover.specs.Instance.{Instance, IsInstance, LightsIn, LightsAt, of_instance}
 use Rattle.set_cover.proofs.OrderLemmas.{element_at, element_of, rises, stands_once}
@@ -25,17 +25,6 @@ pub record Splitting (instance : Instance) (labels : List ℕ) (count : ℕ) (re
   pub long : length regions ≡ length roots
   pub each : (k : ℕ) (d : Instance) → k < length roots
       → IsRegionOf instance labels (slice_index roots k) (get_or regions k d)
-
--- before the first cell there are no regions
-pub splitting_none : (instance : Instance) (labels : List ℕ) (regions : List Instance) → regions ≡ []
-    → Splitting instance labels 0 regions
-splitting_none instance labels regions e =
-    record {
-      roots = [];
-      listed = lists_none (IsLabel labels) [] refl;
-      long = ap length e;
-      each = λ k d h. absurd (omega arith);
-    }
 
 -- a cell that is no label begins no region
 pub splitting_skip : (instance : Instance) (labels : List ℕ) (count : ℕ) (regions : List Instance)

@@ -1,6 +1,5 @@
 //! Cells and places by the label of their region.
 ghost use Rattle.std.specs.Prelude.{◌<◌, ◌≤◌, ◌^◌, length, All, IfOk};
-ghost use Rattle.set_cover.specs.Instance.{IsInstance};
 ghost use Rattle.cave_regions.specs.Grouping.{AreGroups, IsCellOf, IsPlaceOfLabel};
 ghost use Rattle.cave_regions.specs.Joining.{AreLabels};
 

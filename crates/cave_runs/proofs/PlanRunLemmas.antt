@@ -1,5 +1,5 @@
 -- What a plan writes, and what its faults leave.
-use Rattle.std.proofs.Common.{◌≡◌, ◌≢◌, ℕ, ◌<◌, ◌≤◌, List, [], length, map, Contains, Option}
+use Rattle.std.proofs.Common.{◌≡◌, ℕ, ◌<◌, ◌≤◌, List, [], length, map, Contains, Option}
 use Rattle.std.proofs.Common.{Some, None, Result, Ok, Err, refl, sym, ap, subst, ◌∙◌, ◌⊎◌, inl, inr, arith}
 use Rattle.std.specs.Prelude.{IfErr, IfSome, OnErr, OnOk}
 use Rattle.std.specs.Io.KnownBytes.{Appends}
@@ -29,7 +29,7 @@ use Rattle.cave_plan.specs.declared.fault.PlanFault.{PlanFault}
 use Rattle.cave_plan.specs.declared.fault.PlanFault.TheVariants as plan
 use Rattle.cave_runs.specs.Faults.{run_fault_of, of_write}
 use Rattle.cave_runs.specs.Limits.{structure_limit}
-use Rattle.cave_runs.specs.PlanRuns.{WritesBest, WritesFloor, EndsIn, Plans, BeginsTexts, BeginsPlan, Leaves}
+use Rattle.cave_runs.specs.PlanRuns.{WritesBest, EndsIn, Plans, BeginsTexts, BeginsPlan, Leaves}
 use Rattle.cave_runs.specs.PlanRuns.{LeavesIn, LeavesProved, NamesUnlit, IsNoPlan, IsNoPlanOfInput}
 use Rattle.cave_runs.proofs.RunLemmas.{cave_refused, cave_clean}
 use Rattle.cave_runs.specs.declared.fault.RunFault.{RunFault}
@@ -59,22 +59,6 @@ writes_best cave text plans old new proof_old proof_new is written proved = reco
       (subst (λ (l : List ℕ). ListsAll (Contains l) is.torches) (sym (section_torches plans)) is.of_plans) ∙ ap length
       (section_torches plans);
   proved = proved;
-}
-
-pub writes_floor : (cave : Cave) (turns : Option ℕ) (text : List ℕ) (plans : List Plan)
-    (old new proof : Option (List ℕ)) → IsStoppedAt cave turns text plans → Appends old new text
-    → WritesFloor cave turns old new proof proof
-writes_floor cave turns text plans old new proof is written = record {
-  limited = is.limited;
-  torches = is.torches;
-  floor = is.floor;
-  within = is.within;
-  parts = is.parts;
-  summed = is.summed;
-  text = text;
-  prints = is.prints;
-  written = written;
-  unproved = Keeps-refl proof;
 }
 
 -- ---- what is left
@@ -176,20 +160,6 @@ leaves fault known bytes table rule turns cave old new proof_old proof_new same 
     by (faults.Unlightable x y z) b = absurd b
     by faults.NoThread b = absurd b
 
--- a fault that isn't one of writing leaves all as it was
-pub leaves_all : (fault : RunFault) (known : Option (List ℕ)) (table : Option (List ℕ)) (rule : Rule)
-    (turns : Option ℕ) (w v : Option (List ℕ)) → fault ≢ faults.WriteFailed
-    → Leaves fault known table rule turns w w v v
-leaves_all faults.WriteFailed known table rule turns w v other = absurd (other refl)
-leaves_all faults.OutOfMemory known table rule turns w v other = (Keeps-refl w, inl (Keeps-refl v))
-leaves_all faults.ReadFailed known table rule turns w v other = (Keeps-refl w, Keeps-refl v)
-leaves_all (faults.TooLong i) known table rule turns w v other = (Keeps-refl w, Keeps-refl v)
-leaves_all (faults.Scan f) known table rule turns w v other = (Keeps-refl w, Keeps-refl v)
-leaves_all (faults.Table f) known table rule turns w v other = (Keeps-refl w, Keeps-refl v)
-leaves_all (faults.Build f) known table rule turns w v other = (Keeps-refl w, Keeps-refl v)
-leaves_all (faults.Unlightable x y z) known table rule turns w v other = (Keeps-refl w, Keeps-refl v)
-leaves_all faults.NoThread known table rule turns w v other = (Keeps-refl w, Keeps-refl v)
-
 pub plans : (known : Option (List ℕ)) (bytes : List ℕ) (table : Option (List ℕ)) (rule : Rule) (turns : Option ℕ)
     (cave : Cave) (outcome : Outcome) (old new proof_old proof_new : Option (List ℕ))
     → IfSome known (λ b. bytes ≡ b) → IsCaveOfBytes bytes table rule cave
@@ -200,26 +170,6 @@ plans (Some b) bytes table rule turns cave outcome old new proof_old proof_new s
     record { cave = cave; told = subst (λ (x : List ℕ). IsCaveOfBytes x table rule cave) same told; ends = ends }
 
 -- ---- why there is no plan
-
--- no fault of writing is one of the input
-pub no_plan_unwritten : (bytes : List ℕ) (table : Option (List ℕ)) (rule : Rule) (fault : RunFault)
-    → (fault ≢ faults.OutOfMemory → fault ≢ faults.NoThread → IsNoPlan bytes table rule fault)
-    → fault ≢ faults.WriteFailed
-no_plan_unwritten bytes table rule fault told failed = elim
-    (told (λ e. (let both : faults.WriteFailed ≡ faults.OutOfMemory = sym failed ∙ e in cc))
-    (λ e. (let both : faults.WriteFailed ≡ faults.NoThread = sym failed ∙ e in cc))) [
-      | inl f ↦ of_cave_unwritten f.0 (sym failed ∙ f.2)
-      | inr u ↦ (let both = sym failed ∙ u.2.named in absurd (apart _ _ _ both))
-    ]
-  where
-    of_cave_unwritten : (f : CaveFault) → faults.WriteFailed ≡ run_fault_of f → ⊥
-    of_cave_unwritten (cave_faults.Scan f) e = cc
-    of_cave_unwritten (cave_faults.Table f) e = cc
-    of_cave_unwritten (cave_faults.Build f) e = cc
-    of_cave_unwritten cave_faults.OutOfMemory e = cc
-
-    apart : (x y z : ℕ) → faults.WriteFailed ≡ faults.Unlightable x y z → ⊥
-    apart x y z e = cc
 
 pub no_plan_input : (known : Option (List ℕ)) (bytes : List ℕ) (table : Option (List ℕ)) (rule : Rule)
     (fault : RunFault) → IfSome known (λ b. bytes ≡ b) → length bytes ≤ structure_limit
@@ -322,10 +272,3 @@ pub text_failed_in : {X : Type 0} (r : Result X RunFault) (cave : Cave) (text : 
 text_failed_in (Ok x) cave text plans old new proof_old proof_new is kind front proved = tt
 text_failed_in (Err e) cave text plans old new proof_old proof_new is kind front proved = text_failed e cave text
     plans old new proof_old proof_new kind is front proved
-
-pub ended_in : {X : Type 0} (fault : RunFault) (r : Result X RunFault) (cave : Cave) (turns : Option ℕ)
-    (text : List ℕ) (plans : List Plan) (old new proof : Option (List ℕ)) → r ≡ Err fault
-    → fault ≡ faults.WriteFailed → IsStoppedAt cave turns text plans
-    → AppendsFront old new text → IfErr r (λ e. LeavesIn e cave turns old new proof proof)
-ended_in fault r cave turns text plans old new proof is failed stopped front = rw is
-    (stop_failed fault cave turns text plans old new proof failed stopped front)

@@ -181,8 +181,3 @@ pub no_group : (count from capacity many : ℕ) (numbers shares : List ℕ) → 
     → (AreGroupNumbers count from capacity many shares → ⊥) → IsNoGroup count from numbers
 no_group count from capacity many numbers shares e f = subst (IsNoGroup count from) (sym e)
     (record { none = λ cell g. f (group_is count from capacity many shares cell g) })
-
--- fewer than two numbers are those of no group
-pub too_short : (count from : ℕ) (numbers : List ℕ) → length numbers < 2 → IsNoGroup count from numbers
-too_short count from numbers h =
-    record { none = λ cell g. (let f = ap length g.is in absurd (omega (arith, f))) }

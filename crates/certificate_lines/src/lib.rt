@@ -16,7 +16,6 @@ mod shape;
 mod stage;
 mod step;
 
-pub use cut::cut_line;
 pub use kind::LineKind;
 pub use lines::{Lines, is_done};
 pub use pieces::Pieces;

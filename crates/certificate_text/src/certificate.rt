@@ -1,5 +1,5 @@
 //! The text of a certificate.
-ghost use Rattle.std.specs.Prelude.{◌≡◌, OnOk, OnErr, flat_map, string_bytes};
+ghost use Rattle.std.specs.Prelude.{◌≡◌, OnOk, OnErr, string_bytes};
 ghost use Rattle.std.specs.Io.KnownBytes.{Appends};
 ghost use Rattle.certificate_text.specs.PlanOf.{plan_of, plans_of};
 ghost use Rattle.certificate_text.specs.Planned as planned;

@@ -78,14 +78,3 @@ unasked_by m name rows None named has h = λ request e.
     let matches = same_of e.rows rows (sym (ap (option_map (λ (p : Text × List Row). p.1)) e.is) ∙ has) in
     h request (subst (λ (r : List Row). IsAskedBy name r request) matches
     (subst (λ (n : Text). IsAskedBy n e.rows request) names e.asked))
-
--- no command was entered
-pub none_entered : (m : ArgMatches) → subcommand_name_of m ≢ Some (codes "dark")
-    → subcommand_name_of m ≢ Some (codes "plan") → subcommand_name_of m ≢ Some (codes "check")
-    → (request : Request) → ¬ IsEntered (subcommand_rows_of m) request
-none_entered m no_dark no_plan no_check (Dark file table rule progress) e =
-    no_dark (named_as m e.name e.rows e.is ∙ ap Some e.asked.0)
-none_entered m no_dark no_plan no_check (Plan file table opts proof progress) e =
-    no_plan (named_as m e.name e.rows e.is ∙ ap Some e.asked.0)
-none_entered m no_dark no_plan no_check (Check file proof table rule) e =
-    no_check (named_as m e.name e.rows e.is ∙ ap Some e.asked.0)

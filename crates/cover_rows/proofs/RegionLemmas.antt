@@ -1,9 +1,9 @@
 -- A region grows, cell by cell.
-use Rattle.std.proofs.Common.{◌≡◌, ◌≢◌, ℕ, ◌+◌, ◌*◌, ◌<◌, ◌≤◌, List, [], ◌∷◌, ◌++◌, length, take, set, All}
+use Rattle.std.proofs.Common.{◌≡◌, ◌≢◌, ℕ, ◌+◌, ◌*◌, ◌<◌, ◌≤◌, List, [], ◌∷◌, ◌++◌, length, set, All}
 use Rattle.std.proofs.Common.{slice_index, refl, sym, ap, subst, ◌∙◌, arith, inl, inr}
 use Rattle.std.proofs.Common.{get_or-set_same, get_or-set_other, length-set}
 use Rattle.std.proofs.lemmas.Bool.{cases_lt, cases_eq}
-use Rattle.std.proofs.lemmas.List.{get_or_append_left, get_or_push, length_push, get_or-take, length-take-le}
+use Rattle.std.proofs.lemmas.List.{get_or_append_left, get_or_push, length_push}
 use Rattle.std.proofs.lemmas.List.Elements.{All-push}
 use Rattle.std.proofs.lemmas.List.Folds.{list_any_at}
 use Rattle.std.proofs.lemmas.Map.Steps.{le-length_from_below}
@@ -11,17 +11,6 @@ use Rattle.std.proofs.lemmas.Bool.Decides.{nat_tests}
 use Rattle.cover_rows.specs.Region.{AreLinked, AreOnce, BeginsWith, IsNumberOf, IsRegion, no_number}
 
 -- ---- lists that go on
-
--- a list begins with itself
-pub begins_same : (xs : List ℕ) → BeginsWith xs xs
-begins_same xs = record { longer = omega arith; same = λ k h. refl }
-
--- one cell more
-pub begins_push : (old : List ℕ) (cell : ℕ) → BeginsWith old (old ++ cell ∷ [])
-begins_push old cell = record {
-  longer = omega (arith, length_push old cell);
-  same = λ k h. get_or_append_left old (cell ∷ []) 0 k h;
-}
 
 -- going on twice
 pub begins_on : (old middle new : List ℕ) → BeginsWith old middle → BeginsWith middle new → BeginsWith old new
@@ -104,22 +93,6 @@ module _ (local region : List ℕ) (s : IsRegion local region) where
     | inr is ↦ is
   ]
 
--- ---- a region begins
-
--- with one cell more
-pub begin_next : (local cells region : List ℕ) (k : ℕ) → k < length cells → length cells ≤ 64
-    → slice_index cells k < length local → AreOnce cells → region ≡ take k cells → IsRegion local region
-    → IsRegion (set local (slice_index cells k) k) (region ++ slice_index cells k ∷ [])
-begin_next local cells region k h few inside once e s =
-    region_push local region s (slice_index cells k) k inside (sym long) (omega (arith, few))
-    (λ j lt same. (let before : j < k = omega (arith, long) in
-    let at : slice_index cells j ≡ slice_index cells k = sym (get_or-take k cells j 0 before)
-    ∙ ap (λ (l : List ℕ). slice_index l j) (sym e) ∙ same in
-    let is : j ≡ k = once j k (omega arith) h at in absurd (omega arith)))
-  where
-    long : length region ≡ k
-    long = ap length e ∙ length-take-le k cells (omega arith)
-
 -- ---- links
 
 -- a longer region has the same links
@@ -139,12 +112,6 @@ pub record Linking (sides first region near : List ℕ) (number count : ℕ) : T
   pub before : AreLinked sides region near number
   pub here : (face : ℕ) → face < count → IsNumberOf region
       (slice_index sides (6 * slice_index first number + face)) (slice_index near (6 * number + face))
-
--- none is
-pub linking_none : (sides first near : List ℕ) (number : ℕ) → AreLinked sides first near number
-    → Linking sides first first near number 0
-linking_none sides first near number s =
-    record { kept = begins_same first; before = s; here = λ face lt. absurd (omega arith) }
 
 -- one more is
 pub linking_next : (sides first region new near : List ℕ) (number face found : ℕ) → number < length first
@@ -173,20 +140,6 @@ linking_next sides first region new near number face found h room small b is s =
   ];
 }
 
--- all six are
-pub linking_all : (sides first region near : List ℕ) (number count : ℕ) → 6 ≤ count → number < length first
-    → Linking sides first region near number count → AreLinked sides region near (number + 1)
-linking_all sides first region near number count all h s = record {
-  each = λ other face lt small. elim (cases_lt other number) [
-    | inl before ↦ s.before.each other face before small
-    | inr le ↦ (let last : number ≡ other = omega arith in
-        subst (λ (n : ℕ). IsNumberOf region (slice_index sides (6 * slice_index region n + face))
-        (slice_index near (6 * n + face))) last
-        (subst (λ (c : ℕ). IsNumberOf region (slice_index sides (6 * c + face)) (slice_index near (6 * number + face)))
-        (sym (s.kept.same number h)) (s.here face (omega (arith, all, small)))))
-  ];
-}
-
 -- ---- a region is forgotten
 
 -- the first so many cells have no number any longer
@@ -194,39 +147,3 @@ pub record Forgetting (local region : List ℕ) (count : ℕ) : Type 0 where
   pub inside : All (λ cell. cell < length local) region
   pub others : (cell : ℕ) → cell < length local
       → (slice_index local cell ≢ no_number) → (number : ℕ) × (count ≤ number) × IsNumberOf region cell number
-
--- at first
-pub forgetting_none : (local region : List ℕ) → IsRegion local region → Forgetting local region 0
-forgetting_none local region s = record {
-  inside = s.inside;
-  others = λ cell h some. (slice_index local cell, omega arith, number_there local region s cell h some);
-}
-
--- one more
-pub forgetting_next : (local region : List ℕ) (k : ℕ) → k < length region → Forgetting local region k
-    → Forgetting (set local (slice_index region k) no_number) region (k + 1)
-forgetting_next local region k h s = record {
-  inside = λ j d lt. omega (arith, s.inside j d lt, length-set local (slice_index region k) no_number);
-  others = λ cell inside some. elim (cases_eq cell (slice_index region k)) [
-    | inl e ↦ absurd (some (ap (slice_index (set local (slice_index region k) no_number)) e
-        ∙ get_or-set_same local (slice_index region k) no_number 0 (s.inside k 0 h)))
-    | inr ne ↦ (let was = s.others cell (omega (arith, inside, length-set local (slice_index region k) no_number))
-        (λ none. some (get_or-set_other local (slice_index region k) cell no_number 0 ne ∙ none)) in
-        elim (cases_eq was.0 k) [
-          | inl same ↦ absurd (ne (sym was.2.there ∙ ap (slice_index region) same))
-          | inr other ↦ (was.0, omega (arith, was.1, other), was.2)
-        ])
-  ];
-}
-
--- all
-pub forgetting_all : (local region : List ℕ) (k : ℕ) → length region ≤ k → Forgetting local region k
-    → IsRegion local []
-forgetting_all local region k all s = record {
-  inside = λ j d lt. absurd (omega (arith, lt));
-  numbered = λ j lt. absurd (omega (arith, lt));
-  others = λ cell h. elim (cases_eq (slice_index local cell) no_number) [
-    | inl none ↦ inl none
-    | inr some ↦ (let was = s.others cell h some in absurd (omega (arith, was.1, was.2.inside, all)))
-  ];
-}

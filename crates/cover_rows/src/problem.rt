@@ -1,4 +1,4 @@
-ghost use Rattle.std.specs.Prelude.{◌≡◌, ◌≢◌, ◌<◌, ◌↔◌, ℕ, Contains, IfOk, IfErr, IsTrue, length};
+ghost use Rattle.std.specs.Prelude.{◌≡◌, ◌≢◌, ◌<◌, ◌↔◌, Contains, IfOk, IfErr, IsTrue};
 ghost use Rattle.set_cover.specs.Instance.{IsInstance, IsRowAt, LightsIn};
 ghost use Rattle.cave_base.specs.Answer.{IsRefusal};
 ghost use Rattle.cover_rows.specs.Coverage.{IsProblemOf, IsUnlightableFault};

@@ -1,5 +1,5 @@
 -- The trees of nodes.
-use Rattle.std.proofs.Common.{◌≡◌, ℕ, ◌+◌, Bool, true, false, ◌&&◌, true≢false, List, [], ◌∷◌, ◌++◌, length, map}
+use Rattle.std.proofs.Common.{◌≡◌, ℕ, ◌+◌, true, List, [], ◌∷◌, ◌++◌, length, map}
 use Rattle.std.proofs.Common.{take, Vec, Global, refl, sym, ap, ◌∙◌, subst, arith, append-nil}
 use Rattle.std.proofs.lemmas.List.{take_all}
 use Rattle.proof_rules.specs.Tree.{Tree, Forest, branch, none, more}
@@ -28,22 +28,6 @@ forest_trees (p ∷ ps) = ap (more (tree_of p)) (forest_trees ps)
 pub forest_nodes : (ns : List Node) → forest (trees_of ns) ≡ all_assembled (shapes_of ns)
 forest_nodes [] = refl
 forest_nodes (n ∷ ns) = ap (more (assembled (shape_of n))) (forest_nodes ns)
-
--- where all nodes are done the first is
-pub first_done : (n : Node) (ns : List Node) → are_done (shapes_of (n ∷ ns)) ≡ true → is_done (shape_of n) ≡ true
-first_done n ns e = left (is_done (shape_of n)) (are_done (shapes_of ns)) e
-  where
-    left : (a b : Bool) → (a && b) ≡ true → a ≡ true
-    left true b e = refl
-    left false b e = e
-
--- and so are the rest
-pub rest_done : (n : Node) (ns : List Node) → are_done (shapes_of (n ∷ ns)) ≡ true → are_done (shapes_of ns) ≡ true
-rest_done n ns e = right (is_done (shape_of n)) (are_done (shapes_of ns)) e
-  where
-    right : (a b : Bool) → (a && b) ≡ true → b ≡ true
-    right true b e = e
-    right false b e = absurd (true≢false (sym e))
 
 -- ---- an opened piece that is done
 

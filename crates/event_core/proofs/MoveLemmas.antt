@@ -22,7 +22,7 @@ use Rattle.event_core.specs.declared.tracing.Standing.{Standing}
 use Rattle.event_core.specs.declared.tracing.Standing.TheVariants.{Waiting, Held, Past}
 use Rattle.event_core.specs.declared.tracing.Traced.{Traced}
 use Rattle.event_core.proofs.NameLemmas.{begins_or_not}
-use Rattle.event_core.proofs.StateLemmas.{same_part, not_none, same_parts}
+use Rattle.event_core.proofs.StateLemmas.{same_part, same_parts}
 use Rattle.event_core.proofs.NodeLemmas.{no_place}
 use Rattle.event_core.proofs.ShapeLemmas.{put_there, put_apart, nothing_below}
 
@@ -66,10 +66,6 @@ module _ (kept : Kept) (name c b : List ℕ) (was : Status) (new : Shape) (is : 
   }
 
 -- ---- how a piece stands
-
--- where a name leads to no piece it leads past the tree
-pub standing_none : (state : State) (name : List ℕ) → state.part_at name ≡ None → IsStanding state name Past
-standing_none state name e = λ c b status h. not_none (record { chosen = c; barred = b; status = status }) (sym e ∙ h)
 
 module _ (state : State) (name : List ℕ) where
   stands : (s : Standing) (p : Part) → state.part_at name ≡ Some p → StandsAs s p.status → IsStanding state name s

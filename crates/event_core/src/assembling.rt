@@ -6,7 +6,6 @@ ghost use Rattle.event_core.specs.Finished.{assembled, is_done, are_done, IsWhol
 
 use crate::node::Node;
 use proof_tree::{Kids, Proof};
-use std::mem;
 
 /// Whether no piece waits or is held.
 #[cycle(done)]

@@ -1,5 +1,5 @@
 //! The core.
-ghost use Rattle.std.specs.Prelude.{◌≡◌, ◌<◌, ◌↔◌, ℕ, [], length, set, slice_index, IsTrue, IfOk, IfErr, is_ok};
+ghost use Rattle.std.specs.Prelude.{◌≡◌, ◌<◌, ◌↔◌, [], length, set, slice_index, IsTrue, IfOk, IfErr, is_ok};
 ghost use Rattle.std.specs.Arc.{arc_value};
 ghost use Rattle.cave_regions.specs.Cover.{IsCover};
 ghost use Rattle.proof_tree.specs.Shape.{tree_of};

@@ -1,5 +1,5 @@
 //! Laws over the definitions alone: whatever events there were, and of however many workers.
-ghost use Rattle.std.specs.Prelude.{◌≡◌, ℕ, ◌<◌, ◌≤◌, Bool, List, [], length};
+ghost use Rattle.std.specs.Prelude.{ℕ, ◌<◌, ◌≤◌, Bool, List, [], length};
 ghost use Rattle.set_cover.specs.Instance.{Instance, of_instance};
 ghost use Rattle.proof_rules.specs.Tree.{Tree};
 ghost use Rattle.proof_rules.specs.Good.{Good};

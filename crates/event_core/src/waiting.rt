@@ -1,6 +1,6 @@
 //! The pieces that wait.
 ghost use Rattle.std.specs.Prelude.{◌≡◌, ◌↔◌, ◌++◌, IfOk, IsTrue};
-ghost use Rattle.event_core.specs.Kept.{IsKept, state_of};
+ghost use Rattle.event_core.specs.Kept.{state_of};
 ghost use Rattle.event_core.specs.NodeShape.{shape_of, shapes_of};
 ghost use Rattle.event_core.specs.Waiting.{AreAllWaiting, IsWaitingPiece};
 ghost use Rattle.event_core.specs.WaitingNames.{waiting_in, waiting_below};

@@ -7,7 +7,7 @@ use Rattle.std.proofs.lemmas.List.{get_or-set_same, length-set}
 use Rattle.std.proofs.lemmas.List.Elements.{Contains-append_cases}
 use Rattle.cave_regions.specs.Cover.{Covering, IsCover}
 use Rattle.proof_tree.specs.Piece.{Fathomed, IsClosed, Subproblem}
-use Rattle.event_core.specs.State.{State, Status, waiting, held, opened, closed, HasPart, IsLeft, IsDone}
+use Rattle.event_core.specs.State.{State, Status, waiting, held, closed, HasPart, IsLeft}
 use Rattle.event_core.specs.Events.{IsEnabled, Does, MayOffer, MayClose, IsWorker, smaller}
 use Rattle.event_core.specs.Plays.{Steps}
 use Rattle.event_core.specs.Waiting.{AreAllWaiting, IsWaitingPiece}
@@ -157,16 +157,3 @@ glean_past start caller names now name whole rest next g e none same = subst (λ
       waiting_in_rest = λ m c b h. other_in_rest name m rest (λ f. none c b (ap now.part_at (sym f) ∙ h))
           (subst (λ (l : List (List ℕ)). Contains l m) e (g.waiting_in_rest m c b h));
     })
-
--- the empty list has no name
-no_name : {A : Type 0} (m : List ℕ) → Contains [] m → A
-no_name m (k, lt, e) = absurd (omega (arith, lt))
-
--- after the last name every piece is done
-pub glean_done : (start : State) (caller : ℕ) (names : List (List ℕ)) (now : State) (rest : List (List ℕ))
-    → IsGleaning start caller names now rest → rest ≡ [] → IsDone now
-glean_done start caller names now rest g e m c b waiting h = λ left. no_name m (subst (λ (l : List
-    (List ℕ)). Contains l m) e (g.waiting_in_rest m c b h))
-glean_done start caller names now rest g e m c b (held w) h = λ left. g.none_held m c b w h
-glean_done start caller names now rest g e m c b (opened cell) h = λ left. left
-glean_done start caller names now rest g e m c b (closed floor tree) h = λ left. left

@@ -1,5 +1,5 @@
 //! Playing what comes before all closing. An event that isn't enabled is passed over.
-ghost use Rattle.std.specs.Prelude.{◌≡◌, ◌<◌, ◌^◌, [], ◌∷◌, length, IfOk};
+ghost use Rattle.std.specs.Prelude.{◌<◌, ◌^◌, length, IfOk};
 ghost use Rattle.event_core.specs.Kept.{state_of};
 ghost use Rattle.event_core.specs.Plays.{Plays};
 ghost use Rattle.schedule_law.specs.Listing.{looks, offer_of, offers};

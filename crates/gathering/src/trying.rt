@@ -1,5 +1,5 @@
 //! Playing what workers closed. A piece that isn't as the worker left it is passed over.
-ghost use Rattle.std.specs.Prelude.{◌≡◌, ◌<◌, ◌^◌, length, IfOk};
+ghost use Rattle.std.specs.Prelude.{◌<◌, ◌^◌, length, IfOk};
 ghost use Rattle.event_core.specs.Kept.{state_of};
 ghost use Rattle.gathering.specs.Playing.{TriesAllCloses, TriesClose, TriesCloses};
 

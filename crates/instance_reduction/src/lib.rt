@@ -9,17 +9,17 @@ mod dominance;
 mod lists;
 mod node_places;
 mod reduced_instance;
-mod reduced_zone;
+mod reduced_node;
 mod rows_left;
 mod stand_ins;
 
 pub use bits::{
-    Bits, bit_count, bits_of, clear_all, clear_bit, common_count, drop_all, has_each, is_part,
-    is_set, join_into, keep_all, row_below, row_in, set_bit, words_around,
+    Bits, bit_count, bits_of, clear_all, clear_bit, common_count, drop_all, has_each, is_set,
+    join_into, keep_all, row_in, set_bit, words_around,
 };
 pub use cyclic_core::CyclicCore;
 pub use dominance::{Dominance, first_dominating, is_dominated, undominated};
 pub use lists::{NumberLists, small};
 pub use node_places::NodePlaces;
 pub use reduced_instance::{InRegion, ReducedInstance, undominated_places};
-pub use reduced_zone::ReducedZone;
+pub use reduced_node::ReducedNode;

@@ -1,4 +1,4 @@
-ghost use Rattle.std.specs.Prelude.{◌≡◌, ◌<◌, ◌↔◌, All, IfOk, IsTrue};
+ghost use Rattle.std.specs.Prelude.{◌<◌, ◌↔◌, All, IfOk, IsTrue};
 ghost use Rattle.cave_base.specs.Box as grid;
 ghost use Rattle.cave_model.specs.Spawn.{AreDarkCells, IsDark};
 ghost use Rattle.light_flood.specs.Levels.{AreLevelsOf};

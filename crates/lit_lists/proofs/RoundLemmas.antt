@@ -133,12 +133,6 @@ pub record Going (cave : Cave) (old : ℕ → ℕ) (queue : List ℕ) (begin end
   pub each : (begun : ℕ → ℕ) (level : ℕ) → Relaxing cave begun old queue begin end level
       → Relaxing cave begun new next index end level
 
--- before the first cell of a round the queue is as it was
-pub going_start : (cave : Cave) (f : ℕ → ℕ) (queue : List ℕ) (begin end : ℕ) → end ≡ length queue
-    → Queued cave begin queue → AreLow f → Going cave f queue begin end f queue begin
-going_start cave f queue begin end e q low =
-    record { within = omega arith; began = e; inside = q.inside; low = low; each = λ begun level s. s }
-
 -- the next cell of the round has passed its light on
 pub going_next : (cave : Cave) (o f g : ℕ → ℕ) (queue a b : List ℕ) (begin end index from : ℕ)
     → Going cave o queue begin end f a index → index < end → slice_index a index ≡ from → Grows cave (f from) f a g b
@@ -183,11 +177,6 @@ going_end cave o f queue a begin end index s le at = record {
       subst (λ (n : ℕ). Relaxing cave begun f a n (length a) (level - 1)) at
       (lower cave begun f a index end level le (s.each begun level r'));
 }
-
--- and leaves cells of the box alone in the queue
-pub going_queued : (cave : Cave) (o f : ℕ → ℕ) (queue a : List ℕ) (begin end index : ℕ)
-    → Going cave o queue begin end f a index → Queued cave end a
-going_queued cave o f queue a begin end index s = record { within = s.within; inside = s.inside }
 
 -- ---- all rounds
 

@@ -22,15 +22,6 @@ pub pushed_none : (Here : ℕ → Type 0) (rows : List (List ℕ)) (number : ℕ
 pushed_none Here rows number none =
     record { whole = refl; here = λ cell h. absurd (none cell h); others = λ cell never. refl }
 
--- the same cells in other words
-pub pushed_same : (Here There : ℕ → Type 0) (old new : List (List ℕ)) (number : ℕ) → ArePushed Here old number new
-    → ((cell : ℕ) → There cell ↔ Here cell) → ArePushed There old number new
-pushed_same Here There old new number s same = record {
-  whole = s.whole;
-  here = λ cell h. s.here cell ((same cell).0 h);
-  others = λ cell never. s.others cell (λ h. never ((same cell).1 h));
-}
-
 -- a cell more
 pub pushed_more : (Here There : ℕ → Type 0) (old now next : List (List ℕ)) (cell number : ℕ)
     → ArePushed Here old number now → (¬ Here cell) → ((other : ℕ) → There other ↔ (Here other ⊎ (cell ≡ other)))

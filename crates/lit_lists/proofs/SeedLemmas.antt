@@ -1,7 +1,7 @@
 -- Levels before light spreads, and what they come to.
-use Rattle.std.proofs.Common.{◌≡◌, ◌≢◌, ℕ, ◌+◌, ◌<◌, ◌≤◌, ◌⊎◌, List, [], ◌∷◌, ◌++◌, length, set, slice_index}
+use Rattle.std.proofs.Common.{◌≡◌, ℕ, ◌+◌, ◌<◌, ◌≤◌, ◌⊎◌, List, [], ◌∷◌, ◌++◌, length, set, slice_index}
 use Rattle.std.proofs.Common.{Contains, sym, ap, subst, ◌∙◌, arith, inl, inr, length-set, get_or-set_same}
-use Rattle.std.proofs.Common.{get_or-set_other, eq-zero-or-pos}
+use Rattle.std.proofs.Common.{get_or-set_other}
 use Rattle.std.proofs.lemmas.Bool.{cases_eq, cases_lt}
 use Rattle.std.proofs.lemmas.List.{get_or_past}
 use Rattle.std.proofs.lemmas.List.Elements.{Contains-append_left, Contains-push, Contains-push_cases}
@@ -9,8 +9,8 @@ use Rattle.cave_base.specs.Box.{cell_count}
 use Rattle.cave_model.specs.Cave.{Cave, class_at, IsSound}
 use Rattle.cave_model.specs.Light.{Path, BringsFrom}
 use Rattle.cave_model.proofs.LightLemmas.{AreSettled, settled_level, path_settled}
-use Rattle.lit_lists.specs.Relaxing.{AreLevelsOf, IsSeeded, IsSettled, Queues}
-use Rattle.lit_lists.specs.Seeded.{AreSeeded, AreUnlit, AreTaken, ArePutOut}
+use Rattle.lit_lists.specs.Relaxing.{AreLevelsOf, IsSeeded, IsSettled}
+use Rattle.lit_lists.specs.Seeded.{AreSeeded, AreUnlit, AreTaken}
 use Rattle.lit_lists.specs.Reached.{AreReached}
 use Rattle.lit_lists.proofs.RelaxLemmas.{source_inside}
 
@@ -24,16 +24,6 @@ pub record Seeding (cave : Cave) (count : ℕ) (levels queue : List ℕ) : Type 
   pub each : (cell : ℕ) → cell < count → slice_index levels cell ≡ (class_at cave cell).emission
   pub lit : (cell : ℕ) → cell < count → 0 < (class_at cave cell).emission → Contains queue cell
   pub inside : (cell : ℕ) → Contains queue cell → cell < count
-
--- before the first cell none is seeded
-pub seeding_none : (cave : Cave) (levels queue : List ℕ) → length levels ≡ cell_count cave.size → queue ≡ []
-    → Seeding cave 0 levels queue
-seeding_none cave levels queue whole e = record {
-  whole = whole;
-  each = λ cell h. absurd (omega arith);
-  lit = λ cell h p. absurd (omega arith);
-  inside = λ cell has. none_in cell (subst (λ (l : List ℕ). Contains l cell) e has);
-}
 
 -- a number up to one more is below or the one
 split : (cell count : ℕ) → cell < count + 1 → (cell < count) ⊎ (cell ≡ count)
@@ -121,35 +111,6 @@ settled_levels cave first levels queue next glow s whole = record {
 
 -- ---- one source
 
--- one source of light, with no other, is where a relaxation begins
-pub source_seeded : (cave : Cave) (levels : List ℕ) (source light : ℕ) → AreUnlit levels → source < cell_count cave.size
-    → light ≤ 15 → (queue : List ℕ) → queue ≡ [] ++ source ∷ []
-    → IsSeeded cave (slice_index (set levels source light)) queue
-source_seeded cave levels source light unlit inside low queue e = record {
-  low = λ cell. (elim (cases_eq cell source) [
-    | inl same ↦ (elim (cases_lt source (length levels)) [
-      | inl lt ↦ (let here : slice_index (set levels source light) cell ≡ light =
-          ap (slice_index (set levels source light)) same ∙ get_or-set_same levels source light 0 lt in omega arith)
-      | inr le ↦ (let none : slice_index (set levels source light) cell ≡ 0 =
-          get_or_past (set levels source light) cell 0 (omega (arith, length-set levels source light)) in omega arith)
-    ])
-    | inr ne ↦ (let o = other cell ne in omega arith)
-  ]);
-  queued = record {
-    lit = λ cell p. (elim (cases_eq cell source) [
-      | inl same ↦ subst (λ (l : List ℕ). Contains l cell) (sym e)
-          (subst (Contains ([] ++ source ∷ [])) (sym same) (Contains-push [] source))
-      | inr ne ↦ (let o = other cell ne in absurd (omega arith))
-    ]);
-    inside = λ cell has. (elim (Contains-push_cases [] source cell (subst (λ (l : List ℕ). Contains l cell) e has)) [
-      | inl none ↦ none_in cell none
-      | inr same ↦ subst (λ (c : ℕ). c < cell_count cave.size) same inside
-    ]);
-  };
-} where
-  other : (cell : ℕ) → cell ≢ source → slice_index (set levels source light) cell ≡ 0
-  other cell ne = get_or-set_other levels source cell light 0 ne ∙ unlit.each cell
-
 -- what settled from one source: the cells with light are those that it reaches
 pub reached : (cave : Cave) (start levels queue cells : List ℕ) (source light : ℕ) → AreUnlit start
     → length start ≡ cell_count cave.size → source < cell_count cave.size
@@ -191,16 +152,3 @@ reached cave start levels queue cells source light unlit whole inside s t = reco
         let b = s.brought_there cell h lit in
         let f = from_source cell b.0 b.1.0 b.1.1 b.1.2 lit in
         (f.0, f.1, omega (arith, f.2))
-
--- put out again, the cells of a queue that has all light leave none
-pub out_again : (cave : Cave) (levels queue now : List ℕ) → Queues cave (slice_index levels) queue
-    → ArePutOut levels queue now → ((cell : ℕ) → Contains queue cell ⊎ (¬ Contains queue cell)) → AreUnlit now
-out_again cave levels queue now q p or_not = record {
-  each = λ cell. (elim (or_not cell) [
-    | inl has ↦ p.out cell has
-    | inr none ↦ (let same = p.others cell none in elim (eq-zero-or-pos (slice_index levels cell)) [
-      | inl z ↦ same ∙ z
-      | inr lit ↦ absurd (none (q.lit cell lit))
-    ])
-  ]);
-}

@@ -5,18 +5,9 @@ use Rattle.nbt_core.specs.Value.{Nbt, list, no_items}
 use Rattle.nbt_core.specs.Reading.{text_at, kind_at}
 use Rattle.nbt_core.specs.TreeReading.{value_at}
 use Rattle.nbt_core.specs.Skipping.{IsRead, read_or}
-use Rattle.nbt_core.specs.Borrowed.{payload_value, item_values, entry_values, IsPayload, ArePayloads, AreNamed}
+use Rattle.nbt_core.specs.Borrowed.{payload_value, item_values, entry_values, ArePayloads, AreNamed}
 use Rattle.nbt_core.proofs.ItemLemmas.{item_next}
 use Rattle.nbt_core.proofs.MemberLemmas.{member_next}
-
--- a payload that was passed over is whole
-pub passed_payload : (end room : ℕ) (kind : Kind) (bytes left : List ℕ) → length bytes ≤ end → room ≤ 512
-    → IsRead (value_at end room kind bytes) left → IsPayload end room kind bytes
-passed_payload end room kind bytes left within shallow s = record {
-  within = within;
-  shallow = shallow;
-  whole = record { left = left; whole = s };
-}
 
 -- the value of a payload that was passed over
 pub passed_value : (end room : ℕ) (kind : Kind) (bytes left : List ℕ) → (s : IsRead (value_at end room kind bytes) left)

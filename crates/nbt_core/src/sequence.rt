@@ -1,9 +1,9 @@
-ghost use Rattle.std.specs.Prelude.{◌≡◌, length};
+ghost use Rattle.std.specs.Prelude.{◌≡◌};
 
 use std::marker::Model;
 
 /// A list that owns its items: a `Vec` that contracts see as the list of what it contains, apart
-/// from where it lies in memory. Made from a `Vec` and given back without taking memory.
+/// from where it lies in memory. Made from a `Vec` without taking memory.
 #[derive(Debug, Drop)]
 pub struct Sequence<T> {
     items: Vec<T>,
@@ -23,14 +23,6 @@ impl<T> Sequence<T> {
         ensures { result ≡ items.items }
     {
         Sequence { items }
-    }
-
-    /// The vector of its items.
-    pub fn into_vec(self) -> Vec<T>
-        ensures { result.items ≡ self }
-    {
-        let Sequence { items } = self;
-        items
     }
 
     /// Its items.

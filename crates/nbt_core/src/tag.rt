@@ -90,14 +90,6 @@ impl Tags {
         Tags { tags }
     }
 
-    /// The vector of its tags.
-    pub fn into_vec(self) -> Vec<Tag>
-        ensures { nbts result.items ≡ self }
-    {
-        let Tags { tags } = self;
-        tags
-    }
-
     /// Its tags.
     pub fn as_slice(&self) -> &[Tag]
         ensures { nbts result.now ≡ self.now }
@@ -145,14 +137,6 @@ impl Entries {
         ensures { result ≡ entries_of entries.items }
     {
         Entries { entries }
-    }
-
-    /// The vector of its entries.
-    pub fn into_vec(self) -> Vec<(Sequence<u8>, Tag)>
-        ensures { entries_of result.items ≡ self }
-    {
-        let Entries { entries } = self;
-        entries
     }
 
     /// Its entries.

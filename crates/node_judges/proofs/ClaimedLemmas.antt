@@ -50,10 +50,6 @@ pub cells_more : (claims : List Claim) (i : ℕ) (d : Claim) → i < length clai
 cells_more claims i d h = ap cells_claimed (take_more claims i d h)
     ∙ map-append (λ (c : Claim). c.cell) (take i claims) (get_or claims i d ∷ [])
 
--- no cell is free and listed before the first claim
-pub free_none : (lists : LitLists) (cells chosen : List ℕ) → AreFreeOnce lists cells chosen []
-free_none lists cells chosen = record { distinct = distinct_nil; free = λ cell h. no_member cell h }
-
 module _ (lists : LitLists) (cells chosen : List ℕ) (claims : List Claim) (i : ℕ) (d : Claim)
     (h : i < length claims) where
   -- one free cell more

@@ -5,7 +5,7 @@ use Rattle.std.proofs.Common.{get_or-set_same, get_or-set_other}
 use Rattle.std.specs.Prelude.{Bool, true, false, nat_eq, if◌then◌else◌, nat_lt, ◌↔◌}
 use Rattle.std.proofs.lemmas.Bool.{cases_eq, eqb-true, eq-eqb, ltb-true}
 use Rattle.std.proofs.lemmas.Bool.Decides.{nat_tests}
-use Rattle.std.proofs.lemmas.List.Elements.{All-head, All-tail, All-nil, Contains-push, Contains-append_left}
+use Rattle.std.proofs.lemmas.List.Elements.{All-head, All-tail, Contains-push, Contains-append_left}
 use Rattle.proof_rules.proofs.ListLemmas.{no_member, cons_cases, here, later, all_members, at_member}
 use Rattle.node_judges.specs.Tally.{Tally, IsTally, times}
 
@@ -135,17 +135,3 @@ tally_has items counts cell t h = (
 ) where
   yes : (n : ℕ) → 0 < n → IsTrue (nat_lt 0 n)
   yes n p = grind (arith, nat_tests)
-
--- a cell outside the tally is in no list
-pub tally_has_not : (items counts : List ℕ) (cell : ℕ) → IsTally (tally items counts) → length counts ≤ cell
-    → ¬ Contains items cell
-tally_has_not items counts cell t h c =
-    (let lt : cell < length counts = at_member (λ c. c < length counts) items cell t.inside c in absurd (omega arith))
-
--- an empty list has the tally that counts nothing
-pub tally_none : (items counts : List ℕ) → items ≡ [] → ((k : ℕ) → slice_index counts k ≡ 0)
-    → IsTally (tally items counts)
-tally_none items counts e z = subst (λ (l : List ℕ). IsTally (tally l counts)) (sym e) (record {
-  inside = All-nil (λ c. c < length counts);
-  counted = λ cell lt. z cell;
-})

@@ -1,5 +1,5 @@
 //! What the claims of groups load on the places that light their cells.
-ghost use Rattle.std.specs.Prelude.{◌<◌, All, length, IsTrue, MatchBool};
+ghost use Rattle.std.specs.Prelude.{◌<◌, All, length, MatchBool};
 ghost use Rattle.cave_model.specs.Plan.{AreDistinct};
 ghost use Rattle.weight_judge.specs.Claims.{AreClaims};
 ghost use Rattle.weight_judge.specs.Rooms.{AreNoRooms};

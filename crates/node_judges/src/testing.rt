@@ -1,10 +1,7 @@
-ghost use Rattle.std.specs.Prelude.{◌≡◌, ℕ, ◌⊎◌, [], ◌++◌, ◌↔◌, ◌<◌, length, All, Contains, IsTrue, IfOk, OnOk};
-ghost use Rattle.std.specs.Prelude.{MatchBool};
+ghost use Rattle.std.specs.Prelude.{◌≡◌, ℕ, [], ◌++◌, ◌↔◌, ◌<◌, length, All, Contains, IsTrue, IfOk, OnOk};
 ghost use Rattle.std.specs.List.Sorted.{IsStrictlyIncreasing};
-ghost use Rattle.cave_model.specs.Plan.{AreDistinct};
 ghost use Rattle.proof_rules.specs.Omitted.{left_without};
 ghost use Rattle.node_judges.specs.Tests as tests;
-ghost use Rattle.lit_lists.specs.Lists.{row_at};
 
 use crate::tally::Tally;
 use cave_base::Cell;
@@ -146,8 +143,9 @@ fn is_served(
     if !is_left(region, omitted, cell) {
         return true;
     }
+    // the first test is the quicker one, and most cells pass it
     let places = lists.lit_by(cell);
-    meet(places, chosen) || places.contains(&by)
+    places.contains(&by) || meet(places, chosen)
 }
 
 /// Whether the place may be left out for the other.

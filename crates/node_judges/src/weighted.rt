@@ -1,5 +1,5 @@
 //! Whether groups may stand in a weighted leaf.
-ghost use Rattle.std.specs.Prelude.{◌≡◌, ◌↔◌, ◌<◌, ◌≤◌, [], length, All, IsTrue, IfOk, MatchBool};
+ghost use Rattle.std.specs.Prelude.{◌≡◌, ◌↔◌, ◌<◌, ◌≤◌, [], length, IsTrue, IfOk};
 ghost use Rattle.proof_rules.specs.Groups.{all_cells_of};
 ghost use Rattle.proof_rules.specs.Omitted.{left_without};
 ghost use Rattle.weight_judge.specs.Rooms.{AreNoRooms};

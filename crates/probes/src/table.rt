@@ -2,7 +2,6 @@
 //! list, and looks for a free row that is dark.
 use crate::{facts, names};
 use block_rows::Rows;
-use std::alloc::Global;
 use std::fs;
 use std::test::Fail;
 use toml::Value;

@@ -102,15 +102,6 @@ homes_join cells old new number more p e = record {
   };
 }
 
--- where each cell's home is nowhere, the homes are those of no lists
-pub homes_none : (h : Homes) → h.count ≡ 0 → ((cell : ℕ) → slice_index_or h.homes cell home.Nowhere ≡ home.Nowhere)
-    → AreHomesOf [] h
-homes_none h z n = record {
-  counted = z;
-  each = λ cell lt. subst (IsHomeOf [] cell) (sym (n cell))
-      (λ l. no_member cell (subst (λ (x : List ℕ). Contains x cell) (get_or_past [] l.0 [] (omega arith)) l.1));
-}
-
 -- ---- putting cells into a list
 
 -- putting a cell twice into a list is putting it once
@@ -122,10 +113,6 @@ both_twice (home.Only i) n = go (nat_eq i n) refl where
       → both_homes (if b then home.Only i else home.Several) (home.Only n) ≡ (if b then home.Only i else home.Several)
   go true e = ap (λ (b : Bool). if b then home.Only i else home.Several) e
   go false e = refl
-
--- no cells put leave all homes as they were
-pub puts_none : (number : ℕ) (old : List Home) → PutsAll number [] old old
-puts_none number old = record { whole = refl; here = λ cell has lt. no_member cell has; others = λ cell out. refl }
 
 module _ (number : ℕ) (old now : List Home) (done : List ℕ) (cell : ℕ) (s : PutsAll number done old now) where
   -- a cell outside the box is put nowhere

@@ -1,6 +1,6 @@
 -- Which cells keep lists from being regions.
 use Rattle.std.proofs.Common.{◌≡◌, ◌≢◌, ℕ, ◌+◌, ◌<◌, ◌⊎◌, inl, inr, List, length, IsTrue, refl, sym, subst, ◌∙◌, arith}
-use Rattle.std.specs.Prelude.{Bool, true, false, ◌↔◌, Some, None}
+use Rattle.std.specs.Prelude.{Bool, true, false, ◌↔◌, Some}
 use Rattle.std.proofs.lemmas.Bool.{cases_eq, cases_lt, true≢false}
 use Rattle.cave_base.specs.Box.{cell_count}
 use Rattle.cave_model.specs.Cave.{Cave}
@@ -9,19 +9,9 @@ use Rattle.cave_model.proofs.LightLemmas.{path_end_inside}
 use Rattle.lit_lists.specs.Lists.{LitLists, AreListsOf, AreLitCells, is_marked, row_at}
 use Rattle.proof_check.specs.Refused.{IsInTwo, IsListed, LightsTwo, IsBadCell}
 use Rattle.proof_check.specs.Homes.{IsHomeOf, Homes, AreHomesOf, DecidesTwo}
-use Rattle.proof_check.specs.Ends.{home_of, is_unparted, AreParted, IsNoneBelow, DecidesLights, DecidesBad, NoneBad}
+use Rattle.proof_check.specs.Ends.{home_of, is_unparted, AreParted, DecidesLights, DecidesBad, NoneBad}
 use Rattle.proof_check.specs.declared.homes.Home.{Home}
 use Rattle.proof_check.specs.declared.homes.Home.TheVariants as home
-
--- a cell that is no place lights no two regions
-pub lights_none : (cave : Cave) (lists : LitLists) (regions : Homes) (place : ℕ) → is_marked lists.places place ≡ false
-    → DecidesLights cave lists regions place false
-lights_none cave lists regions place off = record {
-  each = λ parts known a whole. (
-    λ t. absurd (true≢false (sym t)),
-    λ two. absurd (true≢false (sym ((known.places.exact place).1 two.0) ∙ off)),
-  );
-}
 
 -- a place lights two regions just where its lit cells have two homes
 pub lights_some : (cave : Cave) (lists : LitLists) (regions : Homes) (place : ℕ) (cells : List ℕ) (result : Bool)
@@ -107,11 +97,6 @@ own_listed : (cave : Cave) (parts : List (List ℕ)) (cell : ℕ) → IsListed p
 unfolding OwnReason
 own_listed cave parts cell l n = inr (l, n)
 
--- below the first cell none is bad
-pub none_start : (cave : Cave) (lists : LitLists) (regions : Homes) → NoneBad cave lists regions 0
-none_start cave lists regions =
-    record { each = λ parts known a whole. record { each = λ cell lt. absurd (omega arith) } }
-
 module _ (cave : Cave) (lists : LitLists) (regions : Homes) (cell : ℕ) (inside : cell < cell_count cave.size)
     (s : NoneBad cave lists regions cell) where
   -- with none bad before, a cell listed wrongly is the first
@@ -155,12 +140,6 @@ module _ (cave : Cave) (lists : LitLists) (regions : Homes) (cell : ℕ) (inside
   } where
     less : (other : ℕ) → other < cell + 1 → other ≢ cell → other < cell
     less other lt ne = elim (cases_lt other cell) [ inl l ↦ l | inr le ↦ absurd (ne (omega arith)) ]
-
--- with none bad below the last, no cell of the box is bad
-pub none_all : (cave : Cave) (lists : LitLists) (regions : Homes) (count : ℕ) → count ≡ cell_count cave.size
-    → NoneBad cave lists regions count → DecidesBad cave lists regions (cell_count cave.size) None
-none_all cave lists regions count e s =
-    record { each = λ parts known a whole. subst (IsNoneBelow (IsBadCell cave parts)) e (s.each parts known a whole) }
 
 -- where no cell is listed wrongly
 module _ (cave : Cave) (lists : LitLists) (regions : Homes)

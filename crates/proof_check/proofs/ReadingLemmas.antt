@@ -1,6 +1,6 @@
 -- What was read of a certificate, piece after piece.
-use Rattle.std.proofs.Common.{◌≡◌, ℕ, ◌+◌, ◌*◌, ◌^◌, ◌<◌, ◌≤◌, ◌⊎◌, inl, inr, List, [], ◌++◌, length, take, Option}
-use Rattle.std.proofs.Common.{Some, None, refl, sym, ap, subst, ◌∙◌, arith, append_assoc, length-append}
+use Rattle.std.proofs.Common.{◌≡◌, ℕ, ◌+◌, ◌*◌, ◌^◌, ◌<◌, ◌≤◌, ◌⊎◌, inl, inr, List, ◌++◌, length, take, Option}
+use Rattle.std.proofs.Common.{Some, None, sym, ap, subst, ◌∙◌, arith, append_assoc, length-append}
 use Rattle.std.specs.Prelude.{IfSome}
 use Rattle.std.specs.Io.KnownBytes.{Consumes, IsAtEnd, Keeps}
 use Rattle.std.proofs.lemmas.List.{append-nil, length-take-le}
@@ -11,11 +11,6 @@ use Rattle.proof_check.specs.declared.fault.CheckFault.{CheckFault}
 use Rattle.proof_check.specs.declared.fault.CheckFault.TheVariants as faults
 use Rattle.proof_check.specs.declared.trial.Trial.{Trial}
 use Rattle.proof_check.specs.declared.verdict.Verdict.{Verdict}
-
--- known bytes are themselves with none consumed
-consumes_none : (old : Option (List ℕ)) → Consumes old old []
-consumes_none None = tt
-consumes_none (Some xs) = refl
 
 -- bytes consumed one after the other are consumed together
 consumes_more : (old now new : Option (List ℕ)) (a b : List ℕ) → Consumes old now a → Consumes now new b
@@ -52,10 +47,6 @@ pub record IsRead (old now : Option (List ℕ)) (limit room : ℕ) (bytes : List
   pub taken : Consumes old now bytes
   pub fits : length bytes + room ≡ limit
 
--- before the first read, there is room for the whole limit
-pub read_none : (old : Option (List ℕ)) (limit : ℕ) → IsRead old old limit limit []
-read_none old limit = record { taken = consumes_none old; fits = omega arith }
-
 -- a piece more is read, and the room shrinks by its length
 pub read_more : (old now new : Option (List ℕ)) (limit room left count : ℕ) (bytes buffer : List ℕ)
     → IsRead old now limit room bytes → Gives now new room buffer count → left + count ≡ room
@@ -80,11 +71,6 @@ pub read_failed : (old now new : Option (List ℕ)) (limit room : ℕ) (bytes : 
 read_failed old now new limit room bytes e r (inl failed) is =
     (bytes, omega (arith, r.fits), consumes_kept old now new bytes r.taken failed.1)
 read_failed old now new limit room bytes e r (inr long) is = (let f = long.0 in absurd cc)
-
--- at any time at most the limit was consumed
-pub read_at_most : (old now : Option (List ℕ)) (limit room : ℕ) (bytes : List ℕ) → IsRead old now limit room bytes
-    → GivesAtMost limit old now
-read_at_most old now limit room bytes r = (bytes, omega (arith, r.fits), r.taken)
 
 -- where no piece comes, a read failed or the bytes are too long
 pub none_kinds : (old new : Option (List ℕ)) (room : ℕ) (e : CheckFault) → GivesNone old new room e
@@ -114,11 +100,6 @@ pub record IsReadOf (cave : Cave) (old now : Option (List ℕ)) (limit room call
   pub few : length bytes ≤ 8192 * calls
   pub tried : Tried cave bytes trial
 
--- before the first read the trial has heard nothing
-pub of_none : (cave : Cave) (old : Option (List ℕ)) (limit : ℕ) (trial : Trial) → Tried cave [] trial
-    → IsReadOf cave old old limit limit 0 trial
-of_none cave old limit trial t = record { bytes = []; read = read_none old limit; few = omega arith; tried = t }
-
 -- a piece more is read, and the trial has heard it
 pub of_more : (cave : Cave) (old now new : Option (List ℕ)) (limit room left calls count : ℕ) (buffer piece : List ℕ)
     (trial next : Trial) → IsReadOf cave old now limit room calls trial → Gives now new room buffer count
@@ -130,12 +111,6 @@ of_more cave old now new limit room left calls count buffer piece trial next r g
   few = omega (arith, r.few, g.within, length-append r.bytes (take count buffer), length-take-le count buffer g.within);
   tried = subst (λ (p : List ℕ). Tried cave (r.bytes ++ p) next) same (hears.each r.bytes r.tried);
 }
-
--- the trial has room for a byte more, however many calls there were
-pub of_room : (cave : Cave) (old now : Option (List ℕ)) (limit room calls : ℕ) (trial : Trial)
-    → IsReadOf cave old now limit room calls trial → calls < 134217728 → HasRoom cave trial 1
-of_room cave old now limit room calls trial r h =
-    record { bytes = r.bytes; tried = r.tried; room = omega (arith, r.few) }
 
 -- and room for each piece that comes
 pub of_piece : (cave : Cave) (old now : Option (List ℕ)) (limit room calls count : ℕ) (buffer piece : List ℕ)

@@ -200,11 +200,6 @@ pub record Closing (limit : ℕ) (chosen barred omitted : List ℕ) (kept : List
       → (left : List Frame) × Fits lists new_chosen new_barred new_omitted new_kept left
       × (close left ≡ close frames)
 
--- before the first frame is closed nothing has changed
-pub closing_start : (limit : ℕ) (chosen barred omitted : List ℕ) (kept : List held.Frame)
-    → Closing limit chosen barred omitted kept chosen barred omitted kept
-closing_start limit chosen barred omitted kept = record { each = λ lists frames e f. (frames, f, refl) }
-
 -- a branch with no place left is closed, its chosen place, its barred ones and the cells left out in it taken back
 pub closing_next : (limit : ℕ) (c0 b0 o0 : List ℕ) (k0 : List held.Frame) (chosen barred omitted : List ℕ)
     (kept front : List held.Frame) (last : held.Frame) (new_chosen new_barred new_omitted : List ℕ)
@@ -312,12 +307,3 @@ entered limit (p ∷ ps) chosen barred omitted kept now new_chosen new_kept some
         );
       });
 }
-
--- a branch with none is closed at once
-pub entered_none : (limit : ℕ) (places chosen barred omitted : List ℕ) (kept : List held.Frame)
-    (new_chosen new_barred new_omitted : List ℕ) (new_kept : List held.Frame) → places ≡ []
-    → ClosesFrames limit chosen barred omitted kept new_chosen new_barred new_omitted new_kept
-    → Enters limit places chosen barred omitted kept new_chosen new_barred new_omitted new_kept
-entered_none limit places chosen barred omitted kept new_chosen new_barred new_omitted new_kept e s =
-    subst (λ (l : List ℕ). Enters limit l chosen barred omitted kept new_chosen new_barred new_omitted new_kept) (sym e)
-    (record { each = λ lists frames el legal f. s.each lists frames el f })

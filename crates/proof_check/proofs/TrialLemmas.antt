@@ -289,15 +289,6 @@ pub record Hearing (cave : Cave) (piece : List ℕ) (old now : Trial) (rest : Li
   pub parts : piece ≡ front ++ rest
   pub each : (bytes : List ℕ) → Tried cave bytes old → Tried cave (bytes ++ front) now
 
--- before a piece nothing of it was heard
-pub hearing_start : (cave : Cave) (piece : List ℕ) (t : Trial) → Hearing cave piece t t piece
-hearing_start cave piece t = record {
-  front = [];
-  parts = refl;
-  each = λ bytes h. subst (λ (b : List ℕ). Tried cave b t)
-      (sym (append-nil bytes)) h;
-}
-
 -- the room for a piece leaves room for its rest
 pub hearing_room : (cave : Cave) (piece : List ℕ) (old now : Trial) (rest : List ℕ) → HasRoom cave old (length piece)
     → Hearing cave piece old now rest → HasRoom cave now (length rest)
@@ -315,13 +306,4 @@ hearing_more cave piece old now new rest after h to = record {
   parts = h.parts ∙ ap (λ (l : List ℕ). h.front ++ l) to.parts ∙ sym (append_assoc h.front to.front after);
   each = λ bytes t. subst (λ (b : List ℕ). Tried cave b new) (append_assoc bytes h.front to.front)
       (to.each (bytes ++ h.front) (h.each bytes t));
-}
-
--- with its rest the whole piece was heard
-pub hearing_end : (cave : Cave) (piece : List ℕ) (old now new : Trial) (rest : List ℕ) → Hearing cave piece old now rest
-    → HearsAll cave rest now new → HearsAll cave piece old new
-hearing_end cave piece old now new rest h all = record {
-  each = λ bytes t. subst (λ (b : List ℕ). Tried cave b new)
-      (append_assoc bytes h.front rest ∙ ap (λ (l : List ℕ). bytes ++ l) (sym h.parts))
-      (all.each (bytes ++ h.front) (h.each bytes t));
 }

@@ -1,4 +1,4 @@
-ghost use Rattle.std.specs.Prelude.{◌≡◌, ◌↔◌, ◌<◌, ◌≤◌, length, IfOk, IsTrue};
+ghost use Rattle.std.specs.Prelude.{◌≡◌, ◌↔◌, ◌<◌, length, IfOk, IsTrue};
 ghost use Rattle.cave_base.specs.Box.{cell_count};
 ghost use Rattle.lit_lists.specs.Seeded.{AreUnlit};
 ghost use Rattle.proof_check.specs.Ends as ends;

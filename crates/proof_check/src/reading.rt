@@ -1,4 +1,4 @@
-ghost use Rattle.std.specs.Prelude.{◌≡◌, ◌≢◌, ◌⊎◌, ◌≤◌, ◌<◌, length, IfOk, IfErr, IfSome, MatchResult};
+ghost use Rattle.std.specs.Prelude.{◌≡◌, ◌⊎◌, ◌≤◌, ◌<◌, length, IfOk, IfErr, IfSome, MatchResult};
 ghost use Rattle.proof_check.specs.Reading.{Gives, GivesAtMost, GivesNone};
 ghost use Rattle.proof_check.specs.Tried.{IsTheVerdict};
 ghost use Rattle.proof_check.specs.Verdict.{IsOfReading};

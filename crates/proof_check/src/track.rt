@@ -1,9 +1,9 @@
-ghost use Rattle.std.specs.Prelude.{◌≡◌, ◌<◌, ◌+◌, [], length, IfOk, OnOk};
+ghost use Rattle.std.specs.Prelude.{◌≡◌, ◌<◌, ◌+◌, [], length, OnOk};
 ghost use Rattle.proof_check.specs.Track.{ClosesFrames, Enters, IsNextKid};
 
 use cave_base::Cell;
 use node_judges::Tally;
-use std::alloc::{AllocError, Global};
+use std::alloc::AllocError;
 
 /// An open branch.
 #[derive(Debug, Drop)]

@@ -1,6 +1,5 @@
 //! A tree of cases.
 ghost use Rattle.std.specs.Prelude.{◌≡◌, IfOk};
-ghost use Rattle.proof_rules.specs.Tree.{leaf, weighted, branch, bar, omit};
 ghost use Rattle.proof_tree.specs.Shape.{tree_of, forest_of};
 
 use crate::groups::Groups;

@@ -1,5 +1,4 @@
 //! Pieces in a deque that its owner and a thief take in turn.
-ghost use Rattle.std.specs.Prelude.{◌≡◌};
 ghost use Rattle.crossbeam_deque.specs.Handles.{SameWorker};
 ghost use Rattle.search_cases.specs.Turns.{IsOwners, Reaches};
 

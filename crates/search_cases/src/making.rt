@@ -1,6 +1,5 @@
 //! Small regions from the cells that their places light, looked at row by row.
-ghost use Rattle.std.specs.Prelude.{◌≡◌, ◌≤◌, ◌<◌, ◌*◌, ◌+◌, ◌/◌, ◌^◌, ℕ, IsTrue, length, IfOk};
-ghost use Rattle.set_cover.specs.Bits.{Has, HasNoneFrom};
+ghost use Rattle.std.specs.Prelude.{◌≡◌, ◌≤◌, ◌<◌, ◌*◌, ◌+◌, ◌/◌, ℕ, IsTrue, length, IfOk};
 ghost use Rattle.set_cover.specs.Instance.{words_for};
 ghost use Rattle.search_cases.specs.Made.{CountsUp, made_row, IsRowFor, IsLitIn, AreRows};
 

@@ -1,5 +1,4 @@
 //! A proposer whose nodes are told to an observer.
-ghost use Rattle.pack_bound.specs.Nodes.{IsStateOf};
 
 use cave_regions::Region;
 use pack_bound::Node;

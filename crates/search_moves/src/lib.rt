@@ -1,4 +1,4 @@
-//! The moves of a search: at each node a packing or a tree by zones, the places to leave out, and the cell to branch
+//! The moves of a search: at each node a packing or a weighted leaf, the places to leave out, and the cell to branch
 //! on; and the pruning of finished trees. All of it proposes, and nothing is promised of it but that it ends and stays
 //! in bounds: judges accept or refuse.
 #![tactic(auto)]

@@ -3,4 +3,3 @@ pub mod ReportLemmas
 pub mod SlotLemmas
 pub mod StartLemmas
 pub mod TurnLemmas
-pub mod RestLemmas

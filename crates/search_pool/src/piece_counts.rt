@@ -1,7 +1,6 @@
 //! How many pieces workers handed over, by what became of them.
-ghost use Rattle.std.specs.Prelude.{◌≡◌, ◌≤◌, ◌*◌, ◌^◌, length};
-ghost use Rattle.schedule_law.specs.Joined.{all_back, all_closed, all_opened};
-ghost use Rattle.search_pool.specs.Tallies.{AreTallied, all_refused};
+ghost use Rattle.std.specs.Prelude.{◌≤◌, ◌*◌, ◌^◌, length};
+ghost use Rattle.search_pool.specs.Tallies.{AreTallied};
 
 use schedule_law::Work;
 

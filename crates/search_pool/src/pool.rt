@@ -1,5 +1,5 @@
 //! A whole run of workers over deques that are stocked.
-ghost use Rattle.std.specs.Prelude.{◌≡◌, ◌≤◌, ◌<◌, IfOk, length, true};
+ghost use Rattle.std.specs.Prelude.{◌≡◌, ◌<◌, IfOk, length};
 ghost use Rattle.std.specs.Arc.{arc_value};
 ghost use Rattle.beacon.specs.Marks.{at_first};
 ghost use Rattle.proof_tree.specs.Opened.{kids_of};

@@ -1,6 +1,5 @@
 //! Filling the workers' slots: for each worker a seat at the beacon, its own deque, and a pass at each deque.
 ghost use Rattle.std.specs.Prelude.{◌≡◌, ◌+◌, ◌≤◌, [], true, All, IfOk, length, map};
-ghost use Rattle.beacon.specs.Marks.{Seated};
 ghost use Rattle.worker_results.specs.Naming.{numbers_from};
 ghost use Rattle.worker_results.specs.Passes.{all_taken};
 ghost use Rattle.worker_results.specs.Results.{IsNewSeatAt};

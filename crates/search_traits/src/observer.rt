@@ -2,7 +2,7 @@
 ghost use Rattle.std.specs.Prelude.{◌≤◌};
 
 use proof_tree::Name;
-use std::marker::{Send, Sync};
+use std::marker::Sync;
 
 /// Told of a search while it goes on. Nothing is promised of it, and nothing comes back from it; tests hold workers
 /// back in it.

@@ -1,13 +1,12 @@
 -- Counting bits, word by word.
 use Rattle.std.proofs.Common.{◌≡◌, ◌≢◌, ℕ, zero, suc, ◌+◌, ◌-◌, ◌*◌, ◌/◌, ◌%◌, ◌^◌, ◌<◌, ◌≤◌, List, [], ◌∷◌, ◌++◌}
 use Rattle.std.proofs.Common.{length, slice_index, Contains, refl, sym, ap, subst, ◌∙◌, arith, inl, inr}
-use Rattle.std.proofs.Common.{length-append, min, count_ones}
+use Rattle.std.proofs.Common.{length-append, count_ones}
 use Rattle.std.specs.Prelude.{◌↔◌, AllPairs}
 use Rattle.std.specs.Int.{bit_at}
-use lib.Bits.{bit_and}
 use lib.Count.{ones_step}
 use Rattle.std.proofs.lemmas.Bool.{cases_lt, cases_eq}
-use Rattle.std.proofs.lemmas.Nat.Bits.{bit_at-zero, bit_at-lt, bit_at_lowest, bit_at-suc, bit_at_and, bit_at_above}
+use Rattle.std.proofs.lemmas.Nat.Bits.{bit_at-zero, bit_at_lowest, bit_at-suc, bit_at_above}
 use Rattle.std.proofs.lemmas.Nat.{ones-le}
 use Rattle.std.proofs.lemmas.List.Elements.{Contains-append_cases, Contains-append_left, Contains-append_right}
 use Rattle.set_cover.specs.Bits.{Has}
@@ -87,7 +86,7 @@ of_word (suc size) word base le = elim (cases_eq word 0) [
 
 -- ---- word by word
 
--- the bits of the first so many words, each once; the words may be those of one row, or what two have in common
+-- the bits of the first so many words, each once
 pub record Counting (word : ℕ → ℕ) (index total : ℕ) : Type 0 where
   pub bits : List ℕ
   pub once : AllPairs (λ a b. a ≢ b) bits
@@ -161,7 +160,7 @@ counting_all Kind word index total is s = record {
     same : (bit : ℕ) → Contains s.bits bit ↔ Kind bit
     same bit = (λ has. (is bit).1 ((s.exact bit).0 has), λ k. (s.exact bit).1 ((is bit).0 k))
 
--- ---- of one row, and of two
+-- ---- of a row
 
 -- the bits of a row are those of its words
 pub of_row : (words : List ℕ) (index : ℕ) → length words ≤ index → (bit : ℕ)
@@ -173,19 +172,3 @@ of_row words index all bit = (
   ]),
   λ b. has_if words bit b.1,
 )
-
--- the common bits of two rows are those of their words and-ed
-pub of_two : (one two : List ℕ) (index : ℕ) → length one ≤ index → (bit : ℕ)
-    → (Has one bit × Has two bit)
-    ↔ ((bit / 64 < index) × (bit_at (bit_and (slice_index one (bit / 64)) (slice_index two (bit / 64))) (bit % 64) ≡ 1))
-of_two one two index all bit = (
-  λ h. (let a = (of_row one index all bit).0 h.0 in (a.0, omega (arith, both, a.1, one_if two bit h.1))),
-  λ b. (
-    has_if one bit (omega (arith, both, b.1, bit_at-lt (slice_index one (bit / 64)) (bit % 64))),
-    has_if two bit (omega (arith, both, b.1, bit_at-lt (slice_index two (bit / 64)) (bit % 64))),
-  ),
-)
-  where
-    both : bit_at (bit_and (slice_index one (bit / 64)) (slice_index two (bit / 64))) (bit % 64) ≡ min
-        (bit_at (slice_index one (bit / 64)) (bit % 64)) (bit_at (slice_index two (bit / 64)) (bit % 64))
-    both = bit_at_and (slice_index one (bit / 64)) (slice_index two (bit / 64)) (bit % 64)

@@ -1,20 +1,15 @@
 -- Cells get their indices, one after another.
-use Rattle.std.proofs.Common.{◌≡◌, ◌≢◌, ℕ, ◌+◌, ◌<◌, ◌≤◌, List, length, set, slice_index, Contains, refl, sym, subst}
+use Rattle.std.proofs.Common.{◌≡◌, ◌≢◌, ℕ, ◌+◌, ◌<◌, List, length, set, slice_index, Contains, sym, subst}
 use Rattle.std.proofs.Common.{◌∙◌, ◌⊎◌, arith, inl, inr, length-set, get_or-set_same, get_or-set_other}
 use Rattle.std.specs.List.Sorted.{IsStrictlyIncreasing}
 use Rattle.std.proofs.lemmas.Bool.{cases_lt, cases_eq}
 use Rattle.set_cover.proofs.OrderLemmas.{rises, element_of}
-use Rattle.set_cover.specs.Numbering.{Numbers}
 
 -- the first so many cells have got theirs
 pub record Numbering (old cells : List ℕ) (count : ℕ) (new : List ℕ) : Type 0 where
   pub whole : length new ≡ length old
   pub listed : (index : ℕ) → index < count → slice_index new (slice_index cells index) ≡ index
   pub others : (cell : ℕ) → (slice_index new cell ≡ slice_index old cell) ⊎ Contains cells cell
-
--- before the first cell none has its index
-pub numbering_none : (old cells : List ℕ) → Numbering old cells 0 old
-numbering_none old cells = record { whole = refl; listed = λ index h. absurd (omega arith); others = λ cell. inl refl }
 
 -- the next cell gets its index
 pub numbering_next : (old cells new : List ℕ) (count : ℕ) → IsStrictlyIncreasing cells → count < length cells
@@ -38,9 +33,3 @@ numbering_next old cells new count up h inside s = record {
     ])
   ]);
 }
-
--- after the last all have theirs
-pub numbering_all : (old cells new : List ℕ) (count : ℕ) → length cells ≤ count → Numbering old cells count new
-    → Numbers old cells new
-numbering_all old cells new count all s =
-    record { whole = s.whole; listed = λ index h. s.listed index (omega arith); others = s.others }

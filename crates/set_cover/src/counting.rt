@@ -1,5 +1,5 @@
 //! Counting the bits of rows, a word at a time.
-ghost use Rattle.std.specs.Prelude.{◌≡◌, ◌<◌, ◌^◌, length};
+ghost use Rattle.std.specs.Prelude.{◌<◌, ◌^◌, length};
 ghost use Rattle.set_cover.specs.Bits.{Has};
 ghost use Rattle.set_cover.specs.Counts.{IsCount};
 
@@ -11,19 +11,6 @@ pub fn count(words: &[u64]) -> usize
     let mut total = 0;
     for word in words {
         total += word.count_ones() as usize;
-    }
-    total
-}
-
-/// How many bits are in both rows.
-pub fn count_common(one: &[u64], two: &[u64]) -> usize
-    requires same { length one.now ≡ length two.now }
-    requires small { length one.now < 2 ^ 32 }
-    ensures { IsCount (λ bit. Has one.now bit × Has two.now bit) result }
-{
-    let mut total = 0;
-    for index in 0..one.len() {
-        total += (one[index] & two[index]).count_ones() as usize;
     }
     total
 }

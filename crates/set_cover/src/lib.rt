@@ -12,7 +12,7 @@ mod search;
 mod walk;
 
 pub use change::{add, add_apart, clear, empty};
-pub use counting::{count, count_common};
+pub use counting::count;
 pub use instance::Instance;
 pub use look::{first, has, is_within, meet};
 pub use numbering::number;

@@ -1,6 +1,6 @@
 //! Going from bit to bit of a row.
-ghost use Rattle.std.specs.Prelude.{◌≡◌, ◌<◌, ◌+◌, ◌*◌, ◌^◌, length, slice_index, MatchOption};
-ghost use Rattle.set_cover.specs.Bits.{Has, HasNoneFrom, IsNext};
+ghost use Rattle.std.specs.Prelude.{◌<◌, ◌+◌, ◌*◌, ◌^◌, length, MatchOption};
+ghost use Rattle.set_cover.specs.Bits.{HasNoneFrom, IsNext};
 
 /// The least bit of the row that is at least `from`. To go over all bits: `next(row, 0)`, then each time from the bit
 /// that was found and one.

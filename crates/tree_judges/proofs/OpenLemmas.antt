@@ -24,10 +24,6 @@ pub record AreListsTo (region : Instance) (state : NodeState) (claims : List Cla
   pub each : (index : ℕ) (d : Claim) → index < count
       → AreKidPlaces region state (get_or claims index d).cell (places_at lists index)
 
--- none yet
-pub lists_begin : (region : Instance) (state : NodeState) (claims : List Claim) → AreListsTo region state claims 0 []
-lists_begin region state claims = record { whole = refl; each = λ index d lt. absurd (omega arith) }
-
 -- one claim more
 pub lists_go_on : (region : Instance) (state : NodeState) (claims : List Claim) (count : ℕ) (lists : List (List ℕ))
     (places : List ℕ) → AreListsTo region state claims count lists

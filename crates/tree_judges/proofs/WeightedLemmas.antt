@@ -1,24 +1,20 @@
 -- Weighted leaves by indices.
-use Rattle.std.proofs.Common.{◌≡◌, ℕ, ◌+◌, ◌<◌, ◌≤◌, List, [], length, All, Contains, get_or}
+use Rattle.std.proofs.Common.{◌≡◌, ℕ, ◌+◌, ◌<◌, ◌≤◌, List, [], length, Contains, get_or}
 use Rattle.std.proofs.Common.{sym, ap, subst, ◌∙◌, arith}
 use Rattle.std.proofs.lemmas.List.{get_or-map, length-map}
-use Rattle.std.proofs.lemmas.List.Elements.{Contains-get_or}
 use Rattle.proof_rules.specs.declared.groups.Share.{Share}
 use Rattle.proof_rules.specs.declared.groups.Group.{Group}
-use Rattle.proof_rules.specs.Tree.{weighted}
-use Rattle.proof_rules.specs.Groups.{places_for_all}
 use Rattle.proof_rules.specs.Groups.{cells_of, all_cells_of, most_weight, IsGroup, AreGroups}
 use Rattle.proof_rules.proofs.ListLemmas.{all_members}
 use Rattle.cave_model.specs.Plan.{AreDistinct}
-use Rattle.set_cover.specs.Bits.{Has}
 use Rattle.set_cover.specs.Instance.{Instance, of_indices}
 use Rattle.pack_bound.specs.Indices.{IsUnlitAt}
-use Rattle.pack_bound.specs.Nodes.{NodeState, IsStateOf, Closes}
+use Rattle.pack_bound.specs.Nodes.{NodeState, IsStateOf}
 use Rattle.pack_bound.specs.Judged.{AreMarked}
 use Rattle.weight_judge.specs.declared.claims.Claim.{Claim}
 use Rattle.weight_judge.specs.Claims.{claims_of}
 use Rattle.weight_judge.specs.Held.{AreAllKept, AreAllOpen}
-use Rattle.weight_judge.proofs.ClaimLemmas.{claim_cells, to_map}
+use Rattle.weight_judge.proofs.ClaimLemmas.{claim_cells}
 use Rattle.weight_judge.proofs.KeptLemmas.{kept_capacities, kept_apart}
 use Rattle.tree_judges.specs.Weighted.{claimed, AreShares, AreOpenLists, MayBeWeighted}
 
@@ -66,18 +62,6 @@ groups_all groups some g = record {
 }
 
 -- ---- the judge
-
--- the cells of the claims are unlit where they are marked
-pub claims_unlit : (unlit : List ℕ) (claims : List Claim) (marks : List ℕ) → AreMarked unlit (claimed claims) marks
-    → All (λ claim. Has unlit claim.cell) claims
-claims_unlit unlit claims marks m = λ k d h. m.each (get_or claims k d).cell
-    (to_map (λ (c : Claim). c.cell) claims (get_or claims k d) (Contains-get_or claims k d h))
-
--- such groups close what is left at each floor that they reach
-pub closes_weighted : (region : Instance) (state : NodeState) (groups : List Group) (floor : ℕ)
-    → MayBeWeighted region state groups → floor ≤ length state.chosen + places_for_all groups
-    → Closes region state floor (weighted groups)
-closes_weighted region state groups floor m le = record { good = λ barred listed. (m.weighted_there barred listed, le) }
 
 -- groups whose claims each place may hold may stand in a weighted leaf
 pub may_stand : (region : Instance) (state : NodeState) (groups : List Group) (claims : List Claim) (marks : List ℕ)

@@ -12,12 +12,6 @@ use Rattle.weight_judge.specs.Claims.{claim_of, share_claims, claims_from, claim
 
 -- ---- one more
 
--- the claims of one share more
-pub claims_push : (group capacity : ℕ) (shares : List Share) (x : Share)
-    → share_claims group capacity (shares ++ x ∷ [])
-    ≡ share_claims group capacity shares ++ claim_of group capacity x ∷ []
-claims_push group capacity shares x = map-append (claim_of group capacity) shares (x ∷ [])
-
 -- the claims of one group more
 from_push : (index : ℕ) (groups : List Group) (g : Group)
     → claims_from index (groups ++ g ∷ []) ≡ claims_from index groups

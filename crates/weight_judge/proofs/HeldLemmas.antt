@@ -14,7 +14,7 @@ use Rattle.weight_judge.specs.declared.rooms.Room.{Room}
 use Rattle.weight_judge.specs.Claims.{AreClaims}
 use Rattle.weight_judge.specs.Held.{places_at, if_held, held, weight_claimed, AreKept, AreAllKept}
 use Rattle.weight_judge.specs.Rooms.{room_at, Takes, TakesAt, LacksRoom, LackRoom, AreTaken, HasRoom, IsRoomOf}
-use Rattle.weight_judge.specs.Rooms.{AreNoRooms, AreRooms}
+use Rattle.weight_judge.specs.Rooms.{AreRooms}
 
 -- ---- lists of claims
 
@@ -187,10 +187,6 @@ room_keeps xs (Some room) r = record {
 -- no claims may be held
 pub kept_none : AreKept []
 kept_none = room_keeps [] None refl
-
--- before the first claim each place has all its room
-pub rooms_none : (count : ℕ) (rooms : List (Option Room)) → AreNoRooms count rooms → AreRooms [] [] rooms
-rooms_none count rooms none = record { each = λ place. subst (IsRoomOf []) (sym (none.none place)) refl }
 
 module _ (claims : List Claim) (lists : List (List ℕ)) (whole : length lists ≡ length claims) (are : AreClaims claims)
   where

@@ -1,7 +1,6 @@
 pub mod Branches
 pub mod ClaimLemmas
 pub mod NeededLemmas
-pub mod RowLemmas
 pub mod RoomLemmas
 pub mod HeldLemmas
 pub mod KeptLemmas

@@ -1,7 +1,6 @@
 -- Sums of weights and of places don't wrap.
 use Rattle.std.proofs.Common.{◌≡◌, ℕ, ◌+◌, ◌*◌, ◌<◌, ◌≤◌, List, [], ◌∷◌, ◌++◌, length, take, get_or, arith}
 use Rattle.std.proofs.Common.{ap, sym, ◌∙◌, length-append}
-use Rattle.std.specs.Int.{div_ceil}
 use Rattle.std.proofs.lemmas.List.{length-map, take_more, append-nil}
 use Rattle.std.proofs.lemmas.List.Concat.{flat_map-append}
 use Rattle.std.proofs.lemmas.List.Folds.{length-flat_map-take}
@@ -9,13 +8,6 @@ use Rattle.std.proofs.lemmas.List.Sums.{sum_by_push}
 use Rattle.proof_rules.specs.declared.groups.Share.{Share}
 use Rattle.proof_rules.specs.declared.groups.Group.{Group}
 use Rattle.proof_rules.specs.Groups.{cells_of, all_cells_of, places_for, places_for_all}
-use Rattle.proof_rules.proofs.WeightLemmas.{ceil_at_most}
-
--- what weighs so much needs no more places than that
-pub ceil_below : (weight capacity : ℕ) → 0 < capacity → div_ceil weight capacity ≤ weight
-ceil_below weight capacity some = ceil_at_most weight capacity weight some (at_least weight capacity some) where
-  at_least : (n k : ℕ) → 0 < k → n ≤ n * k
-  at_least n k h = grind arith
 
 module _ (groups : List Group) (index : ℕ) (g : Group) (lt : index < length groups) (is : g ≡ get_or groups index g)
   where

@@ -2,4 +2,3 @@
 pub mod Claims
 pub mod Held
 pub mod Rooms
-pub mod Rows

@@ -1,5 +1,5 @@
 //! Whether places keep the capacities of groups.
-ghost use Rattle.std.specs.Prelude.{◌≡◌, ◌↔◌, ◌<◌, length, IsTrue, IfOk, MatchBool};
+ghost use Rattle.std.specs.Prelude.{◌≡◌, ◌↔◌, ◌<◌, length, IsTrue, IfOk};
 ghost use Rattle.weight_judge.specs.Claims.{AreClaims};
 ghost use Rattle.weight_judge.specs.Held.{AreAllKept, AreListsBelow};
 ghost use Rattle.weight_judge.specs.Rooms.{AreNoRooms};

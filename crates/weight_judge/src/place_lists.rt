@@ -1,7 +1,6 @@
 //! Lists of places, one for each of some cells.
-ghost use Rattle.std.specs.Prelude.{◌≡◌, ◌<◌, [], ◌∷◌, ◌++◌, length, IfOk, OnOk};
+ghost use Rattle.std.specs.Prelude.{◌≡◌, [], ◌∷◌, ◌++◌, OnOk};
 ghost use Rattle.weight_judge.specs.Held.{places_at};
-ghost use Rattle.weight_judge.specs.Rows.{AreEmptyLists, IsPushed};
 
 use std::alloc::{AllocError, Global};
 use std::marker::Model;
@@ -28,27 +27,6 @@ impl PlaceLists {
         PlaceLists {
             lists: Vec::new(alloc),
         }
-    }
-
-    /// So many empty lists.
-    pub fn none(alloc: Global, count: usize) -> Result<PlaceLists, AllocError>
-        ensures { IfOk result (AreEmptyLists count) }
-    {
-        let mut lists = Vec::new(alloc);
-        for _ in 0..count {
-            lists.push(Vec::new(alloc))?;
-        }
-        Ok(PlaceLists { lists })
-    }
-
-    /// Puts a place at the end of the list at an index.
-    pub fn push_at(&mut self, index: usize, place: u32) -> Result<(), AllocError>
-        requires inside { index < length self.old }
-        ensures { OnOk result (IsPushed self.old index place self.new) }
-    {
-        let places = &mut self.lists[index];
-        places.push(place)?;
-        Ok(())
     }
 
     /// Puts a list at the end.

@@ -69,11 +69,6 @@ at_least_both n None b h k = k
 at_least_both n (Some x) None h k = h
 at_least_both n (Some x) (Some y) h k = omega arith
 
--- the size told at first is at most itself
-pub told_at_first : (told : Option ℕ) → AtLeast (told_size told) told
-told_at_first None = tt
-told_at_first (Some size) = omega arith
-
 -- ---- works
 
 -- a floor that reaches a size reaches a smaller one

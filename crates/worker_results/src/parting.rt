@@ -1,5 +1,5 @@
 //! Results are taken apart, and their seats joined.
-ghost use Rattle.std.specs.Prelude.{◌≡◌, ◌++◌, length, true, IfOk};
+ghost use Rattle.std.specs.Prelude.{◌≡◌, length, true, IfOk};
 ghost use Rattle.beacon.specs.Marks.{together};
 ghost use Rattle.worker_results.specs.Joining.{numbers_of, workers_of, works_of};
 ghost use Rattle.worker_results.specs.Apart.{AreApart, AreResultParts, IsOneMore};
