@@ -1,0 +1,52 @@
+//! What proposes, and what is proposed.
+
+use crate::cave_regions::Region;
+use crate::memory::{AllocError, Global, Vec};
+use crate::pack_bound::Node;
+use crate::proof_tree::Proof;
+use crate::tree_judges::Bar;
+
+pub struct Proposal {
+    pub cover: Option<Vec<u32>>,
+    pub tree: Proof,
+    pub bars: Vec<Bar>,
+    pub branch: u32,
+}
+
+pub trait Proposer {
+    fn propose(
+        &mut self,
+        alloc: Global,
+        region: &Region,
+        node: &Node,
+        floor: Option<u64>,
+    ) -> Result<Proposal, AllocError>;
+}
+
+pub trait Strategy: Proposer + Sized {
+    fn at(alloc: Global, region: &Region, node: &Node) -> Result<Self, AllocError>;
+
+    fn shortened(
+        &self,
+        alloc: Global,
+        region: &Region,
+        node: &Node,
+        tree: &Proof,
+    ) -> Result<Proof, AllocError>;
+
+    fn kept_places(alloc: Global, region: &Region) -> Result<Vec<u32>, AllocError>;
+
+    fn carried_places(
+        alloc: Global,
+        region: &Region,
+        places: &[u32],
+    ) -> Result<Vec<u32>, AllocError>;
+
+    fn carried_tree(
+        &self,
+        alloc: Global,
+        region: &Region,
+        node: &Node,
+        tree: Proof,
+    ) -> Result<Proof, AllocError>;
+}
