@@ -1,9 +1,9 @@
 //! The columns of a row of the user's table. None of these takes memory.
-ghost use Rattle.std.specs.Prelude.{◌≡◌, map, is_some, option_map, option_copied, bytes_eq};
 ghost use Rattle.std.specs.List.{list_any};
+ghost use Rattle.std.specs.Prelude.{◌≡◌, map, is_some, option_map, option_copied, bytes_eq};
+ghost use Rattle.block_rows.specs.Columns as columns;
 ghost use Rattle.toml.specs.Data.{get_member};
 ghost use Rattle.toml.specs.View.{table_view, view};
-ghost use Rattle.block_rows.specs.Columns as columns;
 
 use cave_base::Class;
 use toml::{Table, Value};

@@ -1,10 +1,10 @@
 //! What is wrong with a user's table: the first fault in its order. None of this takes memory.
 ghost use Rattle.std.specs.Prelude.{◌≡◌, option_map};
-ghost use Rattle.toml.specs.View.{items_view, table_view, view};
-ghost use Rattle.cave_base.specs.Class.{gives_way_as_air};
 ghost use Rattle.block_rows.specs.Columns.{has_only};
 ghost use Rattle.block_rows.specs.Judging as found;
 ghost use Rattle.block_rows.specs.UserTable as judging;
+ghost use Rattle.cave_base.specs.Class.{gives_way_as_air};
+ghost use Rattle.toml.specs.View.{items_view, table_view, view};
 
 use crate::columns::{class, emission, flag, has_conditions, has_only, member, name, opacity};
 use crate::fault::{RowFault, RowsFault};

@@ -1,11 +1,11 @@
 //! Laws over the definitions alone.
 ghost use Rattle.std.specs.Prelude.{◌≡◌, ◌⊎◌, ℕ, List, None};
-ghost use Rattle.toml.specs.Data.{Members};
 ghost use Rattle.block_rows.specs.Columns.{row_in};
 ghost use Rattle.block_rows.specs.Rows.{Table};
 ghost use Rattle.block_rows.specs.Shipped.{AreDistinctRows, shipped_rows};
 ghost use Rattle.block_rows.specs.UserTable.{IsRowsFaultOf, IsTableOf, IsWholeRow, row_fault};
 ghost use Rattle.block_rows.specs.declared.fault.RowsFault.{RowsFault};
+ghost use Rattle.toml.specs.Data.{Members};
 
 /// Two shipped rows of one name differ in the properties that they ask for.
 pub fn shipped_names_are_distinct()

@@ -2,7 +2,7 @@ ghost use Rattle.std.specs.Prelude.{◌≡◌, find, option_copied};
 ghost use Rattle.block_rows.specs.Rows as look_up;
 
 use crate::row::Row;
-use nbt_core::Sequence;
+use cave_base::Sequence;
 use scan_core::BlockState;
 
 /// The row is named `*`.

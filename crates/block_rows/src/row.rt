@@ -1,5 +1,4 @@
-use cave_base::Class;
-use nbt_core::Sequence;
+use cave_base::{Class, Sequence};
 
 /// A row of the table of blocks: a whole name, prefix included, or `*`; the properties that it asks for, each
 /// with its value; and the class of such a block. Names and values are compared by their bytes.

@@ -1,10 +1,10 @@
 ghost use Rattle.std.specs.Prelude.{◌≡◌, ◌≢◌, [], IfErr, IfOk, IfSome, option_copied};
-ghost use Rattle.cave_base.specs.Answer.{IsAnswer, IsRefusal};
-ghost use Rattle.cave_base.specs.Class.{IsSoundClass};
 ghost use Rattle.block_rows.specs.Rows.{Table, row_for};
 ghost use Rattle.block_rows.specs.Shipped.{shipped_rows};
 ghost use Rattle.block_rows.specs.UserTable.{IsRowsFaultOf, IsTableOf};
 ghost use Rattle.block_rows.specs.declared.fault.RowsFault.{RowsFault};
+ghost use Rattle.cave_base.specs.Answer.{IsAnswer, IsRefusal};
+ghost use Rattle.cave_base.specs.Class.{IsSoundClass};
 
 use crate::fault::RowsFault;
 use crate::look_up::{first_by_name, first_wildcard};

@@ -4,7 +4,7 @@ ghost use Rattle.block_rows.specs.Shipped.{shipped_rows};
 
 use crate::row::Row;
 use crate::table::{LINES, Line, PREFIX};
-use nbt_core::Sequence;
+use cave_base::Sequence;
 use std::alloc::{AllocError, Global};
 
 /// The bytes of a text.

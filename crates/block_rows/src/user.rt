@@ -1,16 +1,16 @@
 //! The rows of a user's table.
 ghost use Rattle.std.specs.Prelude.{◌≡◌, ◌≢◌, IfOk, IfErr, unwrap_or, []};
-ghost use Rattle.toml.specs.Data.{Members};
-ghost use Rattle.toml.specs.View.{items_view, table_view};
 ghost use Rattle.block_rows.specs.Columns.{row_in, texts_of, when_in};
 ghost use Rattle.block_rows.specs.UserTable.{IsDocument, IsDocumentFault, TellsRows, rows_of};
+ghost use Rattle.toml.specs.Data.{Members};
+ghost use Rattle.toml.specs.View.{items_view, table_view};
 
 use crate::columns::{class, member, name};
 use crate::fault::RowsFault;
 use crate::judging::{self, elements};
 use crate::row::Row;
 use crate::shipped::bytes_of;
-use nbt_core::Sequence;
+use cave_base::Sequence;
 use std::alloc::{AllocError, Global};
 use toml::{Table, Value};
 

@@ -35,28 +35,18 @@ pub struct Series<'a> {
 }
 
 fn change_of(word: &str) -> Result<Change, Fail> {
-    if word == "cut" {
-        return Ok(Change::Cut);
-    }
-    if word == "left-out" {
-        return Ok(Change::LeftOut);
-    }
-    if word == "doubled" {
-        return Ok(Change::Doubled);
-    }
-    if word == "exchanged" {
-        return Ok(Change::Exchanged);
-    }
-    if word == "raised" {
-        return Ok(Change::Raised);
-    }
-    if word == "lowered" {
-        return Ok(Change::Lowered);
-    }
-    match word.strip_prefix("byte-") {
-        Some(at) => Ok(Change::Byte(at.parse::<usize>()?)),
-        None => Err(unknown(word)),
-    }
+    Ok(match word {
+        "cut" => Change::Cut,
+        "left-out" => Change::LeftOut,
+        "doubled" => Change::Doubled,
+        "exchanged" => Change::Exchanged,
+        "raised" => Change::Raised,
+        "lowered" => Change::Lowered,
+        _ => match word.strip_prefix("byte-") {
+            Some(at) => Change::Byte(at.parse::<usize>()?),
+            None => return Err(unknown(word)),
+        },
+    })
 }
 
 /// The series of words like `corridor_27 cut 0 to 12632`.
@@ -112,52 +102,45 @@ fn exchanged(alloc: Global, text: &str, number: usize) -> Result<Vec<u8>, AllocE
     Ok(out)
 }
 
-/// Adds a word, of whose number this is made.
-fn push_number(
-    alloc: Global,
-    out: &mut Vec<u8>,
-    number: u64,
-    more: bool,
-) -> Result<(), AllocError> {
-    let other = if more {
-        number.wrapping_add(1)
-    } else {
-        number.wrapping_sub(1)
-    };
-    let word = format!(in alloc; "{other}")?;
-    out.extend_from_slice(word.as_str().as_bytes())
-}
-
-/// Adds a line, of whose words one may change; the count of the text's numbers goes on from this.
-fn push_counted(
-    alloc: Global,
-    out: &mut Vec<u8>,
-    line: &str,
-    before: usize,
+/// A text that is written word by word, in which one of the numbers, counted from 1, is greater or less by one.
+#[derive(Drop)]
+struct Counted {
+    out: Vec<u8>,
+    count: usize,
     changes: usize,
     more: bool,
-) -> Result<usize, AllocError> {
-    let mut count = before;
-    let mut is_first = true;
-    for word in line.split(' ') {
-        if !is_first {
-            out.push(b' ')?;
+}
+
+impl Counted {
+    fn push_word(&mut self, alloc: Global, word: &str) -> Result<(), AllocError> {
+        let Ok(number) = word.parse::<u64>() else {
+            return self.out.extend_from_slice(word.as_bytes());
+        };
+        self.count = self.count.wrapping_add(1);
+        if self.count != self.changes {
+            return self.out.extend_from_slice(word.as_bytes());
         }
-        is_first = false;
-        match word.parse::<u64>() {
-            Ok(number) => {
-                count = count.wrapping_add(1);
-                if count == changes {
-                    push_number(alloc, out, number, more)?;
-                } else {
-                    out.extend_from_slice(word.as_bytes())?;
-                }
-            }
-            Err(_) => out.extend_from_slice(word.as_bytes())?,
-        }
+        let other = if self.more {
+            number.wrapping_add(1)
+        } else {
+            number.wrapping_sub(1)
+        };
+        let word = format!(in alloc; "{other}")?;
+        self.out.extend_from_slice(word.as_str().as_bytes())
     }
-    out.push(b'\n')?;
-    Ok(count)
+
+    fn push_line(&mut self, alloc: Global, line: &str) -> Result<(), AllocError> {
+        let mut is_first = true;
+        for word in line.split(' ') {
+            if !is_first {
+                self.out.push(b' ')?;
+            }
+            is_first = false;
+            self.push_word(alloc, word)?;
+        }
+        self.out.push(b'\n')?;
+        Ok(())
+    }
 }
 
 /// The text in which one of its numbers, counted from 1, is greater or less by one.
@@ -167,12 +150,16 @@ fn counted_otherwise(
     changes: usize,
     more: bool,
 ) -> Result<Vec<u8>, AllocError> {
-    let mut out = Vec::new(alloc);
-    let mut count = 0usize;
+    let mut counted = Counted {
+        out: Vec::new(alloc),
+        count: 0,
+        changes,
+        more,
+    };
     for line in text.lines() {
-        count = push_counted(alloc, &mut out, line, count, changes, more)?;
+        counted.push_line(alloc, line)?;
     }
-    Ok(out)
+    Ok(counted.out)
 }
 
 impl Series<'_> {

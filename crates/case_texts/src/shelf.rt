@@ -41,7 +41,8 @@ impl Shelf {
     }
 }
 
-/// The files of a run: what an earlier run wrote, those of its case, and those of all.
+/// The files of a run: what an earlier run wrote, those of its case, and those of all. Of two with one name the first
+/// counts.
 #[derive(Clone, Copy)]
 pub struct Files<'a> {
     pub written: &'a Shelf,
@@ -52,12 +53,11 @@ pub struct Files<'a> {
 impl<'a> Files<'a> {
     /// The bytes of the file of this name.
     pub fn get(&self, name: &str) -> Option<&'a [u8]> {
-        if let Some(bytes) = self.written.get(name) {
-            return Some(bytes);
+        for shelf in [self.written, self.own, self.common] {
+            if let Some(bytes) = shelf.get(name) {
+                return Some(bytes);
+            }
         }
-        if let Some(bytes) = self.own.get(name) {
-            return Some(bytes);
-        }
-        self.common.get(name)
+        None
     }
 }

@@ -1,70 +1,12 @@
 //! Readers and writers that give or take little at once, that fail, or that don't end.
 
-use std::alloc::Global;
+mod failing;
+
+pub use failing::{
+    FailingReader, FailingWriter, idle_writer, once_failing_reader_of, once_failing_writer,
+    reader_of, writer_of,
+};
 use std::io::{Error, ErrorKind, Read, Result as Done, Write};
-
-/// Gives one byte a call, and fails at the call with this number and at each that comes after.
-#[derive(Drop)]
-pub struct FailingReader<'a> {
-    rest: &'a [u8],
-    calls: usize,
-    fails_at: usize,
-}
-
-impl Read for FailingReader<'_> {
-    fn read(&mut self, buf: &mut [u8]) -> Done<usize> {
-        if self.calls == self.fails_at {
-            return Err(Error::from(ErrorKind::Other));
-        }
-        self.calls = self.calls.wrapping_add(1);
-        let count = self.rest.len().min(buf.len()).min(1);
-        let (taken, rest) = self.rest.split_at(count);
-        buf[..count].copy_from_slice(taken);
-        self.rest = rest;
-        Ok(count)
-    }
-}
-
-/// A reader of these bytes that fails from this call on.
-pub const fn reader_of(rest: &[u8], fails_at: usize) -> FailingReader<'_> {
-    FailingReader {
-        rest,
-        calls: 0,
-        fails_at,
-    }
-}
-
-/// Gives one byte a call, counts the calls, and fails at the call with this number alone, as one that was interrupted.
-#[derive(Drop)]
-pub struct OnceFailingReader<'a> {
-    rest: &'a [u8],
-    pub calls: usize,
-    fails_at: usize,
-}
-
-impl Read for OnceFailingReader<'_> {
-    fn read(&mut self, buf: &mut [u8]) -> Done<usize> {
-        let call = self.calls;
-        self.calls = call.wrapping_add(1);
-        if call == self.fails_at {
-            return Err(Error::from(ErrorKind::Interrupted));
-        }
-        let count = self.rest.len().min(buf.len()).min(1);
-        let (taken, rest) = self.rest.split_at(count);
-        buf[..count].copy_from_slice(taken);
-        self.rest = rest;
-        Ok(count)
-    }
-}
-
-/// A reader of these bytes that fails at this call alone.
-pub const fn once_failing_reader_of(rest: &[u8], fails_at: usize) -> OnceFailingReader<'_> {
-    OnceFailingReader {
-        rest,
-        calls: 0,
-        fails_at,
-    }
-}
 
 /// Gives the same byte, one a call, for ever.
 #[derive(Drop)]
@@ -106,85 +48,6 @@ impl Read for Zeros {
 /// So many zeros.
 pub const fn zeros_of(left: usize) -> Zeros {
     Zeros { left, given: 0 }
-}
-
-/// Takes so many bytes a call, and fails once it has this many.
-#[derive(Drop)]
-pub struct FailingWriter {
-    pub taken: Vec<u8>,
-    chunk: usize,
-    fails_at: usize,
-}
-
-impl Write for FailingWriter {
-    fn write(&mut self, buf: &[u8]) -> Done<usize> {
-        if self.fails_at <= self.taken.len() {
-            return Err(Error::from(ErrorKind::Other));
-        }
-        let count = self.chunk.min(buf.len());
-        if self.taken.extend_from_slice(&buf[..count]).is_err() {
-            return Err(Error::from(ErrorKind::OutOfMemory));
-        }
-        Ok(count)
-    }
-
-    fn flush(&mut self) -> Done<()> {
-        Ok(())
-    }
-}
-
-/// A writer that takes one byte a call and fails once it has so many.
-pub fn writer_of(alloc: Global, fails_at: usize) -> FailingWriter {
-    FailingWriter {
-        taken: Vec::new(alloc),
-        chunk: 1,
-        fails_at,
-    }
-}
-
-/// A writer that takes no byte, and doesn't say that it failed.
-pub fn idle_writer(alloc: Global) -> FailingWriter {
-    FailingWriter {
-        taken: Vec::new(alloc),
-        chunk: 0,
-        fails_at: usize::MAX,
-    }
-}
-
-/// Takes one byte a call, counts the calls, and fails at the call with this number alone.
-#[derive(Drop)]
-pub struct OnceFailingWriter {
-    pub taken: Vec<u8>,
-    pub calls: usize,
-    fails_at: usize,
-}
-
-impl Write for OnceFailingWriter {
-    fn write(&mut self, buf: &[u8]) -> Done<usize> {
-        let call = self.calls;
-        self.calls = call.wrapping_add(1);
-        if call == self.fails_at {
-            return Err(Error::from(ErrorKind::Other));
-        }
-        let count = buf.len().min(1);
-        if self.taken.extend_from_slice(&buf[..count]).is_err() {
-            return Err(Error::from(ErrorKind::OutOfMemory));
-        }
-        Ok(count)
-    }
-
-    fn flush(&mut self) -> Done<()> {
-        Ok(())
-    }
-}
-
-/// A writer that takes one byte a call and fails at this call alone.
-pub fn once_failing_writer(alloc: Global, fails_at: usize) -> OnceFailingWriter {
-    OnceFailingWriter {
-        taken: Vec::new(alloc),
-        calls: 0,
-        fails_at,
-    }
 }
 
 /// Takes up to 16 bytes, and no memory, and fails where more come.

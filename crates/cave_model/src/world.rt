@@ -1,7 +1,7 @@
 ghost use Rattle.std.specs.Prelude.{◌≡◌, ◌<◌, ◌≤◌, IsTrue};
-ghost use Rattle.cave_base.specs.Class.{IsSoundClass};
 ghost use Rattle.cave_base.specs.Box as grid;
 ghost use Rattle.cave_base.specs.Box.{is_small, point};
+ghost use Rattle.cave_base.specs.Class.{IsSoundClass};
 ghost use Rattle.cave_model.specs.Cave.{IsSound, IsWorld, cave, class_at};
 ghost use Rattle.cave_model.specs.RuleOf.{rule_of};
 

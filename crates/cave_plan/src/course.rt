@@ -1,21 +1,21 @@
 //! The regions of a cave, planned one after another.
-ghost use Rattle.std.specs.Prelude.{◌≡◌, ◌≢◌, ◌≤◌, ◌<◌, ◌+◌, [], false, Contains, IfOk, IfErr, OnOk};
 ghost use Rattle.std.specs.Arc.{arc_value};
+ghost use Rattle.std.specs.Prelude.{◌≡◌, ◌≢◌, ◌≤◌, ◌<◌, ◌+◌, [], false, Contains, IfOk, IfErr, OnOk};
 ghost use Rattle.cave_model.specs.Listing.{ListsAll};
+ghost use Rattle.cave_plan.specs.Course.{GoesOn, IsCourse, course};
+ghost use Rattle.cave_plan.specs.declared.fault.PlanFault.{PlanFault};
 ghost use Rattle.certificate_text.specs.PlanOf.{plans_of};
 ghost use Rattle.proof_tree.specs.Shape.{tree_of};
 ghost use Rattle.search_traits.specs.Planned.{IsBest, IsStopped};
 ghost use Rattle.search_traits.specs.Planning.{PlansRegions};
 ghost use Rattle.search_traits.specs.Turns.{IsWithin};
-ghost use Rattle.cave_plan.specs.Course.{GoesOn, IsCourse, course};
-ghost use Rattle.cave_plan.specs.declared.fault.PlanFault.{PlanFault};
 
 use crate::fault::PlanFault;
 use cave_base::Cell;
 use cave_regions::{Cover, Region};
 use certificate_text::Planned;
 use proof_tree::Proof;
-use search_traits::{BestPlan, Observer, Planner, RegionFault};
+use search_traits::{Observer, Planner, RegionFault, RegionPlan};
 use std::alloc::{AllocError, Global};
 use std::sync::Arc;
 
@@ -103,7 +103,7 @@ impl Course {
     }
 
     /// Takes what is planned of one region more.
-    fn plan_next<F: Fn(&Arc<Region>) -> Result<BestPlan, RegionFault>>(
+    fn plan_next<F: Fn(&Arc<Region>) -> RegionPlan>(
         &mut self,
         planner: &Planner<F>,
         region: Arc<Region>,
@@ -134,7 +134,7 @@ impl Course {
 }
 
 /// The plans of all regions, each with all the turns.
-pub fn plan_regions<F: Fn(&Arc<Region>) -> Result<BestPlan, RegionFault>, O: Observer>(
+pub fn plan_regions<F: Fn(&Arc<Region>) -> RegionPlan, O: Observer>(
     alloc: Global,
     regions: Vec<Region>,
     planner: &Planner<F>,

@@ -1,6 +1,6 @@
 //! The text of a plan.
-ghost use Rattle.std.specs.Prelude.{◌≡◌, ◌<◌, All, IfOk, string_bytes, flat_map};
 ghost use Rattle.std.specs.List.Sorted.{IsStrictlyIncreasing};
+ghost use Rattle.std.specs.Prelude.{◌≡◌, ◌<◌, All, IfOk, string_bytes, flat_map};
 ghost use Rattle.cave_base.specs.Box.{cell_count};
 ghost use Rattle.cave_plan.specs.PlanText as texts;
 
@@ -9,29 +9,17 @@ use cave_model::{Hang, World};
 use set_cover::find;
 use std::alloc::{AllocError, Global};
 
-/// The word of a hang.
-fn hang_word(hang: Hang) -> &'static str
-    ensures { result.now ≡ texts.hang_word hang }
+/// The word of a hang, and the mark of a torch that hangs so.
+fn hang_texts(hang: Hang) -> (&'static str, &'static str)
+    ensures word { result.0.now ≡ texts.hang_word hang }
+    ensures mark { result.1.now ≡ texts.hang_mark hang }
 {
     match hang {
-        Hang::Floor => "floor",
-        Hang::North => "north",
-        Hang::East => "east",
-        Hang::South => "south",
-        Hang::West => "west",
-    }
-}
-
-/// The mark of a torch that hangs so.
-fn hang_mark(hang: Hang) -> &'static str
-    ensures { result.now ≡ texts.hang_mark hang }
-{
-    match hang {
-        Hang::Floor => "T",
-        Hang::North => "^",
-        Hang::East => ">",
-        Hang::South => "v",
-        Hang::West => "<",
+        Hang::Floor => ("floor", "T"),
+        Hang::North => ("north", "^"),
+        Hang::East => ("east", ">"),
+        Hang::South => ("south", "v"),
+        Hang::West => ("west", "<"),
     }
 }
 
@@ -74,7 +62,8 @@ fn mark_at(world: &World, torches: &[Cell], cell: Cell) -> &'static str
     ensures { result.now ≡ texts.mark_at world.now torches.now cell }
 {
     if is_torch(torches, cell) {
-        return hang_mark(hang_at(world, cell));
+        let (_, mark) = hang_texts(hang_at(world, cell));
+        return mark;
     }
     block_mark(world.class_of(cell))
 }
@@ -165,7 +154,7 @@ fn torch_line(alloc: Global, world: &World, cell: Cell) -> Result<String, AllocE
     ensures { IfOk result (λ s. string_bytes s ≡ texts.torch_line world.now cell) }
 {
     let [x, y, z] = coordinates(world.size(), cell);
-    let hang = hang_word(hang_at(world, cell));
+    let (hang, _) = hang_texts(hang_at(world, cell));
     format!(in alloc; "T {x} {y} {z} {hang}\n")
 }
 

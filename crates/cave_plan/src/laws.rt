@@ -3,16 +3,16 @@ ghost use Rattle.std.specs.Prelude.{◌≡◌, ℕ, List, length, All, Contains}
 ghost use Rattle.cave_model.specs.Cave.{Cave, IsSound, IsWorld};
 ghost use Rattle.cave_model.specs.Coverage.{Agrees, of_cave};
 ghost use Rattle.cave_model.specs.Plan.{IsSafe, Torch};
+ghost use Rattle.cave_plan.specs.Best.{AreTorchesOf, IsInLeastVersion};
+ghost use Rattle.cave_plan.specs.Bounded.{AreBoundedIn, AreInOrder, Bounded, IsPlanWithin, all_torches, total_floor};
+ghost use Rattle.certificate_text.specs.Planned.{AreBestOf, Plan, certificate_of, certificate_text};
 ghost use Rattle.cover_rows.specs.Coverage.{IsUnlightable};
-ghost use Rattle.set_cover.specs.Instance.{Instance, of_instance};
+ghost use Rattle.proof_check.specs.Accepted.{Accepts, IsBestPlan};
 ghost use Rattle.proof_rules.specs.Certificate.{Certificate};
 ghost use Rattle.proof_rules.specs.Good.{Good};
 ghost use Rattle.proof_rules.specs.Text.{IsTextOf};
 ghost use Rattle.proof_rules.specs.Tree.{Tree};
-ghost use Rattle.proof_check.specs.Accepted.{Accepts, IsBestPlan};
-ghost use Rattle.certificate_text.specs.Planned.{AreBestOf, Plan, certificate_of, certificate_text};
-ghost use Rattle.cave_plan.specs.Best.{AreTorchesOf, IsInLeastVersion};
-ghost use Rattle.cave_plan.specs.Bounded.{AreBoundedIn, AreInOrder, Bounded, IsPlanWithin, all_torches, total_floor};
+ghost use Rattle.set_cover.specs.Instance.{Instance, of_instance};
 
 /// A tree that is good over an instance is good over a cave whose places light the same of these cells.
 pub fn good_carries()

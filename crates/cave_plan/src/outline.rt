@@ -1,14 +1,14 @@
 //! The plan of a cave.
-ghost use Rattle.std.specs.Prelude.{◌≡◌, ◌≢◌, ◌<◌, IfOk, IfErr, string_bytes};
 ghost use Rattle.std.specs.Arc.{arc_value};
+ghost use Rattle.std.specs.Prelude.{◌≡◌, ◌≢◌, ◌<◌, IfOk, IfErr, string_bytes};
 ghost use Rattle.cave_model.specs.Cave.{IsWorld};
-ghost use Rattle.certificate_text.specs.PlanOf.{plans_of};
-ghost use Rattle.search_traits.specs.Planning.{PlansRegions};
-ghost use Rattle.search_traits.specs.Turns.{IsWithin};
 ghost use Rattle.cave_plan.specs.Course.{course, floor_if};
 ghost use Rattle.cave_plan.specs.Faults.{IsRefusedPlan, NamesUnlightable};
 ghost use Rattle.cave_plan.specs.Outline.{AreRegionsIn, CountsDark, IsCourseIn, IsOutlineOf};
 ghost use Rattle.cave_plan.specs.declared.fault.PlanFault.{PlanFault};
+ghost use Rattle.certificate_text.specs.PlanOf.{plans_of};
+ghost use Rattle.search_traits.specs.Planning.{PlansRegions};
+ghost use Rattle.search_traits.specs.Turns.{IsWithin};
 
 use crate::course::{Course, in_order, plan_regions};
 use crate::drawing::plan_text;
@@ -17,7 +17,7 @@ use cave_model::{Rule, World};
 use cave_regions::{Region, split};
 use certificate_text::Planned;
 use cover_rows::Problem;
-use search_traits::{BestPlan, Observer, Planner, RegionFault};
+use search_traits::{Observer, Planner, RegionPlan};
 use std::alloc::{AllocError, Global};
 use std::sync::Arc;
 
@@ -100,7 +100,7 @@ fn regions_of(alloc: Global, world: &World) -> Result<(Vec<Region>, usize), Plan
 /// proves that fewer don't do. The regions are planned one after another, each with all the turns; where those of one
 /// were spent, the torches are the best that were found. The rows of the whole cave are let go before
 /// the search.
-pub fn plan_cave<F: Fn(&Arc<Region>) -> Result<BestPlan, RegionFault>, O: Observer>(
+pub fn plan_cave<F: Fn(&Arc<Region>) -> RegionPlan, O: Observer>(
     alloc: Global,
     world: &World,
     planner: &Planner<F>,

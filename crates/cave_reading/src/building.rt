@@ -1,16 +1,15 @@
 ghost use Rattle.std.specs.Prelude.{◌≡◌, ◌≢◌, ◌<◌, IfOk, IfErr, IfSome, All, length, map};
 ghost use Rattle.cave_base.specs.Answer.{IsAnswer, IsRefusal};
-ghost use Rattle.cave_reading.specs.Building.{AreClassesOf, AreUsed, class_by};
 ghost use Rattle.cave_model.specs.Cave.{Cave};
 ghost use Rattle.cave_model.specs.RuleOf.{rule_of};
+ghost use Rattle.cave_reading.specs.Building.{AreClassesOf, AreUsed, class_by};
 ghost use Rattle.cave_reading.specs.World.{IsCaveOf, IsUnknownBlock};
 ghost use Rattle.cave_reading.specs.declared.fault.BuildFault.{BuildFault};
 
 use crate::fault::BuildFault;
 use block_rows::Rows;
-use cave_base::{Class, VOID};
+use cave_base::{Class, Sequence, VOID};
 use cave_model::{Rule, World};
-use nbt_core::Sequence;
 use scan_core::{BlockState, Scan};
 use std::alloc::{AllocError, Global};
 

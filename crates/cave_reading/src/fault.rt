@@ -1,9 +1,9 @@
-ghost use Rattle.std.specs.Prelude.{◌≡◌, ◌<◌};
 ghost use Rattle.std.specs.Fmt.{WritesOnOk};
+ghost use Rattle.std.specs.Prelude.{◌≡◌, ◌<◌};
 ghost use Rattle.cave_reading.specs.Texts.{hex_digit, shown_byte};
 ghost use Rattle.cave_reading.specs.declared.fault.BuildFault.TheVariants.{OutOfMemory};
 
-use nbt_core::Sequence;
+use cave_base::Sequence;
 use std::alloc::{AllocError, AllocFailed};
 use std::error::Error;
 use std::fmt;

@@ -2,10 +2,10 @@ ghost use Rattle.std.specs.Prelude.{◌≡◌, ◌≢◌, IfOk, IfErr, option_co
 ghost use Rattle.block_rows.specs.Rows.{Table};
 ghost use Rattle.block_rows.specs.declared.fault.RowsFault.{RowsFault};
 ghost use Rattle.cave_base.specs.Answer.{IsAnswer, IsRefusal};
-ghost use Rattle.cave_reading.specs.Bytes.{IsCaveOfBytes, IsFaultOfBytes};
-ghost use Rattle.cave_reading.specs.Bytes.{IsTableFault, IsTableFor};
 ghost use Rattle.cave_model.specs.Cave.{Cave};
 ghost use Rattle.cave_model.specs.RuleOf.{rule_of};
+ghost use Rattle.cave_reading.specs.Bytes.{IsCaveOfBytes, IsFaultOfBytes};
+ghost use Rattle.cave_reading.specs.Bytes.{IsTableFault, IsTableFor};
 ghost use Rattle.cave_reading.specs.declared.cave_fault.CaveFault.{CaveFault};
 
 use crate::building::build;

@@ -1,8 +1,8 @@
 //! Columns of an instance: for each cell a row of bits with a bit for each place that lights it. Whoever asks which
 //! places light a cell looks at its column and at no other place (this project's own).
 ghost use Rattle.std.specs.Prelude.{◌≡◌, ◌<◌, ◌≤◌, ◌+◌, ◌^◌, length, IfOk};
-ghost use Rattle.set_cover.specs.Instance.{IsInstance};
 ghost use Rattle.cave_regions.specs.Columns.{height_of, AreColumns};
+ghost use Rattle.set_cover.specs.Instance.{IsInstance};
 
 use crate::joining::count_of;
 use set_cover::{Instance, add, empty, next};

@@ -1,7 +1,7 @@
 //! Copying rows, with other indices for their cells.
 ghost use Rattle.std.specs.Prelude.{◌<◌, ◌≤◌, ◌^◌, length};
-ghost use Rattle.set_cover.specs.Instance.{words_for};
 ghost use Rattle.cave_regions.specs.Restricting.{AreCopied, AreEmpty, AreRanks, Copies, HasRoom, IsSelfContained};
+ghost use Rattle.set_cover.specs.Instance.{words_for};
 
 use set_cover::{Instance, add, next};
 

@@ -1,9 +1,9 @@
 //! A whole problem as one region.
 ghost use Rattle.std.specs.Prelude.{◌≡◌, ◌<◌, ◌≤◌, ◌^◌, length, IfOk};
 ghost use Rattle.cave_model.specs.Listing.{ListsAll};
-ghost use Rattle.set_cover.specs.Instance.{IsInstance};
 ghost use Rattle.cave_regions.specs.Restricting.{IsLighting};
 ghost use Rattle.cave_regions.specs.Splitting.{IsPartOf, IsWholeRegion};
+ghost use Rattle.set_cover.specs.Instance.{IsInstance};
 
 use crate::joining::{alone, count_of};
 use crate::region::Region;

@@ -1,6 +1,6 @@
 //! Joining cells that some place lights together, as trees of cells whose root is the least of them (union-find).
-ghost use Rattle.std.specs.Prelude.{◌≡◌, ◌<◌, ◌≤◌, ◌^◌, length, IfOk};
 ghost use Rattle.std.specs.List.Sorted.{IsStrictlyIncreasing};
+ghost use Rattle.std.specs.Prelude.{◌≡◌, ◌<◌, ◌≤◌, ◌^◌, length, IfOk};
 ghost use Rattle.cave_regions.specs.Joining.{AreAlone, AreLabels, AreParents, AreRoots, Finds, IsForest, Joins};
 ghost use Rattle.cave_regions.specs.Joining.{JoinsRow};
 

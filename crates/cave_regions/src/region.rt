@@ -1,7 +1,7 @@
 ghost use Rattle.std.specs.Prelude.{◌≡◌, ◌<◌, ◌^◌, ◌↔◌, Contains, IsTrue, length, IfOk};
-ghost use Rattle.set_cover.specs.Instance.{IsRowAt, LightsIn, row_of};
 ghost use Rattle.cave_regions.specs.Columns.{IsColumn};
 ghost use Rattle.cave_regions.specs.Region.{IsRegion};
+ghost use Rattle.set_cover.specs.Instance.{IsRowAt, LightsIn, row_of};
 
 use crate::columns::{columns_of, height};
 use cave_base::Cell;

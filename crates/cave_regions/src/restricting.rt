@@ -1,7 +1,7 @@
 //! A part of an instance as a region of its own.
 ghost use Rattle.std.specs.Prelude.{◌≡◌, ◌<◌, length, map, slice_index, All, IfOk};
-ghost use Rattle.set_cover.specs.Instance.{words_for};
 ghost use Rattle.cave_regions.specs.Restricting.{AreCopied, AreRanks, IsSelfContained, IsRestriction};
+ghost use Rattle.set_cover.specs.Instance.{words_for};
 
 use crate::copying::copy_rows;
 use crate::region::Region;

@@ -1,7 +1,7 @@
 //! The regions of a problem.
 ghost use Rattle.std.specs.Prelude.{IfOk};
-ghost use Rattle.set_cover.specs.Instance.{IsInstance};
 ghost use Rattle.cave_regions.specs.Splitting.{AreRegionsOf};
+ghost use Rattle.set_cover.specs.Instance.{IsInstance};
 
 use crate::grouping::{cells_by, places_by};
 use crate::joining::labels_of;

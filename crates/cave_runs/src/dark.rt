@@ -1,13 +1,13 @@
-ghost use Rattle.std.specs.Prelude.{◌≡◌, ◌≢◌, IfOk, IfErr, IfSome, OnOk, option_copied, string_bytes};
 ghost use Rattle.std.specs.Io.KnownBytes.{Keeps};
+ghost use Rattle.std.specs.Prelude.{◌≡◌, ◌≢◌, IfOk, IfErr, IfSome, OnOk, option_copied, string_bytes};
 ghost use Rattle.cave_base.specs.Answer.{IsRefusal};
 ghost use Rattle.cave_model.specs.RuleOf.{rule_of};
-ghost use Rattle.proof_check.specs.Reading.{GivesAtMost};
 ghost use Rattle.cave_runs.specs.DarkText.{IsDarkText};
 ghost use Rattle.cave_runs.specs.Limits.{structure_limit};
 ghost use Rattle.cave_runs.specs.Runs.{BeginsDark, IsDarkTextOf, IsFaultOfBytes, IsFaultOfInput, IsOfInput};
 ghost use Rattle.cave_runs.specs.Runs.{IsRefusedRun, WritesDark};
 ghost use Rattle.cave_runs.specs.declared.fault.RunFault.{RunFault};
+ghost use Rattle.proof_check.specs.Reading.{GivesAtMost};
 
 use crate::fault::{Input, RunFault};
 use crate::limits::STRUCTURE_LIMIT;

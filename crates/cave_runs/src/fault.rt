@@ -8,7 +8,6 @@ use certificate_text::WriteFault;
 use proof_check::CheckFault;
 use scan_core::ScanFault;
 use std::alloc::AllocError;
-use std::fmt;
 use thiserror::Error;
 
 /// An input of a run.
@@ -24,7 +23,7 @@ pub enum Input {
 pub enum RunFault {
     #[error("cannot read")]
     ReadFailed,
-    #[error("{0}: file too long")]
+    #[error("{word}: file too long", word = .0.word())]
     TooLong(Input),
     #[error("cannot write")]
     WriteFailed,
@@ -42,18 +41,18 @@ pub enum RunFault {
     OutOfMemory,
 }
 
-impl fmt::Display for Input {
-    ghost use Rattle.std.specs.Prelude.{Some};
+impl Input {
     ghost use Rattle.cave_runs.specs.Texts.{input_text};
 
-    ghost output = { λ input. Some (input_text input) };
-
-    fn fmt<W: fmt::Write>(&self, f: &mut fmt::Formatter<W>) -> fmt::Result {
-        f.write_str(match *self {
+    /// Its word in a fault line.
+    pub fn word(&self) -> &'static str
+        ensures { result.now ≡ input_text self.now }
+    {
+        match self {
             Input::StructureInput => "structure",
             Input::TableInput => "table",
             Input::ProofInput => "proof",
-        })
+        }
     }
 }
 

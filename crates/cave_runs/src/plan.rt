@@ -1,19 +1,19 @@
 //! The plan of a structure, from the bytes read to the bytes written.
-ghost use Rattle.std.specs.Prelude.{◌≡◌, ◌≢◌, ◌<◌, IfOk, IfErr, IfSome, OnOk, option_copied, string_bytes};
 ghost use Rattle.std.specs.Arc.{arc_value};
+ghost use Rattle.std.specs.Prelude.{◌≡◌, ◌≢◌, ◌<◌, IfOk, IfErr, IfSome, OnOk, option_copied, string_bytes};
 ghost use Rattle.cave_base.specs.Answer.{IsRefusal};
 ghost use Rattle.cave_model.specs.RuleOf.{rule_of};
-ghost use Rattle.search_traits.specs.Planning.{PlansRegions};
-ghost use Rattle.search_traits.specs.Turns.{IsWithin};
 ghost use Rattle.cave_plan.specs.Outline.{IsOutlineOf, IsPlanned};
-ghost use Rattle.proof_check.specs.Reading.{GivesAtMost};
-ghost use Rattle.certificate_text.specs.PlanOf.{plans_of};
 ghost use Rattle.cave_runs.specs.Limits.{structure_limit};
 ghost use Rattle.cave_runs.specs.PlanRuns.{EndsIn, IsNoPlan, IsNoPlanOfInput, NamesUnlit, Leaves};
 ghost use Rattle.cave_runs.specs.PlanRuns.{LeavesIn, LeavesProved, Plans, TellsPlans, WritesBest};
 ghost use Rattle.cave_runs.specs.RunOfPlan.{IsRunOfPlan};
 ghost use Rattle.cave_runs.specs.Runs.{IsOfInput, IsRefusedRun};
 ghost use Rattle.cave_runs.specs.declared.fault.RunFault.{RunFault};
+ghost use Rattle.certificate_text.specs.PlanOf.{plans_of};
+ghost use Rattle.proof_check.specs.Reading.{GivesAtMost};
+ghost use Rattle.search_traits.specs.Planning.{PlansRegions};
+ghost use Rattle.search_traits.specs.Turns.{IsWithin};
 
 use crate::fault::{Input, RunFault};
 use crate::limits::STRUCTURE_LIMIT;
@@ -22,7 +22,7 @@ use crate::watcher::{Watcher, tell_sides};
 use crate::writing::put_all;
 use cave_base::coordinates;
 use cave_model::{Rule, World};
-use cave_plan::{BestPlan, Outline, PlanFault, Planner, RegionFault, plan_cave};
+use cave_plan::{Outline, PlanFault, Planner, RegionPlan, plan_cave};
 use cave_reading::read_cave;
 use cave_regions::Region;
 use certificate_text::write_certificate;
@@ -40,7 +40,7 @@ pub enum Outcome {
 }
 
 /// The plan of a world; a dark cell that no place lights is told by its coordinates.
-fn outline_world<F: Fn(&Arc<Region>) -> Result<BestPlan, RegionFault>, O: Watcher>(
+fn outline_world<F: Fn(&Arc<Region>) -> RegionPlan, O: Watcher>(
     alloc: Global,
     world: &World,
     planner: &Planner<F>,
@@ -68,7 +68,7 @@ fn outline_world<F: Fn(&Arc<Region>) -> Result<BestPlan, RegionFault>, O: Watche
 }
 
 /// The cave that the bytes tell, with its plan.
-fn plan_bytes<F: Fn(&Arc<Region>) -> Result<BestPlan, RegionFault>, O: Watcher>(
+fn plan_bytes<F: Fn(&Arc<Region>) -> RegionPlan, O: Watcher>(
     alloc: Global,
     bytes: &[u8],
     table: Option<&[u8]>,
@@ -140,13 +140,7 @@ fn put_plan<W: Write, V: Write>(
 }
 
 /// The run of a plan, clause by clause.
-fn run_by<
-    F: Fn(&Arc<Region>) -> Result<BestPlan, RegionFault>,
-    R: Read,
-    W: Write,
-    V: Write,
-    O: Watcher,
->(
+fn run_by<F: Fn(&Arc<Region>) -> RegionPlan, R: Read, W: Write, V: Write, O: Watcher>(
     alloc: Global,
     reader: &mut R,
     table: Option<&[u8]>,
@@ -185,13 +179,7 @@ fn run_by<
 /// text says how few torches there might be, and no certificate is written. Before the search the observer is told
 /// where free cells lie at a side of the box. Who plans the regions changes no promise: where that waits for nobody,
 /// this is proved to return.
-pub fn run_plan<
-    F: Fn(&Arc<Region>) -> Result<BestPlan, RegionFault>,
-    R: Read,
-    W: Write,
-    V: Write,
-    O: Watcher,
->(
+pub fn run_plan<F: Fn(&Arc<Region>) -> RegionPlan, R: Read, W: Write, V: Write, O: Watcher>(
     alloc: Global,
     reader: &mut R,
     table: Option<&[u8]>,

@@ -1,8 +1,8 @@
 ghost use Rattle.std.specs.Prelude.{◌≡◌, ◌≤◌, ◌<◌, ◌⊎◌, length, IfOk, IfErr, IfSome};
-ghost use Rattle.proof_check.specs.Reading.{GivesAtMost};
+ghost use Rattle.cave_runs.specs.Limits.{table_limit};
 ghost use Rattle.cave_runs.specs.declared.fault.Input.TheVariants.{TableInput};
 ghost use Rattle.cave_runs.specs.declared.fault.RunFault.{RunFault};
-ghost use Rattle.cave_runs.specs.Limits.{table_limit};
+ghost use Rattle.proof_check.specs.Reading.{GivesAtMost};
 
 use crate::fault::{Input, RunFault};
 use crate::limits::{READ_CALLS, TABLE_LIMIT};

@@ -1,7 +1,7 @@
-ghost use Rattle.std.specs.Prelude.{◌≡◌, IfErr, OnOk, OnErr};
 ghost use Rattle.std.specs.Io.KnownBytes.{Appends};
-ghost use Rattle.certificate_text.specs.Writing.{AppendsFront};
+ghost use Rattle.std.specs.Prelude.{◌≡◌, IfErr, OnOk, OnErr};
 ghost use Rattle.cave_runs.specs.declared.fault.RunFault.{RunFault};
+ghost use Rattle.certificate_text.specs.Writing.{AppendsFront};
 
 use crate::fault::RunFault;
 use std::io::Write;

@@ -49,15 +49,17 @@ abbrev pub RegionMeans : ℕ → ℕ → ℕ → List ℕ → Stage → Type 0
 RegionMeans rank count to_come numbers next = (k n t : ℕ) × (to_come ≡ k + 1) × (numbers ≡ n ∷ t ∷ [])
     × (0 < n) × (n ≤ count) × (0 < t) × (t ≤ count) × (next ≡ stage.Dark rank count k n t)
 
+-- so many cells of the box, ascending; this stage comes next
+abbrev pub CellsMean : ℕ → ℕ → Stage → List ℕ → Stage → Type 0
+CellsMean count many after numbers next = AreListed count numbers × (length numbers ≡ many) × (next ≡ after)
+
 -- the cells of the region, ascending, of the box, as many as were told; its torches come next
 abbrev pub DarkMeans : ℕ → ℕ → ℕ → ℕ → ℕ → List ℕ → Stage → Type 0
-DarkMeans rank count to_come n t numbers next = AreListed count numbers × (length numbers ≡ n)
-    × (next ≡ stage.Torches rank count to_come t)
+DarkMeans rank count to_come n t numbers next = CellsMean count n (stage.Torches rank count to_come t) numbers next
 
 -- the torches of the region, ascending, in the box, as many as were told; its tree comes next
 abbrev pub TorchesMeans : ℕ → ℕ → ℕ → ℕ → List ℕ → Stage → Type 0
-TorchesMeans rank count to_come t numbers next = AreListed count numbers × (length numbers ≡ t)
-    × (next ≡ stage.Node rank count to_come 1)
+TorchesMeans rank count to_come t numbers next = CellsMean count t (stage.Node rank count to_come 1) numbers next
 
 -- ---- a step
 

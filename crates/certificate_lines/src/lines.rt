@@ -1,6 +1,6 @@
 ghost use Rattle.std.specs.Prelude.{◌≡◌, ◌<◌, ◌+◌, ◌-◌, ◌^◌, IfOk, MatchOption, IsTrue, ◌↔◌};
-ghost use Rattle.certificate_lines.specs.Sound.{IsSoundStage, pending_of};
 ghost use Rattle.certificate_lines.specs.Moves.{Fits, FitsNot};
+ghost use Rattle.certificate_lines.specs.Sound.{IsSoundStage, pending_of};
 ghost use Rattle.certificate_lines.specs.declared.stage.Stage.TheVariants as stages;
 
 use crate::kind::{LineKind, kind_at};

@@ -1,6 +1,6 @@
 ghost use Rattle.std.specs.Prelude.{◌≡◌, ◌+◌, ◌<◌, ◌∷◌, MatchOption, IfOk, MatchBool};
-ghost use Rattle.certificate_lines.specs.Numbers.{HasNoSpace, IsCut, BeginsWith, BeginsWithNone, AreNumbers};
 ghost use Rattle.certificate_lines.specs.Numbers.{AreNoNumbers};
+ghost use Rattle.certificate_lines.specs.Numbers.{HasNoSpace, IsCut, BeginsWith, BeginsWithNone, AreNumbers};
 
 use std::alloc::AllocError;
 

@@ -1,8 +1,8 @@
 ghost use Rattle.std.specs.Prelude.{◌≡◌, ◌≤◌, ◌<◌, ◌+◌, ◌^◌, IfOk, IfSome};
-ghost use Rattle.certificate_lines.specs.Steps.{Takes};
-ghost use Rattle.certificate_lines.specs.Sound.{IsSoundStage, pending_of};
 ghost use Rattle.certificate_lines.specs.Decides.{Decides, IsLineOf};
 ghost use Rattle.certificate_lines.specs.Kinds as kinds;
+ghost use Rattle.certificate_lines.specs.Sound.{IsSoundStage, pending_of};
+ghost use Rattle.certificate_lines.specs.Steps.{Takes};
 
 use crate::kind::LineKind;
 use crate::line::read_line;
@@ -73,16 +73,10 @@ fn after(stage: Stage, kind: LineKind, numbers: &[u32]) -> Option<Stage>
             count,
             to_come,
             pending,
-        } => after_node_line(
-            Trees {
-                rank,
-                count,
-                to_come,
-                pending,
-            },
-            kind,
-            numbers,
-        ),
+        } => {
+            let trees = Trees::new(rank, count, to_come, pending);
+            after_node_line(trees, kind, numbers)
+        }
         Stage::Group {
             rank,
             count,
@@ -90,17 +84,10 @@ fn after(stage: Stage, kind: LineKind, numbers: &[u32]) -> Option<Stage>
             pending,
             left,
             from,
-        } => after_group(
-            Trees {
-                rank,
-                count,
-                to_come,
-                pending,
-            },
-            left,
-            from,
-            numbers,
-        ),
+        } => {
+            let trees = Trees::new(rank, count, to_come, pending);
+            after_group(trees, left, from, numbers)
+        }
         Stage::Done => None,
     }
 }

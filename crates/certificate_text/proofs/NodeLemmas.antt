@@ -1,6 +1,6 @@
 -- The text of a tree from that of its parts, on its way to a writer.
-use Rattle.std.proofs.Common.{◌≡◌, ℕ, zero, suc, ◌+◌, ◌<◌, List, [], ◌∷◌, ◌++◌, length, drop, get_or, Option, Result}
-use Rattle.std.proofs.Common.{Err, refl, sym, ap, subst, ◌∙◌, arith, append_assoc}
+use Rattle.std.proofs.Common.{◌≡◌, ℕ, zero, suc, ◌+◌, ◌<◌, List, [], ◌∷◌, ◌++◌, length, drop, get_or, Option}
+use Rattle.std.proofs.Common.{refl, sym, ap, subst, ◌∙◌, arith, append_assoc}
 use Rattle.std.specs.Prelude.{codes}
 use Rattle.std.specs.Ordering.{nat_cmp}
 use Rattle.std.specs.List.Sorted.{IsPermutation, IsSorted}
@@ -16,10 +16,11 @@ use Rattle.proof_rules.specs.Text.{ended, line, group_line, tree_lines, forest_l
 use Rattle.certificate_text.specs.Lines.{groups_text, tree_text, forest_text, HaveDistinctCells}
 use Rattle.proof_tree.specs.Order.{in_order, ordered_tree, ordered_trees}
 use Rattle.proof_tree.specs.Shape.{tree_of, forest_of, tree_size, forest_size}
-use Rattle.certificate_text.specs.Writing.{AppendsPart, Passes, IsSent}
+use Rattle.certificate_text.specs.Sending.{SendsAll, SendsPart}
+use Rattle.certificate_text.specs.declared.sink.Sink.{Sink}
 use Rattle.proof_tree.specs.declared.proof.Proof.{Proof}
 use Rattle.proof_tree.proofs.OrderLemmas.{order_is}
-use Rattle.certificate_text.proofs.SentLemmas.{part_more, part_then, passes_then, passes_none, sent_then}
+use Rattle.certificate_text.proofs.SentLemmas.{sends_none, sends_then, sends_part, sends_more}
 
 -- ---- texts
 
@@ -54,78 +55,65 @@ pub more_text : (tree : Tree) (trees : Forest) → tree_text tree ++ forest_text
 more_text tree trees = sym (flat_map-append (λ text. text ++ 10 ∷ []) (tree_lines (ordered_tree tree))
     (forest_lines (ordered_trees trees)))
 
--- ---- on their way
-
--- the first text wasn't sent, and nor was the whole
-pub err_sent : {X F : Type 0} (r : Result X F) (e : F) (a b : Option (List ℕ)) (had has text rest whole : List ℕ)
-    → r ≡ Err e → text ++ rest ≡ whole → AppendsPart a b (had ++ text) → IsSent r a had b has whole
-err_sent r e a b had has text rest whole failed is part =
-    let longer = part_more a b had text rest part in
-    rw failed (subst (λ (l : List ℕ). AppendsPart a b (had ++ l)) is longer)
-
--- the first text was sent, and the second settles it
-pub then_sent : {X E : Type 0} (r : Result X E) (a b c : Option (List ℕ)) (had has holds text rest whole : List ℕ)
-    → text ++ rest ≡ whole → Passes a had b has text → IsSent r b has c holds rest → IsSent r a had c holds whole
-then_sent r a b c had has holds text rest whole is p q =
-    subst (IsSent r a had c holds) is (sent_then r a b c had has holds text rest p q)
-
 -- ---- a row of trees
 
 -- the trees up to one were sent, and the others are to come
-pub record SentUpTo (old : Option (List ℕ)) (had : List ℕ) (new : Option (List ℕ)) (has : List ℕ) (trees : List Proof)
-    (index : ℕ) : Type 0 where
+pub record SentUpTo {W : Type 0} (contents : W → Option (List ℕ)) (old new : Sink W) (trees : List Proof) (index : ℕ)
+    : Type 0 where
   pub text : List ℕ
-  pub passed : Passes old had new has text
+  pub sent : SendsAll contents old new text
   pub parts : text ++ forest_text (forest_of (drop index trees)) ≡ forest_text (forest_of trees)
   pub distinct : HaveDistinctCells (forest_of (drop index trees))
 
 -- before the first tree nothing was sent
-pub none_sent : (old : Option (List ℕ)) (had : List ℕ) (trees : List Proof) → HaveDistinctCells (forest_of trees)
-    → SentUpTo old had old had trees 0
-none_sent old had trees distinct = record { text = []; passed = passes_none old had; parts = refl; distinct = distinct }
+pub none_sent : {W : Type 0} (contents : W → Option (List ℕ)) (old : Sink W) (trees : List Proof)
+    → HaveDistinctCells (forest_of trees) → SentUpTo contents old old trees 0
+none_sent contents old trees distinct = record {
+  text = [];
+  sent = sends_none contents old;
+  parts = refl;
+  distinct = distinct;
+}
 
 -- the trees that are to come have distinct cells
-pub next_distinct : (old : Option (List ℕ)) (had : List ℕ) (new : Option (List ℕ)) (has : List ℕ) (trees : List Proof)
-    (index : ℕ) (d : Proof) → index < length trees → SentUpTo old had new has trees index
+pub next_distinct : {W : Type 0} (contents : W → Option (List ℕ)) (old new : Sink W) (trees : List Proof) (index : ℕ)
+    (d : Proof) → index < length trees → SentUpTo contents old new trees index
     → HaveDistinctCells (forest_of (get_or trees index d ∷ drop (index + 1) trees))
-next_distinct old had new has trees index d lt s = subst (λ (l : List Proof). HaveDistinctCells (forest_of l))
+next_distinct contents old new trees index d lt s = subst (λ (l : List Proof). HaveDistinctCells (forest_of l))
     (drop_more trees index d lt) s.distinct
 
 -- the next tree's text follows what was sent
-pub next_parts : (old : Option (List ℕ)) (had : List ℕ) (new : Option (List ℕ)) (has : List ℕ) (trees : List Proof)
-    (index : ℕ) (d : Proof) → index < length trees → (s : SentUpTo old had new has trees index)
+next_parts : {W : Type 0} (contents : W → Option (List ℕ)) (old new : Sink W) (trees : List Proof) (index : ℕ)
+    (d : Proof) → index < length trees → (s : SentUpTo contents old new trees index)
     → s.text ++ (tree_text (tree_of (get_or trees index d)) ++ forest_text (forest_of (drop (index + 1) trees))) ≡
     forest_text (forest_of trees)
-next_parts old had new has trees index d lt s =
+next_parts contents old new trees index d lt s =
     ap (λ (l : List ℕ). s.text ++ l) (more_text (tree_of (get_or trees index d)) (forest_of (drop (index + 1) trees)))
     ∙ ap (λ (l : List Proof). s.text ++ forest_text (forest_of l)) (sym (drop_more trees index d lt)) ∙ s.parts
 
 -- where the next tree is sent, all up to it are
-pub one_sent : (old : Option (List ℕ)) (had : List ℕ) (new : Option (List ℕ)) (has : List ℕ) (trees : List Proof)
-    (index : ℕ) (d : Proof) (next : Option (List ℕ)) (holds : List ℕ) → index < length trees
-    → SentUpTo old had new has trees index
-    → Passes new has next holds (tree_text (tree_of (get_or trees index d)))
-    → SentUpTo old had next holds trees (index + 1)
-one_sent old had new has trees index d next holds lt s p = record {
+pub one_sent : {W : Type 0} (contents : W → Option (List ℕ)) (old new next : Sink W) (trees : List Proof) (index : ℕ)
+    (d : Proof) → index < length trees → SentUpTo contents old new trees index
+    → SendsAll contents new next (tree_text (tree_of (get_or trees index d)))
+    → SentUpTo contents old next trees (index + 1)
+one_sent contents old new next trees index d lt s p = record {
   text = s.text ++ tree_text (tree_of (get_or trees index d));
-  passed = passes_then old new next had has holds s.text (tree_text (tree_of (get_or trees index d))) s.passed p;
+  sent = sends_then contents old new next s.text (tree_text (tree_of (get_or trees index d))) s.sent p;
   parts = append_assoc s.text (tree_text (tree_of (get_or trees index d)))
-      (forest_text (forest_of (drop (index + 1) trees))) ∙ next_parts old had new has trees index d lt s;
-  distinct = (next_distinct old had new has trees index d lt s).1;
+      (forest_text (forest_of (drop (index + 1) trees))) ∙ next_parts contents old new trees index d lt s;
+  distinct = (next_distinct contents old new trees index d lt s).1;
 }
 
 -- one wasn't sent
-pub failed_sent : {X F : Type 0} (r : Result X F) (e : F) (old : Option (List ℕ)) (had : List ℕ)
-    (new : Option (List ℕ)) (has : List ℕ) (trees : List Proof) (index : ℕ) (d : Proof) (next : Option (List ℕ))
-    (holds : List ℕ)
-    → r ≡ Err e → index < length trees → SentUpTo old had new has trees index
-    → AppendsPart new next (has ++ tree_text (tree_of (get_or trees index d)))
-    → IsSent r old had next holds (forest_text (forest_of trees))
-failed_sent r e old had new has trees index d next holds failed lt s part =
+pub failed_sent : {W : Type 0} (contents : W → Option (List ℕ)) (old new next : Sink W) (trees : List Proof)
+    (index : ℕ) (d : Proof) → index < length trees → SentUpTo contents old new trees index
+    → SendsPart contents new next (tree_text (tree_of (get_or trees index d)))
+    → SendsPart contents old next (forest_text (forest_of trees))
+failed_sent contents old new next trees index d lt s part =
     let here = tree_text (tree_of (get_or trees index d)) in
     let rest = forest_text (forest_of (drop (index + 1) trees)) in
-    rw failed (subst (λ (l : List ℕ). AppendsPart old next (had ++ l)) (next_parts old had new has trees index d lt s)
-    (part_then old new next had has s.text (here ++ rest) s.passed (part_more new next has here rest part)))
+    subst (SendsPart contents old next) (next_parts contents old new trees index d lt s)
+    (sends_part contents old new next s.text (here ++ rest) s.sent (sends_more contents new next here rest part))
 
 -- a tree of a list is smaller than the list
 pub tree_below : (proofs : List Proof) (i : ℕ) (d : Proof) → i < length proofs

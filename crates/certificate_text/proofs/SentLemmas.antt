@@ -1,7 +1,10 @@
 -- What is on its way to a writer, one text after another.
-use Rattle.std.proofs.Common.{ℕ, List, [], ◌++◌, Option, Result, Ok, Err, refl, sym, ap, ◌∙◌, append_assoc}
+use Rattle.std.proofs.Common.{◌≡◌, ℕ, List, [], ◌++◌, Option, Result, Ok, Err, refl, sym, ap, subst, ◌∙◌, append_assoc}
+use Rattle.std.proofs.Common.{string_bytes}
 use Rattle.std.proofs.lemmas.List.{append-nil}
-use Rattle.certificate_text.specs.Writing.{AppendsPart, Passes, IsSent}
+use Rattle.certificate_text.specs.Sending.{IsSameSink, SendsAll, SendsPart, IsSent}
+use Rattle.certificate_text.specs.Writing.{AppendsPart, Passes}
+use Rattle.certificate_text.specs.declared.sink.Sink.{Sink}
 use Rattle.certificate_text.proofs.WritingLemmas.{then_appends, none_taken}
 
 -- a beginning of a text is one of a longer one
@@ -49,8 +52,61 @@ part_none a text = ([], text, refl, none_taken a)
 pub passes_none : (a : Option (List ℕ)) (had : List ℕ) → Passes a had a had []
 passes_none a had = record { front = []; taken = none_taken a; parts = append-nil had }
 
--- what follows a text on its way is sent with it, or a beginning of both was taken
-pub sent_then : {X E : Type 0} (r : Result X E) (a b c : Option (List ℕ)) (had has holds text more : List ℕ)
-    → Passes a had b has text → IsSent r b has c holds more → IsSent r a had c holds (text ++ more)
-sent_then (Ok x) a b c had has holds text more p q = passes_then a b c had has holds text more p q
-sent_then (Err e) a b c had has holds text more p q = part_then a b c had has text more p q
+-- ---- to a sink
+
+-- a sink that stays the same twice stays the same
+same_then : {W : Type 0} (a b c : Sink W) → IsSameSink a b → IsSameSink b c → IsSameSink a c
+same_then a b c p q = record { writer = q.writer ∙ p.writer; buffer = q.buffer ∙ p.buffer }
+
+-- an empty text is on its way with nothing done
+pub sends_none : {W : Type 0} (contents : W → Option (List ℕ)) (a : Sink W) → SendsAll contents a a []
+sends_none contents a = record {
+  same = record { writer = refl; buffer = refl };
+  passed = passes_none (contents a.writer.now) (string_bytes a.buffer.now);
+}
+
+-- two texts on their way one after the other are one
+pub sends_then : {W : Type 0} (contents : W → Option (List ℕ)) (a b c : Sink W) (text more : List ℕ)
+    → SendsAll contents a b text → SendsAll contents b c more → SendsAll contents a c (text ++ more)
+sends_then contents a b c text more p q = record {
+  same = same_then a b c p.same q.same;
+  passed = passes_then (contents a.writer.now) (contents b.writer.now) (contents c.writer.now)
+      (string_bytes a.buffer.now) (string_bytes b.buffer.now) (string_bytes c.buffer.now) text more p.passed q.passed;
+}
+
+-- a text is on its way, and of the next one a beginning was taken
+pub sends_part : {W : Type 0} (contents : W → Option (List ℕ)) (a b c : Sink W) (text more : List ℕ)
+    → SendsAll contents a b text → SendsPart contents b c more → SendsPart contents a c (text ++ more)
+sends_part contents a b c text more p q = record {
+  same = same_then a b c p.same q.same;
+  taken = part_then (contents a.writer.now) (contents b.writer.now) (contents c.writer.now)
+      (string_bytes a.buffer.now) (string_bytes b.buffer.now) text more p.passed q.taken;
+}
+
+-- a beginning of a text is one of a longer one
+pub sends_more : {W : Type 0} (contents : W → Option (List ℕ)) (a b : Sink W) (text more : List ℕ)
+    → SendsPart contents a b text → SendsPart contents a b (text ++ more)
+sends_more contents a b text more p = record {
+  same = p.same;
+  taken = part_more (contents a.writer.now) (contents b.writer.now) (string_bytes a.buffer.now) text more p.taken;
+}
+
+-- the first text wasn't sent, and nor was the whole
+pub err_sent : {W X F : Type 0} (contents : W → Option (List ℕ)) (r : Result X F) (e : F) (a b : Sink W)
+    (text rest whole : List ℕ)
+    → r ≡ Err e → text ++ rest ≡ whole → SendsPart contents a b text → IsSent contents r a b whole
+err_sent contents r e a b text rest whole failed is part =
+    rw failed (subst (SendsPart contents a b) is (sends_more contents a b text rest part))
+
+-- what follows a text on its way settles both
+sent_then : {W X E : Type 0} (contents : W → Option (List ℕ)) (r : Result X E) (a b c : Sink W) (text more : List ℕ)
+    → SendsAll contents a b text → IsSent contents r b c more → IsSent contents r a c (text ++ more)
+sent_then contents (Ok x) a b c text more p q = sends_then contents a b c text more p q
+sent_then contents (Err e) a b c text more p q = sends_part contents a b c text more p q
+
+-- the first text was sent, and the second settles it
+pub then_sent : {W X E : Type 0} (contents : W → Option (List ℕ)) (r : Result X E) (a b c : Sink W)
+    (text rest whole : List ℕ)
+    → text ++ rest ≡ whole → SendsAll contents a b text → IsSent contents r b c rest → IsSent contents r a c whole
+then_sent contents r a b c text rest whole is p q =
+    subst (IsSent contents r a c) is (sent_then contents r a b c text rest p q)

@@ -7,3 +7,4 @@ pub mod Texts
 pub mod Sections
 pub mod Heading
 pub mod Lines
+pub mod Sending

@@ -15,14 +15,10 @@ cells_text word cells = line word cells ++ 10 ∷ []
 unfoldable pub proved_text : List ℕ → Tree → List ℕ
 proved_text torches tree = cells_text (codes "T") (in_order torches) ++ tree_text tree
 
--- the lines of cells, torches and a tree
-unfoldable pub lists_text : List ℕ → List ℕ → Tree → List ℕ
-lists_text cells torches tree = cells_text (codes "D") cells ++ proved_text torches tree
-
 -- all lines of a region
 unfoldable pub region_text : List ℕ → List ℕ → Tree → List ℕ
 region_text cells torches tree = cells_text (codes "region") (length cells ∷ length torches ∷ [])
-    ++ lists_text cells torches tree
+    ++ (cells_text (codes "D") cells ++ proved_text torches tree)
 
 -- the same as the certificate has it
 abbrev pub section_text : Plan → List ℕ

@@ -1,5 +1,5 @@
 -- What a writer took, with a buffer in front of it or without. This is this project's own.
-use Rattle.std.specs.Prelude.{◌≡◌, ℕ, ◌<◌, List, ◌++◌, length, Option, Result, MatchResult}
+use Rattle.std.specs.Prelude.{◌≡◌, ℕ, ◌<◌, List, ◌++◌, length, Option}
 use Rattle.std.specs.Io.KnownBytes.{Appends}
 
 -- known bytes grow by a beginning of the text, and not by all of it
@@ -15,8 +15,3 @@ pub record Passes (old : Option (List ℕ)) (had : List ℕ) (new : Option (List
   pub front : List ℕ
   pub taken : Appends old new front
   pub parts : had ++ text ≡ front ++ has
-
--- the text is on its way, or a beginning of it and of what the buffer had was taken
-abbrev pub IsSent : {X E : Type 0} → Result X E → Option (List ℕ) → List ℕ → Option (List ℕ) → List ℕ → List ℕ → Type 0
-IsSent r old had new has text = MatchResult r (λ _. Passes old had new has text)
-    (λ _. AppendsPart old new (had ++ text))

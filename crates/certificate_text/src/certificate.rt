@@ -1,17 +1,18 @@
 //! The text of a certificate.
-ghost use Rattle.std.specs.Prelude.{◌≡◌, OnOk, OnErr, string_bytes};
 ghost use Rattle.std.specs.Io.KnownBytes.{Appends};
+ghost use Rattle.std.specs.Prelude.{◌≡◌, OnOk, OnErr};
 ghost use Rattle.certificate_text.specs.PlanOf.{plan_of, plans_of};
 ghost use Rattle.certificate_text.specs.Planned as planned;
 ghost use Rattle.certificate_text.specs.Sections.{AreWritable, IsWritable, body_text};
-ghost use Rattle.certificate_text.specs.Sections.{section_text, sections_text};
-ghost use Rattle.certificate_text.specs.Writing.{AppendsPart, IsSent};
+ghost use Rattle.certificate_text.specs.Sections.{section_text};
+ghost use Rattle.certificate_text.specs.Sending.{IsSent};
+ghost use Rattle.certificate_text.specs.Writing.{AppendsPart};
 
-use crate::buffer::{flush, put_text};
 use crate::fault::WriteFault;
 use crate::heading::heading;
 use crate::ranks::rank_of;
 use crate::sections::put_section;
+use crate::sink::Sink;
 use cave_model::World;
 use cave_regions::{Cover, Region};
 use proof_tree::Proof;
@@ -42,68 +43,39 @@ fn part_rank(part: &Planned) -> u8
 }
 
 /// Puts the lines of one region behind what is on its way.
-fn put_part<W: Write>(
-    alloc: Global,
-    writer: &mut W,
-    buffer: &mut String,
-    part: &Planned,
-) -> Result<(), WriteFault>
+fn put_part<W: Write>(sink: &mut Sink<'_, W>, part: &Planned) -> Result<(), WriteFault>
     requires { IsWritable (plan_of part.now) }
-    ensures { IsSent result (W.contents writer.old) (string_bytes buffer.old) (W.contents writer.new)
-        (string_bytes buffer.new) (section_text (plan_of part.now)) }
+    ensures { IsSent W.contents result sink.old sink.new (section_text (plan_of part.now)) }
 {
     let (region, cover, proof) = part;
-    put_section(alloc, writer, buffer, region, cover, proof)
-}
-
-/// Puts the lines of all regions behind what is on its way.
-fn put_sections<W: Write>(
-    alloc: Global,
-    writer: &mut W,
-    buffer: &mut String,
-    parts: &[Planned],
-) -> Result<(), WriteFault>
-    requires { AreWritable (plans_of parts.now) }
-    ensures { IsSent result (W.contents writer.old) (string_bytes buffer.old) (W.contents writer.new)
-        (string_bytes buffer.new) (sections_text (plans_of parts.now)) }
-{
-    for part in parts {
-        put_part(alloc, writer, buffer, part)?;
-    }
-    Ok(())
+    put_section(sink, region, cover, proof)
 }
 
 /// Puts the lines of all regions and the last line behind what is on its way.
-fn put_body<W: Write>(
-    alloc: Global,
-    writer: &mut W,
-    buffer: &mut String,
-    parts: &[Planned],
-) -> Result<(), WriteFault>
+fn put_body<W: Write>(sink: &mut Sink<'_, W>, parts: &[Planned]) -> Result<(), WriteFault>
     requires { AreWritable (plans_of parts.now) }
-    ensures { IsSent result (W.contents writer.old) (string_bytes buffer.old) (W.contents writer.new)
-        (string_bytes buffer.new) (body_text (plans_of parts.now)) }
+    ensures { IsSent W.contents result sink.old sink.new (body_text (plans_of parts.now)) }
 {
-    put_sections(alloc, writer, buffer, parts)?;
-    put_text(writer, buffer, "end\n")
+    for part in parts {
+        put_part(sink, part)?;
+    }
+    sink.put_text("end\n")
 }
 
 /// Puts the whole certificate behind what is on its way.
 fn put_certificate<W: Write>(
-    alloc: Global,
-    writer: &mut W,
-    buffer: &mut String,
+    sink: &mut Sink<'_, W>,
     world: &World,
     parts: &[Planned],
 ) -> Result<(), WriteFault>
     requires { AreWritable (plans_of parts.now) }
-    ensures { IsSent result (W.contents writer.old) (string_bytes buffer.old) (W.contents writer.new)
-        (string_bytes buffer.new) (planned.certificate_text world.now (plans_of parts.now)) }
+    ensures { IsSent W.contents result sink.old sink.new
+        (planned.certificate_text world.now (plans_of parts.now)) }
 {
     let version = rank_needed(world, parts);
-    let heading = heading(alloc, world, parts.len(), version)?;
-    put_text(writer, buffer, heading.as_str())?;
-    put_body(alloc, writer, buffer, parts)
+    let heading = heading(sink.alloc, world, parts.len(), version)?;
+    sink.put_text(heading.as_str())?;
+    put_body(sink, parts)
 }
 
 /// Writes the certificate of a plan: its regions, each with its torches and its tree, in the first version that can say
@@ -124,6 +96,11 @@ pub fn write_certificate<W: Write>(
         (planned.certificate_text world.now (plans_of parts.now))) }
 {
     let mut buffer = String::new(alloc);
-    put_certificate(alloc, writer, &mut buffer, world, parts)?;
-    flush(writer, &mut buffer)
+    let mut sink = Sink {
+        alloc,
+        writer,
+        buffer: &mut buffer,
+    };
+    put_certificate(&mut sink, world, parts)?;
+    sink.flush()
 }

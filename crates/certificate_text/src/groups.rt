@@ -1,11 +1,11 @@
 //! The lines of a weighted leaf: one of its own, and one a group.
-ghost use Rattle.std.specs.Prelude.{◌≡◌, ◌∷◌, [], IfOk, length, flat_map, string_bytes};
-ghost use Rattle.proof_rules.specs.Tree.{weighted};
+ghost use Rattle.std.specs.Prelude.{◌≡◌, ◌∷◌, [], IfOk, length, flat_map};
 ghost use Rattle.certificate_text.specs.Lines.{group_text, groups_text, tree_text};
-ghost use Rattle.certificate_text.specs.Writing.{IsSent};
+ghost use Rattle.certificate_text.specs.Sending.{IsSent};
+ghost use Rattle.proof_rules.specs.Tree.{weighted};
 
 use crate::fault::WriteFault;
-use crate::line::put_line;
+use crate::sink::Sink;
 use proof_rules::Group;
 use std::alloc::{AllocError, Global};
 use std::io::Write;
@@ -25,45 +25,27 @@ fn group_numbers(alloc: Global, group: &Group) -> Result<Vec<u64>, AllocError>
 }
 
 /// Puts the line of a group behind what is on its way.
-fn put_group<W: Write>(
-    alloc: Global,
-    writer: &mut W,
-    buffer: &mut String,
-    group: &Group,
-) -> Result<(), WriteFault>
-    ensures { IsSent result (W.contents writer.old) (string_bytes buffer.old) (W.contents writer.new)
-        (string_bytes buffer.new) (group_text group.now) }
+fn put_group<W: Write>(sink: &mut Sink<'_, W>, group: &Group) -> Result<(), WriteFault>
+    ensures { IsSent W.contents result sink.old sink.new (group_text group.now) }
 {
-    let numbers = group_numbers(alloc, group)?;
-    put_line(alloc, writer, buffer, "G", &numbers)
+    let numbers = group_numbers(sink.alloc, group)?;
+    sink.put_line("G", &numbers)
 }
 
 /// Puts the lines of groups behind what is on its way, one after another.
-fn put_groups<W: Write>(
-    alloc: Global,
-    writer: &mut W,
-    buffer: &mut String,
-    groups: &[Group],
-) -> Result<(), WriteFault>
-    ensures { IsSent result (W.contents writer.old) (string_bytes buffer.old) (W.contents writer.new)
-        (string_bytes buffer.new) (groups_text groups.now) }
+fn put_groups<W: Write>(sink: &mut Sink<'_, W>, groups: &[Group]) -> Result<(), WriteFault>
+    ensures { IsSent W.contents result sink.old sink.new (groups_text groups.now) }
 {
     for group in groups {
-        put_group(alloc, writer, buffer, group)?;
+        put_group(sink, group)?;
     }
     Ok(())
 }
 
 /// Puts the lines of a weighted leaf behind what is on its way.
-pub fn put_weighted<W: Write>(
-    alloc: Global,
-    writer: &mut W,
-    buffer: &mut String,
-    groups: &[Group],
-) -> Result<(), WriteFault>
-    ensures { IsSent result (W.contents writer.old) (string_bytes buffer.old) (W.contents writer.new)
-        (string_bytes buffer.new) (tree_text (weighted groups.now)) }
+pub fn put_weighted<W: Write>(sink: &mut Sink<'_, W>, groups: &[Group]) -> Result<(), WriteFault>
+    ensures { IsSent W.contents result sink.old sink.new (tree_text (weighted groups.now)) }
 {
-    put_line(alloc, writer, buffer, "W", &[groups.len() as u64])?;
-    put_groups(alloc, writer, buffer, groups)
+    sink.put_line("W", &[groups.len() as u64])?;
+    put_groups(sink, groups)
 }

@@ -1,9 +1,9 @@
 //! The lines of a certificate before its regions.
-ghost use Rattle.std.specs.Prelude.{◌≡◌, IfOk, string_bytes};
+ghost use Rattle.std.specs.Prelude.{◌≡◌, ◌++◌, IfOk, string_bytes};
 ghost use Rattle.cave_base.specs.Box.{point};
-ghost use Rattle.proof_rules.specs.Certificate.{first, second, third};
 ghost use Rattle.certificate_text.specs.Heading as texts;
 ghost use Rattle.certificate_text.specs.Planned.{version_at};
+ghost use Rattle.proof_rules.specs.Certificate.{first};
 
 use crate::line::line_text;
 use cave_model::World;
@@ -43,23 +43,18 @@ fn need_text(alloc: Global, world: &World, regions: usize) -> Result<String, All
     Ok(out)
 }
 
-/// The lines of the second version.
-fn second_heading(alloc: Global, world: &World, regions: usize) -> Result<String, AllocError>
-    ensures { IfOk result (λ s. string_bytes s ≡ texts.heading_text world.now regions (second world.now.rule.need)) }
+/// The lines of a later version: those of version, box and headroom, and those that such a version has after them.
+fn later_heading(
+    alloc: Global,
+    version: &str,
+    world: &World,
+    regions: usize,
+) -> Result<String, AllocError>
+    ensures { IfOk result (λ s. string_bytes s ≡ texts.front_text version.now world.now.size world.now.rule.headroom
+        ++ texts.need_text world.now.rule.need regions) }
 {
     let headroom = world.rule().headroom;
-    let mut out = front_text(alloc, "torchproof 2", world.size(), headroom)?;
-    let rest = need_text(alloc, world, regions)?;
-    out.push_str(rest.as_str())?;
-    Ok(out)
-}
-
-/// The lines of the third version.
-fn third_heading(alloc: Global, world: &World, regions: usize) -> Result<String, AllocError>
-    ensures { IfOk result (λ s. string_bytes s ≡ texts.heading_text world.now regions (third world.now.rule.need)) }
-{
-    let headroom = world.rule().headroom;
-    let mut out = front_text(alloc, "torchproof 3", world.size(), headroom)?;
+    let mut out = front_text(alloc, version, world.size(), headroom)?;
     let rest = need_text(alloc, world, regions)?;
     out.push_str(rest.as_str())?;
     Ok(out)
@@ -76,9 +71,9 @@ pub fn heading(
         ≡ texts.heading_text world.now regions (version_at world.now.rule.need version)) }
 {
     if version >= 3 {
-        third_heading(alloc, world, regions)
+        later_heading(alloc, "torchproof 3", world, regions)
     } else if version >= 2 {
-        second_heading(alloc, world, regions)
+        later_heading(alloc, "torchproof 2", world, regions)
     } else {
         first_heading(alloc, world, regions)
     }

@@ -1,7 +1,6 @@
 //! The text of a certificate, written line by line from plans of regions.
 #![tactic(auto)]
 
-mod buffer;
 mod certificate;
 mod fault;
 mod groups;
@@ -10,6 +9,7 @@ mod line;
 mod nodes;
 mod ranks;
 mod sections;
+mod sink;
 mod writing;
 
 pub use certificate::{Planned, write_certificate};

@@ -1,14 +1,14 @@
 //! The lines of a tree: those of a node before its kids', and the kids in order.
-ghost use Rattle.std.specs.Prelude.{◌≡◌, ◌∷◌, IfOk, length, string_bytes};
+ghost use Rattle.std.specs.Prelude.{◌≡◌, ◌∷◌, IfOk, length};
 ghost use Rattle.cave_model.specs.Plan.{AreDistinct};
 ghost use Rattle.certificate_text.specs.Lines.{HasDistinctCells, HaveDistinctCells, forest_text, tree_text};
+ghost use Rattle.certificate_text.specs.Sending.{IsSent};
 ghost use Rattle.proof_tree.specs.Order.{in_order};
 ghost use Rattle.proof_tree.specs.Shape.{forest_of, tree_of};
-ghost use Rattle.certificate_text.specs.Writing.{IsSent};
 
 use crate::fault::WriteFault;
 use crate::groups::put_weighted;
-use crate::line::put_line;
+use crate::sink::Sink;
 use cave_base::Cell;
 use proof_tree::Proof;
 use std::alloc::{AllocError, Global};
@@ -56,59 +56,41 @@ fn counted_in_order(alloc: Global, cells: &[Cell]) -> Result<Vec<u64>, AllocErro
 
 /// Puts the lines of a tree behind what is on its way.
 #[cycle(put_tree)]
-pub fn put_tree<W: Write>(
-    alloc: Global,
-    writer: &mut W,
-    buffer: &mut String,
-    proof: &Proof,
-) -> Result<(), WriteFault>
+pub fn put_tree<W: Write>(sink: &mut Sink<'_, W>, proof: &Proof) -> Result<(), WriteFault>
     requires { HasDistinctCells (tree_of proof.now) }
-    ensures { IsSent result (W.contents writer.old) (string_bytes buffer.old) (W.contents writer.new)
-        (string_bytes buffer.new) (tree_text (tree_of proof.now)) }
+    ensures { IsSent W.contents result sink.old sink.new (tree_text (tree_of proof.now)) }
 {
     match proof {
         Proof::Leaf(cells) => {
-            let numbers = counted_in_order(alloc, cells.as_slice())?;
-            put_line(alloc, writer, buffer, "L", &numbers)
+            let numbers = counted_in_order(sink.alloc, cells.as_slice())?;
+            sink.put_line("L", &numbers)
         }
-        Proof::Weighted(groups) => put_weighted(alloc, writer, buffer, groups.as_slice()),
+        Proof::Weighted(groups) => put_weighted(sink, groups.as_slice()),
         Proof::Branch { cell, kids } => {
             let trees = kids.trees();
-            put_line(
-                alloc,
-                writer,
-                buffer,
-                "B",
-                &[*cell as u64, trees.len() as u64],
-            )?;
-            put_trees(alloc, writer, buffer, trees)
+            sink.put_line("B", &[*cell as u64, trees.len() as u64])?;
+            put_trees(sink, trees)
         }
         Proof::Bar { place, by, kid } => {
-            put_line(alloc, writer, buffer, "E", &[*place as u64, *by as u64])?;
-            put_tree(alloc, writer, buffer, kid.tree())
+            sink.put_line("E", &[*place as u64, *by as u64])?;
+            put_tree(sink, kid.tree())
         }
         Proof::Omit { cells, kid } => {
-            let numbers = counted(alloc, cells.as_slice())?;
-            put_line(alloc, writer, buffer, "D", &numbers)?;
-            put_tree(alloc, writer, buffer, kid.tree())
+            let numbers = counted(sink.alloc, cells.as_slice())?;
+            sink.put_line("D", &numbers)?;
+            put_tree(sink, kid.tree())
         }
     }
 }
 
 /// Puts the lines of trees behind what is on its way, one tree after another.
 #[cycle(put_tree)]
-fn put_trees<W: Write>(
-    alloc: Global,
-    writer: &mut W,
-    buffer: &mut String,
-    trees: &[Proof],
-) -> Result<(), WriteFault>
+fn put_trees<W: Write>(sink: &mut Sink<'_, W>, trees: &[Proof]) -> Result<(), WriteFault>
     requires { HaveDistinctCells (forest_of trees.now) }
-    ensures { IsSent result (W.contents writer.old) (string_bytes buffer.old) (W.contents writer.new)
-        (string_bytes buffer.new) (forest_text (forest_of trees.now)) }
+    ensures { IsSent W.contents result sink.old sink.new (forest_text (forest_of trees.now)) }
 {
     for tree in trees {
-        put_tree(alloc, writer, buffer, tree)?;
+        put_tree(sink, tree)?;
     }
     Ok(())
 }

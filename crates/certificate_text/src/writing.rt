@@ -1,5 +1,5 @@
-ghost use Rattle.std.specs.Prelude.{◌≡◌, IfErr, OnOk, OnErr};
 ghost use Rattle.std.specs.Io.KnownBytes.{Appends};
+ghost use Rattle.std.specs.Prelude.{◌≡◌, IfErr, OnOk, OnErr};
 ghost use Rattle.certificate_text.specs.Writing.{AppendsFront};
 ghost use Rattle.certificate_text.specs.declared.fault.WriteFault.{WriteFault};
 

@@ -7,7 +7,8 @@ use Rattle.clap.specs.declared.parser.matches.ArgMatches.{ArgMatches}
 use Rattle.cave_model.specs.Rule.{Rule}
 use Rattle.cave_model.specs.RuleOf.{rule_of}
 use Rattle.plan_options.specs.declared.workers.Workers.{Workers}
-use Rattle.command_words.specs.Requests.{IsAskedBy, IsCrewOf, IsEntered, IsRuleOf, NoneIsAskedBy, Reads, Tells}
+use Rattle.command_words.specs.Requests.{IsAskedBy, IsCrewOf, IsEntered, IsFoundBy, IsRuleOf, NoneIsAskedBy}
+use Rattle.command_words.specs.Requests.{Reads, Tells}
 use Rattle.command_words.specs.declared.request.Request.{Request}
 use Rattle.command_words.specs.declared.request.Request.TheVariants.{Dark, Plan, Check}
 use Rattle.command_words.proofs.WordLemmas.{named_as}
@@ -16,6 +17,11 @@ use Rattle.command_words.proofs.WordLemmas.{named_as}
 pub if_none : {X : Type 0} (r : Option X) (A : Type 0) → A → IfNone r A
 if_none None A h = h
 if_none (Some x) A h = tt
+
+-- nothing is found where nothing is asked for
+pub none_found : (name : Text) (rows : List Row) (r : Option Request) → NoneIsAskedBy name rows → r ≡ None
+    → IsFoundBy name rows r
+none_found name rows r none is = rw is none
 
 -- what holds where there is no value
 pub none_of : {X : Type 0} (r : Option X) (A C : Type 0) (B : X → Type 0) → (A → C) → MatchOption r A B → IfNone r C
@@ -70,7 +76,7 @@ same_of x y e = cc
 -- what was entered under this name asks for nothing
 pub unasked_by : (m : ArgMatches) (name : Text) (rows : List Row) (asked : Option Request)
     → subcommand_name_of m ≡ Some name → option_map (λ p. p.1) (subcommand_rows_of m) ≡ Some rows
-    → IfNone asked (NoneIsAskedBy name rows)
+    → IsFoundBy name rows asked
     → IfNone asked ((request : Request) → ¬ IsEntered (subcommand_rows_of m) request)
 unasked_by m name rows (Some request) named has h = tt
 unasked_by m name rows None named has h = λ request e.

@@ -6,19 +6,47 @@ use Rattle.std.specs.Box.{box_value}
 use Rattle.std.specs.Borrow.{Bor}
 use Rattle.std.specs.Str.Parse.{ParsesUnsigned}
 use Rattle.clap.specs.Matches.{ReadsOne}
+use Rattle.clap.specs.Words.{AddsArg, App, Rule, with_rule}
 use Rattle.clap.specs.Words.{Row, Text, first_of, first_value, one_of, one_text, rows_of}
 use Rattle.clap.specs.Words.{subcommand_name_of, subcommand_rows, subcommand_rows_of}
+use Rattle.clap.specs.declared.builder.arg.Arg.{Arg}
+use Rattle.clap.specs.declared.builder.command.Command.{Command}
 use Rattle.clap.specs.declared.parser.matches.ArgMatches.{ArgMatches}
 use Rattle.clap.specs.declared.parser.matches.ArgMatches.TheViews.{out-ArgMatches, out-SubCommand}
 use Rattle.clap.specs.declared.parser.matches.Found.{Found}
 use Rattle.clap.specs.declared.parser.matches.SubCommand.{SubCommand}
 use Rattle.clap.proofs.WalkLemmas.{first_value-rows, one_text-rows}
-use Rattle.command_words.specs.Requests.{IsAskedBy, IsEntered, Reads, Tells}
+use Rattle.command_words.specs.Options.{IsArg, IsCommand, IsGrownBy}
+use Rattle.command_words.specs.Requests.{IsEntered, IsFoundBy, Reads, Tells}
 use Rattle.command_words.specs.declared.request.Request.{Request}
 
 -- neither of two
 pub neither : (a b : Bool) → a ≡ false → b ≡ false → (a || b) ≡ false
 neither a b no_a no_b = rw (no_a, no_b) refl
+
+-- a command with one more argument
+pub one_more : (app : App) (rule : Rule) (old new : Command) (a : Arg)
+    → IsCommand app old → IsArg rule a → AddsArg old a new → IsCommand (with_rule app rule) new
+one_more app rule old new a is arg adds = record {
+  shape = adds.shape arg.alone ∙ ap₂ with_rule is.shape arg.told;
+  local = adds.globals ∙ neither _ _ is.local arg.alone;
+}
+
+-- and one more behind those that were added
+pub grown_more : (grown : App → App) (rule : Rule) (first old new : Command) (a : Arg) → IsGrownBy grown first old
+    → IsArg rule a → AddsArg old a new → IsGrownBy (λ app. with_rule (grown app) rule) first new
+grown_more grown rule first old new a is arg adds = record {
+  shape = adds.shape arg.alone ∙ ap₂ with_rule is.shape arg.told;
+  local = λ none. adds.globals ∙ neither _ _ (is.local none) arg.alone;
+}
+
+-- a command that has grown
+pub grown_command : (app : App) (grown : App → App) (before after : Command)
+    → IsCommand app before → IsGrownBy grown before after → IsCommand (grown app) after
+grown_command app grown before after is by = record {
+  shape = by.shape ∙ ap grown is.shape;
+  local = by.local is.local;
+}
 
 -- what a parse of the text gives
 reads : {E : Type 0} (gives : List ℕ → Result ℕ E → Type 0) (bits : ℕ)
@@ -85,7 +113,7 @@ some_of (Some x) none A B weaker h = weaker x h
 -- what was entered under this name asks for this
 pub entered_by : (m : ArgMatches) (name : Text) (rows : List Row) (asked : Option Request)
     → subcommand_name_of m ≡ Some name → option_map (λ p. p.1) (subcommand_rows_of m) ≡ Some rows
-    → IfSome asked (IsAskedBy name rows) → IfSome asked (IsEntered (subcommand_rows_of m))
+    → IsFoundBy name rows asked → IfSome asked (IsEntered (subcommand_rows_of m))
 entered_by m name rows None named has h = tt
 entered_by m name rows (Some request) named has h =
     record { name = name; rows = rows; is = entered_as m name rows named has; asked = h }

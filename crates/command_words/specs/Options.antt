@@ -1,6 +1,7 @@
 -- The command line: the commands, their arguments, and options with values in their ranges. This is this project's own.
 use Rattle.std.specs.Prelude.{◌≡◌, true, false, Some, codes, pos}
-use Rattle.clap.specs.Words.{App, Rule, Text, app_of, new_app, new_rule, with_rule, with_subcommand}
+use Rattle.clap.specs.Words.{App, Rule, Text, app_of, new_app, new_rule, rule_of, with_rule, with_subcommand}
+use Rattle.clap.specs.declared.builder.arg.Arg.{Arg}
 use Rattle.clap.specs.declared.builder.command.Command.{Command}
 use Rattle.clap.specs.declared.builder.command.Command.TheViews.{out-Command as fields_of}
 use Rattle.clap.specs.declared.builder.action.ArgAction.TheVariants.{Set, SetTrue}
@@ -30,10 +31,13 @@ workers = record (valued (codes "workers")) { parser = Some (Signed (pos 1) (pos
 abbrev pub turns : Rule
 turns = record (valued (codes "turns")) { parser = Some (Unsigned 1 1000000000) }
 
--- a command on a structure file, with the rule of spawning and a table
+-- with the rule of spawning, and a table
+abbrev pub ruled : App → App
+ruled app = with_rule (with_rule (with_rule app headroom) (valued (codes "rule"))) (valued (codes "table"))
+
+-- a command on a structure file, with these options
 abbrev pub on_file : Text → App
-on_file name = with_rule (with_rule (with_rule (with_rule (new_app name) (placed (codes "FILE"))) headroom)
-    (valued (codes "rule"))) (valued (codes "table"))
+on_file name = ruled (with_rule (new_app name) (placed (codes "FILE")))
 
 -- the command `dark`
 abbrev pub dark : App
@@ -46,8 +50,7 @@ plan = with_rule (with_rule (with_rule (with_rule (on_file (codes "plan")) (valu
 
 -- the command `check`, on a structure file and a proof
 abbrev pub check : App
-check = with_rule (with_rule (with_rule (with_rule (with_rule (new_app (codes "check")) (placed (codes "FILE")))
-    (placed (codes "PROOF"))) headroom) (valued (codes "rule"))) (valued (codes "table"))
+check = ruled (with_rule (with_rule (new_app (codes "check")) (placed (codes "FILE"))) (placed (codes "PROOF")))
 
 -- the program without its commands; it has a version, and one of the commands is asked for
 abbrev pub bare : App
@@ -67,3 +70,13 @@ torchplan = with_subcommand (with_subcommand (with_subcommand bare dark.top) pla
 pub record IsCommand (app : App) (command : Command) : Type 0 where
   pub shape : app_of command ≡ app
   pub local : (fields_of command).has_globals ≡ false
+
+-- the argument goes by that rule, and isn't global
+pub record IsArg (rule : Rule) (arg : Arg) : Type 0 where
+  pub told : rule_of arg ≡ rule
+  pub alone : arg.global ≡ false
+
+-- the command is that with more arguments, none of which is global
+pub record IsGrownBy (grown : App → App) (before after : Command) : Type 0 where
+  pub shape : app_of after ≡ grown (app_of before)
+  pub local : (fields_of before).has_globals ≡ false → (fields_of after).has_globals ≡ false

@@ -67,6 +67,11 @@ IsAskedBy name rows (Check file proof table rule) = (name ≡ codes "check")
 abbrev pub NoneIsAskedBy : Text → List Row → Type 0
 NoneIsAskedBy name rows = (request : Request) → ¬ IsAskedBy name rows request
 
+-- what they ask for, or that this is nothing
+abbrev pub IsFoundBy : Text → List Row → Option Request → Type 0
+IsFoundBy name rows (Some request) = IsAskedBy name rows request
+IsFoundBy name rows None = NoneIsAskedBy name rows
+
 -- what the command with these matches asks for
 pub record IsEntered (entered : Option (Text × List Row)) (request : Request) : Type 0 where
   pub name : Text

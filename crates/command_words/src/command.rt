@@ -1,8 +1,7 @@
 //! The command line: its commands and their options.
-ghost use Rattle.std.specs.Prelude.{◌≡◌, false, IfOk, codes};
-ghost use Rattle.clap.specs.Words as words;
-ghost use Rattle.command_words.specs.Options.{IsCommand};
+ghost use Rattle.std.specs.Prelude.{IfOk, codes};
 ghost use Rattle.command_words.specs.Options as options;
+ghost use Rattle.command_words.specs.Options.{IsArg, IsCommand, IsGrownBy};
 
 use clap::{Arg, ArgAction, Command};
 use std::alloc::{AllocError, Global};
@@ -11,8 +10,7 @@ use std::alloc::{AllocError, Global};
 const VERSION: &str = "0.5.0 (proved with rattle-kit-13f)";
 
 fn file<'a>(alloc: Global) -> Arg<'a>
-    ensures rule { words.rule_of result ≡ options.placed (codes "FILE") }
-    ensures local { result.global ≡ false }
+    ensures { IsArg (options.placed (codes "FILE")) result }
 {
     Arg::new(alloc, "FILE")
         .required(true)
@@ -20,80 +18,8 @@ fn file<'a>(alloc: Global) -> Arg<'a>
         .help("The structure file, unpacked (NBT), or - for standard input")
 }
 
-fn headroom<'a>(alloc: Global) -> Arg<'a>
-    ensures rule { words.rule_of result ≡ options.headroom }
-    ensures local { result.global ≡ false }
-{
-    Arg::new(alloc, "headroom")
-        .long("headroom")
-        .value_name("1|2")
-        .action(ArgAction::Set)
-        .value_parser(clap::value_parser!(u8).range(1..=2))
-        .help("How many free cells above its ground a mob needs [default: 2]")
-}
-
-fn rule<'a>(alloc: Global) -> Arg<'a>
-    ensures rule { words.rule_of result ≡ options.valued (codes "rule") }
-    ensures local { result.global ≡ false }
-{
-    Arg::new(alloc, "rule")
-        .long("rule")
-        .value_name("1.18|1.17")
-        .action(ArgAction::Set)
-        .help(
-            "Which version's rule: mobs spawn at light 0 from 1.18 on, before up to 7 [default: 1.18]",
-        )
-}
-
-fn table<'a>(alloc: Global) -> Arg<'a>
-    ensures rule { words.rule_of result ≡ options.valued (codes "table") }
-    ensures local { result.global ≡ false }
-{
-    Arg::new(alloc, "table")
-        .long("table")
-        .value_name("T")
-        .action(ArgAction::Set)
-        .help("A table of blocks (TOML) whose rows go before the shipped ones")
-}
-
-fn proof<'a>(alloc: Global) -> Arg<'a>
-    ensures rule { words.rule_of result ≡ options.valued (codes "proof") }
-    ensures local { result.global ≡ false }
-{
-    Arg::new(alloc, "proof")
-        .long("proof")
-        .value_name("OUT")
-        .action(ArgAction::Set)
-        .help("Where to write the proof that fewer torches don't do")
-}
-
-fn workers<'a>(alloc: Global) -> Arg<'a>
-    ensures rule { words.rule_of result ≡ options.workers }
-    ensures local { result.global ≡ false }
-{
-    Arg::new(alloc, "workers")
-        .long("workers")
-        .value_name("N")
-        .action(ArgAction::Set)
-        .value_parser(clap::value_parser!(u8).range(1..=64))
-        .help("How many threads search [default: 1]")
-}
-
-fn turns<'a>(alloc: Global) -> Arg<'a>
-    ensures rule { words.rule_of result ≡ options.turns }
-    ensures local { result.global ≡ false }
-{
-    Arg::new(alloc, "turns")
-        .long("turns")
-        .value_name("N")
-        .action(ArgAction::Set)
-        .value_parser(clap::value_parser!(u64).range(1..=1_000_000_000))
-        .help("How many nodes the search of a region may work on [default: no limit]")
-}
-
 fn progress<'a>(alloc: Global) -> Arg<'a>
-    ensures rule { words.rule_of result ≡ options.flag (codes "progress") }
-    ensures local { result.global ≡ false }
+    ensures { IsArg (options.flag (codes "progress")) result }
 {
     Arg::new(alloc, "progress")
         .long("progress")
@@ -103,35 +29,78 @@ fn progress<'a>(alloc: Global) -> Arg<'a>
         )
 }
 
+/// An option with a value, and what help calls that.
+fn valued<'a>(alloc: Global, name: &'a str, value: &'a str) -> Arg<'a>
+    ensures { IsArg (options.valued name.now) result }
+{
+    Arg::new(alloc, name)
+        .long(name)
+        .value_name(value)
+        .action(ArgAction::Set)
+}
+
+/// Adds the options of the rule that mobs spawn by, and that of a table.
+fn ruled<'a>(alloc: Global, command: Command<'a>) -> Result<Command<'a>, AllocError>
+    ensures { IfOk result (IsGrownBy options.ruled command.entry) }
+{
+    let headroom = valued(alloc, "headroom", "1|2")
+        .value_parser(clap::value_parser!(u8).range(1..=2))
+        .help("How many free cells above its ground a mob needs [default: 2]");
+    let rule = valued(alloc, "rule", "1.18|1.17").help(
+        "Which version's rule: mobs spawn at light 0 from 1.18 on, before up to 7 [default: 1.18]",
+    );
+    let table = valued(alloc, "table", "T").help(
+        "A table of blocks (TOML) whose rows go before the shipped ones",
+    );
+    command.arg(headroom)?.arg(rule)?.arg(table)
+}
+
 fn dark_command<'a>(alloc: Global) -> Result<Command<'a>, AllocError>
     ensures { IfOk result (IsCommand options.dark) }
 {
-    Command::new(alloc, "dark")
+    let command = Command::new(alloc, "dark")
         .about(
             "Print the cells in which a hostile mob could spawn: their number, then x y z of each",
         )
         .after_help(
             "Example: torchplan dark cave.nbt\nIt prints `dark 3`, and three lines `x y z`.",
         )
-        .arg(file(alloc))?
-        .arg(headroom(alloc))?
-        .arg(rule(alloc))?
-        .arg(table(alloc))?
-        .arg(progress(alloc))
+        .arg(file(alloc))?;
+    ruled(alloc, command)?.arg(progress(alloc))
+}
+
+fn proof<'a>(alloc: Global) -> Arg<'a>
+    ensures { IsArg (options.valued (codes "proof")) result }
+{
+    valued(alloc, "proof", "OUT").help("Where to write the proof that fewer torches don't do")
+}
+
+fn workers<'a>(alloc: Global) -> Arg<'a>
+    ensures { IsArg options.workers result }
+{
+    valued(alloc, "workers", "N")
+        .value_parser(clap::value_parser!(u8).range(1..=64))
+        .help("How many threads search [default: 1]")
+}
+
+fn turns<'a>(alloc: Global) -> Arg<'a>
+    ensures { IsArg options.turns result }
+{
+    valued(alloc, "turns", "N")
+        .value_parser(clap::value_parser!(u64).range(1..=1_000_000_000))
+        .help("How many nodes the search of a region may work on [default: no limit]")
 }
 
 fn plan_command<'a>(alloc: Global) -> Result<Command<'a>, AllocError>
     ensures { IfOk result (IsCommand options.plan) }
 {
-    Command::new(alloc, "plan")
+    let command = Command::new(alloc, "plan")
         .about("Print the fewest torches that leave no such cell dark, layer by layer")
         .after_help(
             "Example: torchplan plan cave.nbt --proof cave.proof\nIt prints `torches 2`, `dark 88`, torches, layers.",
         )
-        .arg(file(alloc))?
-        .arg(headroom(alloc))?
-        .arg(rule(alloc))?
-        .arg(table(alloc))?
+        .arg(file(alloc))?;
+    ruled(alloc, command)?
         .arg(proof(alloc))?
         .arg(workers(alloc))?
         .arg(turns(alloc))?
@@ -145,16 +114,14 @@ fn check_command<'a>(alloc: Global) -> Result<Command<'a>, AllocError>
         .required(true)
         .action(ArgAction::Set)
         .help("The proof that `plan --proof` wrote");
-    Command::new(alloc, "check")
+    let command = Command::new(alloc, "check")
         .about("Say whether a proof shows that its torches are the fewest for the structure")
         .after_help(
             "Example: torchplan check cave.nbt cave.proof\nIt prints `accepted 2`, or `rejected: ` and why.",
         )
         .arg(file(alloc))?
-        .arg(certificate)?
-        .arg(headroom(alloc))?
-        .arg(rule(alloc))?
-        .arg(table(alloc))
+        .arg(certificate)?;
+    ruled(alloc, command)
 }
 
 /// The program's command.

@@ -3,9 +3,9 @@ ghost use Rattle.std.specs.Prelude.{◌≡◌, ◌⊎◌, IfErr, IfNone, IfOk, I
 ghost use Rattle.cave_model.specs.Rule as rules;
 ghost use Rattle.cave_model.specs.RuleOf.{rule_of};
 ghost use Rattle.clap.specs.Words.{found_of, kind_of, rows_of, subcommand_rows_of};
-ghost use Rattle.command_words.specs.Requests.{IsAsked, IsAskedBy, IsCrewOf, IsEntered, IsRuleOf, NoneIsAskedBy};
-ghost use Rattle.command_words.specs.Requests as requests;
 ghost use Rattle.command_words.specs.Mistakes.{AreExplainedBy, AreWellFormed};
+ghost use Rattle.command_words.specs.Requests as requests;
+ghost use Rattle.command_words.specs.Requests.{IsAsked, IsCrewOf, IsEntered, IsFoundBy, IsRuleOf};
 
 use crate::command::command;
 use crate::version::need_for;
@@ -67,8 +67,7 @@ fn rule_of(matches: &ArgMatches) -> Option<Rule>
 }
 
 fn dark_of<'a>(matches: &ArgMatches<'a>) -> Option<Request<'a>>
-    ensures some { IfSome result (IsAskedBy (codes "dark") (rows_of (found_of matches.now))) }
-    ensures none { IfNone result (NoneIsAskedBy (codes "dark") (rows_of (found_of matches.now))) }
+    ensures { IsFoundBy (codes "dark") (rows_of (found_of matches.now)) result }
 {
     Some(Request::Dark {
         file: matches.get_str("FILE")?,
@@ -88,8 +87,7 @@ fn workers_of(matches: &ArgMatches) -> Option<Workers>
 }
 
 fn plan_of<'a>(matches: &ArgMatches<'a>) -> Option<Request<'a>>
-    ensures some { IfSome result (IsAskedBy (codes "plan") (rows_of (found_of matches.now))) }
-    ensures none { IfNone result (NoneIsAskedBy (codes "plan") (rows_of (found_of matches.now))) }
+    ensures { IsFoundBy (codes "plan") (rows_of (found_of matches.now)) result }
 {
     Some(Request::Plan {
         file: matches.get_str("FILE")?,
@@ -105,8 +103,7 @@ fn plan_of<'a>(matches: &ArgMatches<'a>) -> Option<Request<'a>>
 }
 
 fn check_of<'a>(matches: &ArgMatches<'a>) -> Option<Request<'a>>
-    ensures some { IfSome result (IsAskedBy (codes "check") (rows_of (found_of matches.now))) }
-    ensures none { IfNone result (NoneIsAskedBy (codes "check") (rows_of (found_of matches.now))) }
+    ensures { IsFoundBy (codes "check") (rows_of (found_of matches.now)) result }
 {
     Some(Request::Check {
         file: matches.get_str("FILE")?,

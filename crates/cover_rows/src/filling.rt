@@ -1,8 +1,8 @@
 ghost use Rattle.std.specs.Prelude.{◌≡◌, ◌<◌, ◌^◌, length, IfOk, OnOk};
 ghost use Rattle.cave_base.specs.Box.{cell_count};
 ghost use Rattle.cave_model.specs.Torches.{ArePlaces};
-ghost use Rattle.set_cover.specs.Instance.{words_for};
 ghost use Rattle.cover_rows.specs.Filling.{AreEmpty, IsFilling, IsListed};
+ghost use Rattle.set_cover.specs.Instance.{words_for};
 
 use crate::block_flood::BlockFlood;
 use crate::blocks::{Column, block_of, store};

@@ -1,5 +1,5 @@
-ghost use Rattle.std.specs.Prelude.{◌<◌, All, IfOk};
 ghost use Rattle.std.specs.List.Sorted.{IsStrictlyIncreasing};
+ghost use Rattle.std.specs.Prelude.{◌<◌, All, IfOk};
 ghost use Rattle.cover_rows.specs.Filling.{AreIndices};
 
 use cave_base::Cell;

@@ -1,8 +1,8 @@
 ghost use Rattle.std.specs.Prelude.{◌≡◌, ◌≢◌, ◌<◌, ◌↔◌, Contains, IfOk, IfErr, IsTrue};
-ghost use Rattle.set_cover.specs.Instance.{IsInstance, IsRowAt, LightsIn};
 ghost use Rattle.cave_base.specs.Answer.{IsRefusal};
 ghost use Rattle.cover_rows.specs.Coverage.{IsProblemOf, IsUnlightableFault};
 ghost use Rattle.cover_rows.specs.declared.fault.CoverFault.{CoverFault};
+ghost use Rattle.set_cover.specs.Instance.{IsInstance, IsRowAt, LightsIn};
 
 use crate::fault::CoverFault;
 use crate::filling::{CoverRows, rows_of};

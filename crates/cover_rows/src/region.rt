@@ -1,8 +1,8 @@
 //! The region of a block: the cells that light from its cells can come to. They have numbers in the order in which they
 //! were found, so that what a flood reads and writes lies close together.
 ghost use Rattle.std.specs.Prelude.{◌≡◌, ◌<◌, ◌≤◌, ◌*◌, ◌+◌, [], length, All, IfOk, OnOk};
-ghost use Rattle.cover_rows.specs.Region.{AreLinked, AreOnce, BeginsWith, IsNumberOf, IsRegion};
 ghost use Rattle.cover_rows.specs.Region.{AreInside};
+ghost use Rattle.cover_rows.specs.Region.{AreLinked, AreOnce, BeginsWith, IsNumberOf, IsRegion};
 
 use cave_base::Cell;
 use std::alloc::AllocError;

@@ -1,8 +1,8 @@
 //! The tree of a core in which no piece waits or is held.
 ghost use Rattle.std.specs.Prelude.{◌≡◌, IsTrue};
-ghost use Rattle.proof_tree.specs.Shape.{tree_of};
-ghost use Rattle.event_core.specs.NodeShape.{shape_of, shapes_of};
 ghost use Rattle.event_core.specs.Finished.{assembled, is_done, are_done, IsWhole};
+ghost use Rattle.event_core.specs.NodeShape.{shape_of, shapes_of};
+ghost use Rattle.proof_tree.specs.Shape.{tree_of};
 
 use crate::node::Node;
 use proof_tree::{Kids, Proof};

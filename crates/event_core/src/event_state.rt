@@ -1,15 +1,15 @@
 //! The core.
-ghost use Rattle.std.specs.Prelude.{◌≡◌, ◌<◌, ◌↔◌, [], length, set, slice_index, IsTrue, IfOk, IfErr, is_ok};
 ghost use Rattle.std.specs.Arc.{arc_value};
+ghost use Rattle.std.specs.Prelude.{◌≡◌, ◌<◌, ◌↔◌, [], length, set, slice_index, IsTrue, IfOk, IfErr, is_ok};
 ghost use Rattle.cave_regions.specs.Cover.{IsCover};
-ghost use Rattle.proof_tree.specs.Shape.{tree_of};
-ghost use Rattle.event_core.specs.State.{Begins, IsDone};
 ghost use Rattle.event_core.specs.Events.{smaller};
-ghost use Rattle.event_core.specs.NodeShape.{shape_of};
 ghost use Rattle.event_core.specs.Finished.{IsWhole};
-ghost use Rattle.event_core.specs.Sound.{IsSoundState};
 ghost use Rattle.event_core.specs.Kept.{IsKept, IsAssembly, put_kept, state_of};
+ghost use Rattle.event_core.specs.NodeShape.{shape_of};
+ghost use Rattle.event_core.specs.Sound.{IsSoundState};
+ghost use Rattle.event_core.specs.State.{Begins, IsDone};
 ghost use Rattle.event_core.specs.Tracing.{IsTraced};
+ghost use Rattle.proof_tree.specs.Shape.{tree_of};
 
 use crate::assembling::{assemble, is_done};
 use crate::node::Node;
@@ -105,13 +105,7 @@ impl Core {
         if !is_done(&self.root) {
             return Err(self);
         }
-        let Core {
-            alloc: _,
-            region: _,
-            best,
-            seen: _,
-            root,
-        } = self;
+        let Core { best, root, .. } = self;
         Ok((best, assemble(root)))
     }
 

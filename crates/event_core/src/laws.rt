@@ -1,15 +1,15 @@
 //! Laws over the definitions alone: whatever events there were, and of however many workers.
 ghost use Rattle.std.specs.Prelude.{ℕ, ◌<◌, ◌≤◌, Bool, List, [], length};
-ghost use Rattle.set_cover.specs.Instance.{Instance, of_instance};
-ghost use Rattle.proof_rules.specs.Tree.{Tree};
-ghost use Rattle.proof_rules.specs.Good.{Good};
-ghost use Rattle.event_core.specs.State.{State, HasPart, IsDone, opened};
-ghost use Rattle.event_core.specs.Plays.{Steps};
 ghost use Rattle.event_core.specs.Assembled.{IsAssembled};
-ghost use Rattle.event_core.specs.Sound.{HasKids, IsLeftOver};
-ghost use Rattle.event_core.specs.Laws.{IsAnyCover, IsReached};
 ghost use Rattle.event_core.specs.Kept.{Kept, StepsTo, state_of};
+ghost use Rattle.event_core.specs.Laws.{IsAnyCover, IsReached};
+ghost use Rattle.event_core.specs.Plays.{Steps};
+ghost use Rattle.event_core.specs.Sound.{HasKids, IsLeftOver};
+ghost use Rattle.event_core.specs.State.{State, HasPart, IsDone, opened};
 ghost use Rattle.event_core.specs.declared.event.Event.{Event};
+ghost use Rattle.proof_rules.specs.Good.{Good};
+ghost use Rattle.proof_rules.specs.Tree.{Tree};
+ghost use Rattle.set_cover.specs.Instance.{Instance, of_instance};
 
 /// Each cover smaller than the best is a cover of a piece that waits or is held.
 pub fn smaller_covers_are_left()

@@ -2,7 +2,8 @@
 ghost use Rattle.std.specs.Prelude.{◌≡◌};
 ghost use Rattle.event_core.specs.NodeShape.{shapes_of};
 
-use proof_tree::{Cells, Proof};
+use cave_base::Sequence;
+use proof_tree::Proof;
 use std::marker::Model;
 
 /// The kids of an opened piece, in the order of their places.
@@ -24,7 +25,7 @@ pub(crate) enum Node {
     },
     Opened {
         cell: u32,
-        places: Cells,
+        places: Sequence<u32>,
         kids: Siblings,
         room: Vec<Proof>,
     },

@@ -1,12 +1,12 @@
 //! Opening a piece.
 ghost use Rattle.std.specs.Prelude.{◌≡◌, IfOk, length};
-ghost use Rattle.event_core.specs.Opening.{IsOpening};
 ghost use Rattle.event_core.specs.Finished.{all_at_rest};
+ghost use Rattle.event_core.specs.Opening.{IsOpening};
 
 use crate::node::{Node, Siblings};
-use cave_base::Cell;
+use cave_base::{Cell, Sequence};
 use cave_regions::Region;
-use proof_tree::{Cells, Proof, kid_places};
+use proof_tree::{Proof, kid_places};
 use std::alloc::{AllocError, Global};
 
 /// The piece opened on the cell: a waiting kid for each place that lights it and isn't barred, and room for their
@@ -24,7 +24,7 @@ pub(crate) fn opened(
     let room = room_for(alloc, places.len())?;
     Ok(Node::Opened {
         cell,
-        places: Cells::of(places),
+        places: Sequence::from_vec(places),
         kids,
         room,
     })
@@ -47,7 +47,7 @@ fn room_for(alloc: Global, count: usize) -> Result<Vec<Proof>, AllocError>
 {
     let mut room = Vec::with_capacity(alloc, count)?;
     for index in 0..count {
-        room.push(Proof::Leaf(Cells::of(Vec::new(alloc))))?;
+        room.push(Proof::Leaf(Sequence::from_vec(Vec::new(alloc))))?;
     }
     Ok(room)
 }

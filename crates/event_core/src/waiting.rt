@@ -36,11 +36,7 @@ impl Core {
         }
         let region = Arc::try_clone(self.shared())?;
         let name = name.try_clone()?;
-        let Traced {
-            chosen,
-            barred,
-            standing: _,
-        } = traced;
+        let Traced { chosen, barred, .. } = traced;
         Ok(Some(Piece::new(region, name, chosen, barred)))
     }
 }

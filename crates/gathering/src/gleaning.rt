@@ -1,12 +1,12 @@
 //! Closing what is left.
 ghost use Rattle.std.specs.Prelude.{◌≡◌, ◌≤◌, length, IsTrue, IfErr, IfOk};
-ghost use Rattle.event_core.specs.State.{IsDone};
 ghost use Rattle.event_core.specs.Events.{IsWorker};
 ghost use Rattle.event_core.specs.Kept.{state_of};
-ghost use Rattle.search_core.specs.declared.halt.Halt.TheVariants.{TurnsSpent};
-ghost use Rattle.search_traits.specs.Turns.{AreSpent, Works};
+ghost use Rattle.event_core.specs.State.{IsDone};
 ghost use Rattle.gathering.specs.Gathered.{EachTook, Gleans};
 ghost use Rattle.gathering.specs.Gleaning.{Finishes, GleansWhere, MayFinish, NoneHeld};
+ghost use Rattle.search_core.specs.declared.halt.Halt.TheVariants.{TurnsSpent};
+ghost use Rattle.search_traits.specs.Turns.{AreSpent, Works};
 
 use cave_regions::Cover;
 use event_core::{Core, Event};

@@ -1,11 +1,11 @@
 //! Laws over the definitions alone.
 ghost use Rattle.std.specs.Prelude.{ℕ, List};
-ghost use Rattle.set_cover.specs.Instance.{Instance};
+ghost use Rattle.gathering.specs.Counted.{AreCounted};
+ghost use Rattle.gathering.specs.Gathered.{Gathering, IsGathered};
 ghost use Rattle.proof_tree.specs.Piece.{Subproblem};
 ghost use Rattle.schedule_law.specs.Joined.{AreJoined};
 ghost use Rattle.schedule_law.specs.Worked.{Worked};
-ghost use Rattle.gathering.specs.Counted.{AreCounted};
-ghost use Rattle.gathering.specs.Gathered.{Gathering, IsGathered};
+ghost use Rattle.set_cover.specs.Instance.{Instance};
 
 /// Where the works are those of joined results, each piece that a worker closed counts as its own, and the caller's
 /// thread closed as many pieces as were handed back or left.

@@ -1,10 +1,10 @@
 //! Gathering the results of workers.
-ghost use Rattle.std.specs.Prelude.{◌≡◌, ◌<◌, ◌+◌, ◌^◌, length, Contains, IfErr, IfOk, IfSome};
 ghost use Rattle.std.specs.Arc.{arc_value};
+ghost use Rattle.std.specs.Prelude.{◌≡◌, ◌<◌, ◌+◌, ◌^◌, length, Contains, IfErr, IfOk, IfSome};
+ghost use Rattle.gathering.specs.Gathered.{EachTook, IsGathered, StopsGathering};
 ghost use Rattle.proof_tree.specs.Shape.{tree_of};
 ghost use Rattle.search_traits.specs.Planned.{IsBest};
 ghost use Rattle.search_traits.specs.Turns.{AreSpent, IsWithin};
-ghost use Rattle.gathering.specs.Gathered.{EachTook, IsGathered, StopsGathering};
 
 use crate::fault::PoolFault;
 use crate::gleaning::glean;

@@ -2,8 +2,8 @@
 ghost use Rattle.std.specs.Prelude.{◌<◌, ◌^◌, length, IfOk};
 ghost use Rattle.event_core.specs.Kept.{state_of};
 ghost use Rattle.event_core.specs.Plays.{Plays};
-ghost use Rattle.schedule_law.specs.Listing.{looks, offer_of, offers};
 ghost use Rattle.gathering.specs.Playing.{tries, tries_as_long, tries_before_closes, tries_one, tries_open};
+ghost use Rattle.schedule_law.specs.Listing.{looks, offer_of, offers};
 
 use cave_base::Cell;
 use cave_regions::Cover;

@@ -21,13 +21,7 @@ pub(crate) fn close_all(
     let mut counts = Vec::with_capacity(alloc, works.len())?;
     let mut worker = 0u32;
     for work in works {
-        let Work {
-            cover: _,
-            closed,
-            opened: _,
-            held: _,
-            refused: _,
-        } = work;
+        let Work { closed, .. } = work;
         counts.push(close_each(core, worker, closed)?)?;
         worker += 1;
     }

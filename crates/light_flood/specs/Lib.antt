@@ -3,4 +3,3 @@ pub mod Levels
 pub mod Reached
 -- private
 pub mod Spreading
-pub mod Dense

@@ -1,10 +1,8 @@
 ghost use Rattle.std.specs.Prelude.{◌<◌, length, slice_index, IfOk, OnOk};
 ghost use Rattle.cave_base.specs.Box.{cell_count};
-ghost use Rattle.light_flood.specs.Dense.{HasNoLight};
-ghost use Rattle.light_flood.specs.Levels.{AreLevelsOf};
+ghost use Rattle.light_flood.specs.Levels.{AreLevelsOf, HasNoLight};
 ghost use Rattle.light_flood.specs.Spreading.{AreEmissions, IsFloodIn, NoneWaits};
 
-use crate::dense::Dense;
 use crate::levels::Levels;
 use crate::spreading::Flood;
 use crate::waiting::Waiting;
@@ -12,7 +10,7 @@ use cave_model::{OutOfMemory, World};
 use std::alloc::Global;
 
 /// Gives each cell its emission.
-fn seed_all(world: &World, flood: &mut Flood<Dense>) -> Result<(), OutOfMemory>
+fn seed_all(world: &World, flood: &mut Flood<Levels>) -> Result<(), OutOfMemory>
     requires unlit { HasNoLight (cell_count world.now.size) flood.old.store }
     requires none_waits { NoneWaits flood.old.waiting }
     ensures emissions { OnOk result (AreEmissions world.now flood.new.store) }
@@ -29,10 +27,10 @@ fn seed_all(world: &World, flood: &mut Flood<Dense>) -> Result<(), OutOfMemory>
 pub fn light(alloc: Global, world: &World) -> Result<Levels, OutOfMemory>
     ensures { IfOk result (AreLevelsOf world.now) }
 {
-    let store = Dense::new(alloc, world.cell_count())?;
+    let store = Levels::new(alloc, world.cell_count())?;
     let waiting = Waiting::new(alloc)?;
     let mut flood = Flood { store, waiting };
     seed_all(world, &mut flood)?;
     flood.spread(world)?;
-    Ok(Levels::from_vec(flood.store.into_levels()))
+    Ok(flood.store)
 }

@@ -1,6 +1,9 @@
-ghost use Rattle.std.specs.Prelude.{◌≡◌, slice_index};
+ghost use Rattle.std.specs.Prelude.{◌≡◌, ◌<◌, length, slice_index, IfOk};
+ghost use Rattle.light_flood.specs.Levels.{HasNoLight};
 
+use crate::store::Store;
 use cave_base::Cell;
+use std::alloc::{AllocError, Global};
 use std::marker::Model;
 
 /// The level of block light of each cell of a box: 0 to 15 (Minecraft Wiki, "Light").
@@ -18,10 +21,12 @@ impl Model for Levels {
 }
 
 impl Levels {
-    pub(crate) fn from_vec(levels: Vec<u8>) -> Levels
-        ensures { result ≡ levels.items }
+    /// So many cells without light.
+    pub(crate) fn new(alloc: Global, count: u32) -> Result<Levels, AllocError>
+        ensures { IfOk result (HasNoLight count) }
     {
-        Levels { levels }
+        let levels = vec![in alloc; 0; count as usize]?;
+        Ok(Levels { levels })
     }
 
     /// The level of a cell, and 0 for a number beyond the box.
@@ -32,5 +37,20 @@ impl Levels {
             Some(level) => *level,
             None => 0,
         }
+    }
+}
+
+impl Store for Levels {
+    ghost levels = { λ l cell. slice_index l cell };
+
+    ghost cells = { λ l. length l };
+
+    fn level(&self, cell: Cell) -> u8 {
+        self.levels[cell as usize]
+    }
+
+    fn raise(&mut self, cell: Cell, level: u8) -> Result<(), AllocError> {
+        self.levels[cell as usize] = level;
+        Ok(())
     }
 }

@@ -5,7 +5,6 @@
 #![tactic(auto)]
 
 mod darkness;
-mod dense;
 mod flood;
 mod levels;
 mod reached;

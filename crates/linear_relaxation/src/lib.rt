@@ -8,6 +8,7 @@ mod fixed_point;
 mod relaxation;
 mod rounding;
 mod runs;
+mod side;
 mod whole_weights;
 
 pub use fixed_point::{BITS, ONE, add_at, at, most_at, ones};

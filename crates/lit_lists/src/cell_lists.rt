@@ -61,8 +61,8 @@ impl CellLists {
         filling.fill(&self.starts, &self.numbers, count);
         let Filling {
             starts,
-            next: _,
             numbers,
+            ..
         } = filling;
         Ok(CellLists::new(starts, numbers))
     }

@@ -2,9 +2,9 @@ ghost use Rattle.std.specs.Prelude.{◌≡◌, ◌<◌, ◌≤◌, [], length, A
 ghost use Rattle.cave_base.specs.Box.{cell_count};
 ghost use Rattle.cave_model.specs.Cave.{IsSound};
 ghost use Rattle.cave_model.specs.Passages.{ArePassages};
-ghost use Rattle.lit_lists.specs.Seeded.{AreTaken, AreUnlit, ArePutOut};
-ghost use Rattle.lit_lists.specs.Reached.{AreReached, IsLightBack};
 ghost use Rattle.lit_lists.specs.Lists.{AreLitCells};
+ghost use Rattle.lit_lists.specs.Reached.{AreReached, IsLightBack};
+ghost use Rattle.lit_lists.specs.Seeded.{AreTaken, AreUnlit, ArePutOut};
 
 use crate::relaxing::relax;
 use cave_base::Cell;

@@ -3,8 +3,8 @@ ghost use Rattle.cave_base.specs.Box.{cell_count};
 ghost use Rattle.cave_model.specs.Passages.{ArePassages};
 ghost use Rattle.cave_model.specs.Spawn.{IsDark};
 ghost use Rattle.cave_model.specs.Torches.{IsPlace};
-ghost use Rattle.lit_lists.specs.Seeded.{AreUnlit};
 ghost use Rattle.lit_lists.specs.Lists.{AreLights, AreMarksOf, ArePairsOf, ArePlacesOf, is_marked, row_at};
+ghost use Rattle.lit_lists.specs.Seeded.{AreUnlit};
 
 use crate::cell_lists::CellLists;
 use crate::lighting::{light_back, reach};
@@ -97,25 +97,6 @@ fn find_places(
     Ok(CellLists::new(starts, found))
 }
 
-/// For each place of the world the dark cells that it lights, ascending.
-fn lights_of(
-    alloc: Global,
-    world: &World,
-    passages: &Passages,
-    dark: &[bool],
-    places: &[bool],
-) -> Result<CellLists, AllocError>
-    requires passages { ArePassages world.now passages.now }
-    requires dark { AreMarksOf (cell_count world.now.size) (IsDark world.now) dark.now }
-    requires places { AreMarksOf (cell_count world.now.size) (IsPlace world.now) places.now }
-    ensures { IfOk result (AreLights world.now) }
-{
-    let mut levels = vec![in alloc; 0; world.cell_count() as usize]?;
-    let found = find_places(alloc, world, passages, dark, places, levels.as_mut_slice())?;
-    let lights = found.turned(alloc, world.cell_count())?;
-    Ok(lights)
-}
-
 /// Every place of the world with the dark cells that it lights.
 pub fn pairs_of(
     alloc: Global,
@@ -129,7 +110,9 @@ pub fn pairs_of(
     requires places { AreMarksOf (cell_count world.now.size) (IsPlace world.now) places.now }
     ensures { IfOk result (ArePairsOf world.now) }
 {
-    let lights = lights_of(alloc, world, passages, dark, places)?;
+    let mut levels = vec![in alloc; 0; world.cell_count() as usize]?;
+    let found = find_places(alloc, world, passages, dark, places, levels.as_mut_slice())?;
+    let lights = found.turned(alloc, world.cell_count())?;
     let lit_by = lights.turned(alloc, world.cell_count())?;
     Ok(Pairs { lights, lit_by })
 }

@@ -1,8 +1,8 @@
 ghost use Rattle.std.specs.Prelude.{◌≡◌, ◌≢◌, ◌≤◌, length, IfErr, Some, bytes_eq, if◌then◌else◌};
-ghost use Rattle.nbt_core.specs.declared.fault.NbtFault.{NbtFault};
+ghost use Rattle.nbt_core.specs.Fields.{four_named, two_fields, two_named};
 ghost use Rattle.nbt_core.specs.Reading.{Gives, mapped};
 ghost use Rattle.nbt_core.specs.TreeReading.{members_at, value_at};
-ghost use Rattle.nbt_core.specs.Fields.{four_named, two_fields, two_named};
+ghost use Rattle.nbt_core.specs.declared.fault.NbtFault.{NbtFault};
 
 use crate::fault::NbtFault;
 use crate::kind::Kind;

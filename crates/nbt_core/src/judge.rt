@@ -1,10 +1,10 @@
 ghost use Rattle.std.specs.Prelude.{◌≡◌, ◌≢◌, IfOk, IfErr, MatchResult};
-ghost use Rattle.nbt_core.specs.declared.fault.NbtFault.{NbtFault};
 ghost use Rattle.nbt_core.specs.Breaking.{FaultOf};
-ghost use Rattle.nbt_core.specs.Spelling.{Root};
-ghost use Rattle.nbt_core.specs.Value.{Nbt};
 ghost use Rattle.nbt_core.specs.Reading.{GivesWhole};
+ghost use Rattle.nbt_core.specs.Spelling.{Root};
 ghost use Rattle.nbt_core.specs.TreeReading.{named_at, root_at};
+ghost use Rattle.nbt_core.specs.Value.{Nbt};
+ghost use Rattle.nbt_core.specs.declared.fault.NbtFault.{NbtFault};
 
 use crate::fault::NbtFault;
 use crate::kind::Kind;

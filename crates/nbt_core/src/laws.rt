@@ -1,9 +1,9 @@
 //! Laws over the definitions alone.
 ghost use Rattle.std.specs.Prelude.{◌≡◌, ◌⊎◌, ◌++◌, ℕ, List};
-ghost use Rattle.nbt_core.specs.declared.fault.NbtFault.{NbtFault};
 ghost use Rattle.nbt_core.specs.Breaking.{FaultOf};
 ghost use Rattle.nbt_core.specs.Spelling.{SpellsRoot, Root};
 ghost use Rattle.nbt_core.specs.Value.{Nbt};
+ghost use Rattle.nbt_core.specs.declared.fault.NbtFault.{NbtFault};
 
 /// No root begins another: the front that is a root, and its value, are unique.
 pub fn one_root()

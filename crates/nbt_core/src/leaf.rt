@@ -1,16 +1,16 @@
-ghost use Rattle.std.specs.Prelude.{◌≡◌, ◌≤◌, ◌*◌, length, IfOk};
 ghost use Rattle.std.specs.Int.{w8, w32, w64};
+ghost use Rattle.std.specs.Prelude.{◌≡◌, ◌≤◌, ◌*◌, length, IfOk};
+ghost use Rattle.nbt_core.specs.LeafReading.{numbers_in, leaf_at};
+ghost use Rattle.nbt_core.specs.Reading.{Gives, mapped};
 ghost use Rattle.nbt_core.specs.Value.{leaf};
 ghost use Rattle.nbt_core.specs.View.{nbt};
-ghost use Rattle.nbt_core.specs.Reading.{Gives, mapped};
-ghost use Rattle.nbt_core.specs.LeafReading.{numbers_in, leaf_at};
 
 use crate::fault::NbtFault;
 use crate::kind::LeafKind;
 use crate::reader::Reader;
-use crate::sequence::Sequence;
 use crate::tag::Tag;
 use byteorder::{BigEndian, ByteOrder};
+use cave_base::Sequence;
 use std::alloc::{AllocError, Global};
 
 /// The numbers of a run of one byte each.

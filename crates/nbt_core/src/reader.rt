@@ -1,8 +1,8 @@
-ghost use Rattle.std.specs.Prelude.{◌≡◌, ◌≢◌, ◌≤◌, ◌<◌, ◌*◌, ◌-◌, length, IfOk, IfErr};
-ghost use Rattle.nbt_core.specs.declared.fault.NbtFault.{NbtFault};
 ghost use Rattle.std.specs.Int.{w8, w16, w64};
-ghost use Rattle.nbt_core.specs.Reading.{Gives, run_at, signed_at, int_at, text_at, kind_at, count_at};
+ghost use Rattle.std.specs.Prelude.{◌≡◌, ◌≢◌, ◌≤◌, ◌<◌, ◌*◌, ◌-◌, length, IfOk, IfErr};
 ghost use Rattle.nbt_core.specs.LeafReading.{counted_at};
+ghost use Rattle.nbt_core.specs.Reading.{Gives, run_at, signed_at, int_at, text_at, kind_at, count_at};
+ghost use Rattle.nbt_core.specs.declared.fault.NbtFault.{NbtFault};
 
 use crate::fault::NbtFault;
 use crate::kind::{Kind, kind_named};

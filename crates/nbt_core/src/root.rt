@@ -1,12 +1,12 @@
 ghost use Rattle.std.specs.Prelude.{◌≡◌, ◌≢◌, [], ◌∷◌, take, IfOk, IfErr};
-ghost use Rattle.nbt_core.specs.declared.fault.NbtFault.{NbtFault};
 ghost use Rattle.cave_base.specs.Answer.{IsAnswer, IsRefusal};
 ghost use Rattle.nbt_core.specs.Breaking.{FaultOf};
-ghost use Rattle.nbt_core.specs.Spelling.{Root};
-ghost use Rattle.nbt_core.specs.Value.{Nbt};
 ghost use Rattle.nbt_core.specs.Reading.{GivesWhole};
+ghost use Rattle.nbt_core.specs.Spelling.{Root};
 ghost use Rattle.nbt_core.specs.TreeReading.{root_at};
+ghost use Rattle.nbt_core.specs.Value.{Nbt};
 ghost use Rattle.nbt_core.specs.View.{nbt};
+ghost use Rattle.nbt_core.specs.declared.fault.NbtFault.{NbtFault};
 
 use crate::fault::NbtFault;
 use crate::reader::Reader;

@@ -1,9 +1,9 @@
 ghost use Rattle.std.specs.Prelude.{◌≡◌, ◌≢◌, ◌≤◌, ◌-◌, length, IfErr};
-ghost use Rattle.nbt_core.specs.declared.fault.NbtFault.{NbtFault};
+ghost use Rattle.nbt_core.specs.LeafReading.{counted_at, leaf_at};
 ghost use Rattle.nbt_core.specs.Reading.{run_at, text_at};
 ghost use Rattle.nbt_core.specs.Skipping.{Skips};
-ghost use Rattle.nbt_core.specs.LeafReading.{counted_at, leaf_at};
 ghost use Rattle.nbt_core.specs.TreeReading.{items_at, members_at, list_at, value_at};
+ghost use Rattle.nbt_core.specs.declared.fault.NbtFault.{NbtFault};
 
 use crate::fault::NbtFault;
 use crate::kind::{Kind, LeafKind};

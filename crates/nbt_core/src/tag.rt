@@ -1,4 +1,4 @@
-use crate::sequence::Sequence;
+use cave_base::Sequence;
 use std::marker::Model;
 
 /// A value of an NBT text (Minecraft Wiki, "NBT format"). Numbers are signed. Float and Double are

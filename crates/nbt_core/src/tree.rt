@@ -1,14 +1,14 @@
 ghost use Rattle.std.specs.Prelude.{◌≡◌, ◌≤◌, ◌+◌, ◌-◌, [], ◌∷◌, ◌++◌, length, IfOk, IfErr, OnOk};
-ghost use Rattle.nbt_core.specs.Value.{items_of, members_of};
-ghost use Rattle.nbt_core.specs.View.{nbt, nbts, entries_of};
 ghost use Rattle.nbt_core.specs.Reading.{Gives, GivesWhole};
 ghost use Rattle.nbt_core.specs.TreeReading.{items_at, members_at, list_at, value_at, named_at};
+ghost use Rattle.nbt_core.specs.Value.{items_of, members_of};
+ghost use Rattle.nbt_core.specs.View.{nbt, nbts, entries_of};
 
 use crate::fault::NbtFault;
 use crate::kind::Kind;
 use crate::reader::Reader;
-use crate::sequence::Sequence;
 use crate::tag::{Entries, Tag, Tags};
+use cave_base::Sequence;
 use std::alloc::{AllocError, Global};
 
 /// How deep lists and compounds nest at most, the root being the first. This limit is the project's own.

@@ -1,4 +1,5 @@
 -- public clauses cite
+pub mod Settings
 pub mod Tally
 pub mod Tests
 pub mod Weighed

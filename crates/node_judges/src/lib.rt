@@ -4,11 +4,13 @@
 
 mod leaf;
 mod loads;
+mod setting;
 mod tally;
 mod testing;
 mod weighted;
 
 pub use leaf::is_leaf;
+pub use setting::Setting;
 pub use tally::Tally;
 pub use testing::{are_left, is_dominated, is_free, left_of, mark};
 pub use weighted::is_weighted;

@@ -1,10 +1,10 @@
 //! What the claims of groups load on the places that light their cells.
 ghost use Rattle.std.specs.Prelude.{◌<◌, All, length, MatchBool};
 ghost use Rattle.cave_model.specs.Plan.{AreDistinct};
-ghost use Rattle.weight_judge.specs.Claims.{AreClaims};
-ghost use Rattle.weight_judge.specs.Rooms.{AreNoRooms};
 ghost use Rattle.node_judges.specs.Loads as loads;
 ghost use Rattle.node_judges.specs.Tests.{AreAscending, AreInside};
+ghost use Rattle.weight_judge.specs.Claims.{AreClaims};
+ghost use Rattle.weight_judge.specs.Rooms.{AreNoRooms};
 
 use crate::tally::Tally;
 use cave_base::Cell;

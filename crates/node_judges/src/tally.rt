@@ -1,5 +1,5 @@
-ghost use Rattle.std.specs.Prelude.{◌≡◌, ◌<◌, [], ◌∷◌, ◌++◌, ◌-◌, ◌↔◌, length, take, Contains, IsTrue, IfOk};
 ghost use Rattle.std.specs.Prelude.{OnOk};
+ghost use Rattle.std.specs.Prelude.{◌≡◌, ◌<◌, [], ◌∷◌, ◌++◌, ◌-◌, ◌↔◌, length, take, Contains, IsTrue, IfOk};
 
 use cave_base::Cell;
 use std::alloc::{AllocError, Global};

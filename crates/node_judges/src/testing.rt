@@ -1,8 +1,9 @@
-ghost use Rattle.std.specs.Prelude.{◌≡◌, ℕ, [], ◌++◌, ◌↔◌, ◌<◌, length, All, Contains, IsTrue, IfOk, OnOk};
 ghost use Rattle.std.specs.List.Sorted.{IsStrictlyIncreasing};
-ghost use Rattle.proof_rules.specs.Omitted.{left_without};
+ghost use Rattle.std.specs.Prelude.{◌≡◌, ℕ, [], ◌++◌, ◌↔◌, ◌<◌, length, All, Contains, IsTrue, IfOk, OnOk};
+ghost use Rattle.node_judges.specs.Settings.{left_in};
 ghost use Rattle.node_judges.specs.Tests as tests;
 
+use crate::setting::Setting;
 use crate::tally::Tally;
 use cave_base::Cell;
 use lit_lists::Lists;
@@ -59,23 +60,23 @@ pub fn mark_lit(lists: &Lists, places: &Tally, tally: &mut Tally) -> Result<(), 
 }
 
 /// Whether the cell is of what is left of the region.
-pub fn is_left(region: &Tally, omitted: &Tally, cell: Cell) -> bool
-    ensures left { IsTrue result ↔ Contains (left_without omitted.now.items region.now.items) cell }
-    ensures inside { IsTrue result → cell < length region.now.counts }
+pub fn is_left(setting: &Setting, cell: Cell) -> bool
+    ensures left { IsTrue result ↔ Contains (left_in setting.now) cell }
+    ensures inside { IsTrue result → cell < length setting.now.region.now.counts }
 {
-    if omitted.has(cell) {
+    if setting.omitted.has(cell) {
         return false;
     }
-    region.has(cell)
+    setting.region.has(cell)
 }
 
 /// Whether all cells are of what is left of the region.
-pub fn are_left(region: &Tally, omitted: &Tally, cells: &[Cell]) -> bool
-    ensures left { IsTrue result ↔ All (Contains (left_without omitted.now.items region.now.items)) cells.now }
-    ensures inside { IsTrue result → All (λ cell. cell < length region.now.counts) cells.now }
+pub fn are_left(setting: &Setting, cells: &[Cell]) -> bool
+    ensures left { IsTrue result ↔ All (Contains (left_in setting.now)) cells.now }
+    ensures inside { IsTrue result → All (λ cell. cell < length setting.now.region.now.counts) cells.now }
 {
     for cell in cells {
-        if !is_left(region, omitted, *cell) {
+        if !is_left(setting, *cell) {
             return false;
         }
     }
@@ -83,15 +84,15 @@ pub fn are_left(region: &Tally, omitted: &Tally, cells: &[Cell]) -> bool
 }
 
 /// Whether the cell is of what is left of the region, and no chosen place lights it.
-pub fn is_free(lists: &Lists, region: &Tally, omitted: &Tally, chosen: &Tally, cell: Cell) -> bool
+pub fn is_free(setting: &Setting, cell: Cell) -> bool
     ensures free { IsTrue result
-        ↔ tests.IsFree lists.now (left_without omitted.now.items region.now.items) chosen.now.items cell }
-    ensures inside { IsTrue result → cell < length region.now.counts }
+        ↔ tests.IsFree setting.now.lists.now (left_in setting.now) setting.now.chosen.now.items cell }
+    ensures inside { IsTrue result → cell < length setting.now.region.now.counts }
 {
-    if !is_left(region, omitted, cell) {
+    if !is_left(setting, cell) {
         return false;
     }
-    !meet(lists.lit_by(cell), chosen)
+    !meet(setting.lists.lit_by(cell), setting.chosen)
 }
 
 /// The places that aren't barred.
@@ -109,19 +110,12 @@ pub fn left_of(alloc: Global, places: &[Cell], barred: &Tally) -> Result<Vec<Cel
 }
 
 /// Whether each of the cells that is of what is left of the region is lit by a chosen place or by this one.
-fn are_served(
-    lists: &Lists,
-    region: &Tally,
-    omitted: &Tally,
-    chosen: &Tally,
-    by: Cell,
-    cells: &[Cell],
-) -> bool
-    ensures { IsTrue result ↔ tests.AreServed lists.now (left_without omitted.now.items region.now.items)
-        chosen.now.items by cells.now }
+fn are_served(setting: &Setting, by: Cell, cells: &[Cell]) -> bool
+    ensures { IsTrue result ↔ tests.AreServed setting.now.lists.now (left_in setting.now)
+        setting.now.chosen.now.items by cells.now }
 {
     for cell in cells {
-        if !is_served(lists, region, omitted, chosen, by, *cell) {
+        if !is_served(setting, by, *cell) {
             return false;
         }
     }
@@ -129,44 +123,30 @@ fn are_served(
 }
 
 /// Whether the cell isn't of what is left of the region, or is lit by a chosen place or by this one.
-fn is_served(
-    lists: &Lists,
-    region: &Tally,
-    omitted: &Tally,
-    chosen: &Tally,
-    by: Cell,
-    cell: Cell,
-) -> bool
-    ensures { IsTrue result ↔ tests.IsServed lists.now (left_without omitted.now.items region.now.items)
-        chosen.now.items by cell }
+fn is_served(setting: &Setting, by: Cell, cell: Cell) -> bool
+    ensures { IsTrue result ↔ tests.IsServed setting.now.lists.now (left_in setting.now)
+        setting.now.chosen.now.items by cell }
 {
-    if !is_left(region, omitted, cell) {
+    if !is_left(setting, cell) {
         return true;
     }
     // the first test is the quicker one, and most cells pass it
-    let places = lists.lit_by(cell);
-    places.contains(&by) || meet(places, chosen)
+    let places = setting.lists.lit_by(cell);
+    places.contains(&by) || meet(places, setting.chosen)
 }
 
 /// Whether the place may be left out for the other.
-pub fn is_dominated(
-    lists: &Lists,
-    region: &Tally,
-    omitted: &Tally,
-    chosen: &Tally,
-    barred: &Tally,
-    place: Cell,
-    by: Cell,
-) -> bool
-    ensures { IsTrue result
-        ↔ tests.IsDominatedIn lists.now (left_without omitted.now.items region.now.items) chosen.now.items
-        barred.now.items place by }
+pub fn is_dominated(setting: &Setting, place: Cell, by: Cell) -> bool
+    ensures { IsTrue result ↔ tests.IsDominatedIn setting.now.lists.now (left_in setting.now)
+        setting.now.chosen.now.items setting.now.barred.now.items place by }
 {
+    let lists = setting.lists;
     if !lists.is_place(place) || !lists.is_place(by) || place == by {
         return false;
     }
-    if barred.has(place) || barred.has(by) || chosen.has(place) {
+    let barred = setting.barred;
+    if barred.has(place) || barred.has(by) || setting.chosen.has(place) {
         return false;
     }
-    are_served(lists, region, omitted, chosen, by, lists.lights(place))
+    are_served(setting, by, lists.lights(place))
 }

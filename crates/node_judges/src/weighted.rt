@@ -1,15 +1,15 @@
 //! Whether groups may stand in a weighted leaf.
 ghost use Rattle.std.specs.Prelude.{◌≡◌, ◌↔◌, ◌<◌, ◌≤◌, [], length, IsTrue, IfOk};
-ghost use Rattle.proof_rules.specs.Groups.{all_cells_of};
-ghost use Rattle.proof_rules.specs.Omitted.{left_without};
-ghost use Rattle.weight_judge.specs.Rooms.{AreNoRooms};
+ghost use Rattle.node_judges.specs.Settings.{left_in};
 ghost use Rattle.node_judges.specs.Tests.{AreAscending, AreInside, AreMatched};
 ghost use Rattle.node_judges.specs.Weighed as weighed;
+ghost use Rattle.proof_rules.specs.Groups.{all_cells_of};
+ghost use Rattle.weight_judge.specs.Rooms.{AreNoRooms};
 
 use crate::loads::keep_open;
+use crate::setting::Setting;
 use crate::tally::Tally;
 use crate::testing::{is_left, mark_lit};
-use lit_lists::Lists;
 use proof_rules::Group;
 use std::alloc::{AllocError, Global};
 use weight_judge::{Claim, Rooms, claims_of};
@@ -27,29 +27,21 @@ fn have_capacities(groups: &[Group]) -> bool
 }
 
 /// Whether the claims are of free cells, each once; marks the cells, and before them those that chosen places light.
-fn are_free_once(
-    lists: &Lists,
-    region: &Tally,
-    omitted: &Tally,
-    chosen: &Tally,
-    seen: &mut Tally,
-    claims: &[Claim],
-) -> Result<bool, AllocError>
+fn are_free_once(setting: &Setting, seen: &mut Tally, claims: &[Claim]) -> Result<bool, AllocError>
     requires none { seen.old.items ≡ [] }
-    requires wide { length region.now.counts ≡ length seen.old.counts }
-    requires matched { AreMatched lists.now (length seen.old.counts) }
-    ensures once { IfOk result (λ yes. IsTrue yes
-        ↔ weighed.AreFreeOnce lists.now (left_without omitted.now.items region.now.items) chosen.now.items
-        (weighed.cells_claimed claims.now)) }
+    requires wide { length setting.now.region.now.counts ≡ length seen.old.counts }
+    requires matched { AreMatched setting.now.lists.now (length seen.old.counts) }
+    ensures once { IfOk result (λ yes. IsTrue yes ↔ weighed.AreFreeOnce setting.now.lists.now (left_in setting.now)
+        setting.now.chosen.now.items (weighed.cells_claimed claims.now)) }
     ensures few { IfOk result (λ yes. IsTrue yes → length claims.now ≤ length seen.old.counts) }
     ensures whole { length seen.new.counts ≡ length seen.old.counts }
 {
-    mark_lit(lists, chosen, seen)?;
+    mark_lit(setting.lists, setting.chosen, seen)?;
     for claim in claims {
         if seen.has(claim.cell) {
             return Ok(false);
         }
-        if !is_left(region, omitted, claim.cell) {
+        if !is_left(setting, claim.cell) {
             return Ok(false);
         }
         seen.push(claim.cell)?;
@@ -61,23 +53,19 @@ fn are_free_once(
 /// is again.
 pub fn is_weighted(
     alloc: Global,
-    lists: &Lists,
-    region: &Tally,
-    omitted: &Tally,
-    chosen: &Tally,
-    barred: &Tally,
+    setting: &Setting,
     seen: &mut Tally,
     rooms: &mut Rooms,
     groups: &[Group],
 ) -> Result<bool, AllocError>
     requires none { seen.old.items ≡ [] }
     requires no_rooms { AreNoRooms (length seen.old.counts) rooms.old }
-    requires wide { length region.now.counts ≡ length seen.old.counts }
-    requires inside { AreInside lists.now (length seen.old.counts) }
-    requires ascending { AreAscending lists.now }
-    requires matched { AreMatched lists.now (length seen.old.counts) }
-    ensures decides { IfOk result (weighed.DecidesWeighted lists.now
-        (left_without omitted.now.items region.now.items) chosen.now.items barred.now.items groups.now) }
+    requires wide { length setting.now.region.now.counts ≡ length seen.old.counts }
+    requires inside { AreInside setting.now.lists.now (length seen.old.counts) }
+    requires ascending { AreAscending setting.now.lists.now }
+    requires matched { AreMatched setting.now.lists.now (length seen.old.counts) }
+    ensures decides { IfOk result (weighed.DecidesWeighted setting.now.lists.now (left_in setting.now)
+        setting.now.chosen.now.items setting.now.barred.now.items groups.now) }
     ensures few { IfOk result (λ yes. IsTrue yes → length (all_cells_of groups.now) ≤ length seen.old.counts) }
     ensures none { IfOk result (λ _. seen.new.items ≡ []) }
     ensures no_rooms { IfOk result (λ _. AreNoRooms (length seen.old.counts) rooms.new) }
@@ -87,10 +75,10 @@ pub fn is_weighted(
         return Ok(false);
     }
     let claims = claims_of(alloc, groups)?;
-    let free = are_free_once(lists, region, omitted, chosen, seen, &claims)?;
+    let free = are_free_once(setting, seen, &claims)?;
     seen.cut(0);
     if !free {
         return Ok(false);
     }
-    Ok(keep_open(rooms, lists, barred, &claims))
+    Ok(keep_open(rooms, setting.lists, setting.barred, &claims))
 }

@@ -1,12 +1,12 @@
 //! A deque of pieces.
 ghost use Rattle.std.specs.Prelude.{◌≡◌, ◌≢◌, ◌⊎◌, ◌+◌, ◌<◌, ◌≤◌, [], ◌∷◌, true, false, IfOk, IfErr, OnOk};
+ghost use Rattle.crossbeam_deque.specs.Handles.{stealer_deque, stealer_flavor};
 ghost use Rattle.crossbeam_deque.specs.Handles.{view, taken, IsPassOf, SamePass, SameWorker};
 ghost use Rattle.crossbeam_deque.specs.Handles.{worker_flavor, worker_view, worker_index, worker_capacity};
-ghost use Rattle.crossbeam_deque.specs.Handles.{stealer_deque, stealer_flavor};
-ghost use Rattle.piece_deque.specs.declared.answer.Take.TheVariants.{Again};
 ghost use Rattle.piece_deque.specs.Deals.{pushed_too};
-ghost use Rattle.piece_deque.specs.Rule.{WasEmpty, Answers};
 ghost use Rattle.piece_deque.specs.Owners.{IsNew};
+ghost use Rattle.piece_deque.specs.Rule.{WasEmpty, Answers};
+ghost use Rattle.piece_deque.specs.declared.answer.Take.TheVariants.{Again};
 
 use crate::answer::Take;
 use crate::dealt::Dealt;

@@ -1,8 +1,8 @@
 //! Emptying a deque once its owner is alone.
 ghost use Rattle.std.specs.Prelude.{◌≡◌, ◌≢◌};
 ghost use Rattle.crossbeam_deque.specs.Handles.{SameWorker, worker_flavor, worker_view};
-ghost use Rattle.piece_deque.specs.declared.answer.Take.TheVariants.{Again};
 ghost use Rattle.piece_deque.specs.Rule.{AllTaken, Answers, IsAlone};
+ghost use Rattle.piece_deque.specs.declared.answer.Take.TheVariants.{Again};
 
 use crate::answer::Take;
 use crate::deque::{Owner, take};

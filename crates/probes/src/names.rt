@@ -21,10 +21,7 @@ fn is_served(
     name: &str,
     props: &[(&str, &str)],
 ) -> Result<bool, AllocError> {
-    let mut whole = String::from_str(alloc, "minecraft:")?;
-    whole.push_str(name)?;
-    let state = facts::state(alloc, &whole, props)?;
-    Ok(rows.row_of(&state).is_some())
+    Ok(rows.row_of(&facts::state(alloc, name, props)?).is_some())
 }
 
 /// Tries each value of a property, as `half=bottom|top`.

@@ -24,7 +24,8 @@ fn look_up(rt: &HostRuntime, rows: &Rows) -> Result<(), Fail> {
     let mut wrong = 0u32;
     for fact in facts::FACTS {
         if !facts::holds(rt.alloc(), rows, fact)? {
-            println!(rt; "wrong: {}", fact.0)?;
+            let name = fact.split(' ').next().unwrap_or("");
+            println!(rt; "wrong: minecraft:{name}")?;
             wrong = wrong.wrapping_add(1);
         }
     }

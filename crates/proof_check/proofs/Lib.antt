@@ -19,3 +19,4 @@ pub mod TrialLemmas
 pub mod ConcludeLemmas
 pub mod ReadingLemmas
 pub mod VerdictLemmas
+pub mod SettingLemmas

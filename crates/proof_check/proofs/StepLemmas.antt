@@ -1,6 +1,8 @@
 -- Steps of the judge of nodes, by the kind of the line.
 use Rattle.std.proofs.Common.{◌≡◌, ◌≢◌, ℕ, ◌-◌, ◌<◌, List, [], ◌∷◌, length, take, drop, refl, sym, ap, subst, ◌∙◌}
 use Rattle.std.proofs.Common.{arith}
+use Rattle.std.specs.Prelude.{Bool, false, is_some}
+use Rattle.std.proofs.lemmas.Bool.{true≢false}
 use Rattle.std.proofs.lemmas.List.{take_all}
 use Rattle.cave_model.specs.Cave.{Cave}
 use Rattle.cave_model.specs.Spawn.{IsDark}
@@ -10,7 +12,7 @@ use Rattle.certificate_lines.specs.declared.kind.LineKind.{LineKind}
 use Rattle.certificate_lines.specs.declared.kind.LineKind.TheVariants as kind
 use Rattle.proof_check.specs.Judged.{JudgeState, at, outset, next_line, NodeSteps}
 use Rattle.proof_check.specs.Track.{IsAt}
-use Rattle.proof_check.specs.Kept.{IsWide, IsWeighing, JudgesLeaf, StepsOn, BeginsRegion, Expects}
+use Rattle.proof_check.specs.Kept.{IsWide, IsWeighing, JudgesLeaf, Judges, StepsOn, BeginsRegion, Expects}
 use Rattle.proof_check.specs.declared.nodes.NodeJudge.{NodeJudge}
 use Rattle.proof_check.specs.declared.track.Track.{Track}
 use Rattle.proof_check.specs.declared.weighing.Weighing as held
@@ -163,3 +165,12 @@ torch_steps lists torches line old new x = record {
 } where
   region : (a b : Tally) → b ≡ a → b.items ≡ a.items
   region a b e = ap (λ (t : Tally). t.items) e
+
+-- a judge with no bad node judges a line as its step says
+pub judged : (lists : LitLists) (k : LineKind) (numbers : List ℕ) (line : ℕ) (old new : NodeJudge) (stuck : Bool)
+    → stuck ≡ is_some old.bad → stuck ≡ false → StepsOn lists k numbers line old new
+    → Judges lists k numbers line old new
+judged lists k numbers line old new stuck is off step = record {
+  steps = λ none. step;
+  still = λ bad e. absurd (true≢false (sym (is ∙ ap is_some e) ∙ off));
+}

@@ -4,6 +4,8 @@
 use Rattle.std.specs.Prelude.{◌≡◌, ℕ, ◌+◌, ◌<◌, List, [], ◌∷◌, ◌++◌, length, drop, Contains, IsTrue}
 use Rattle.std.specs.Prelude.{slice_index}
 use Rattle.lit_lists.specs.Lists.{LitLists, is_marked}
+use Rattle.node_judges.specs.Tally.{Tally}
+use Rattle.node_judges.specs.declared.setting.Setting.{Setting}
 use Rattle.proof_check.specs.Judged.{Frame, Spot, close, enter}
 use Rattle.proof_check.specs.declared.track.Frame as held
 use Rattle.proof_check.specs.declared.track.Track as kept
@@ -63,3 +65,11 @@ pub record Enters (limit : ℕ) (places chosen barred omitted : List ℕ) (kept 
       → Contains places place → IsTrue (is_marked lists.places place))
       → Fits lists chosen barred omitted kept frames → IsAt lists
       (enter chosen barred omitted places frames) new_chosen new_barred new_omitted new_kept
+
+-- the setting has these lists, this region, and what the track has left out, chosen and barred
+pub record IsSettingOf (lists : LitLists) (region : Tally) (track : kept.Track) (setting : Setting) : Type 0 where
+  pub lists_are : setting.lists.now ≡ lists
+  pub region_is : setting.region.now ≡ region
+  pub omitted_are : setting.omitted.now ≡ track.omitted
+  pub chosen_are : setting.chosen.now ≡ track.chosen
+  pub barred_are : setting.barred.now ≡ track.barred

@@ -16,7 +16,7 @@ fn is_somewhere(home: Home) -> bool
 }
 
 /// Whether a cell is in two lists, or in one and may not be.
-fn is_misplaced(home: Home, allowed: bool) -> bool
+pub fn is_misplaced(home: Home, allowed: bool) -> bool
     ensures { result ≡ ends.is_misplaced home allowed }
 {
     match home {

@@ -1,7 +1,7 @@
 ghost use Rattle.std.specs.Prelude.{◌<◌, ◌+◌, ◌^◌, [], IfOk, OnOk};
+ghost use Rattle.node_judges.specs.Tests.{AreAscending};
 ghost use Rattle.proof_check.specs.Heard.{Hears, IsAfter};
 ghost use Rattle.proof_check.specs.Kept.{IsWide};
-ghost use Rattle.node_judges.specs.Tests.{AreAscending};
 
 use crate::homes::Homes;
 use crate::nodes::NodeJudge;

@@ -1,10 +1,10 @@
 //! Laws over the definitions alone.
 ghost use Rattle.std.specs.Prelude.{ℕ, List};
 ghost use Rattle.cave_model.specs.Cave.{Cave, IsSound};
-ghost use Rattle.proof_rules.specs.Certificate.{Certificate, torches_of};
 ghost use Rattle.proof_check.specs.Accepted.{Accepts, IsBestPlan, Proves};
 ghost use Rattle.proof_check.specs.Refused.{IsReasonOf};
 ghost use Rattle.proof_check.specs.declared.reason.Reason.{Reason};
+ghost use Rattle.proof_rules.specs.Certificate.{Certificate, torches_of};
 
 /// The torches of an accepted certificate are safe, and no safe ones are fewer.
 pub fn accepted_is_fewest()

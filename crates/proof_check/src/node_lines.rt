@@ -1,8 +1,8 @@
 //! The lines of nodes, by their kinds.
 ghost use Rattle.std.specs.Prelude.{OnOk};
-ghost use Rattle.proof_check.specs.Kept.{IsWide, Judges, StepsOn};
-ghost use Rattle.node_judges.specs.Tests.{AreAscending};
 ghost use Rattle.certificate_lines.specs.declared.kind.LineKind.TheVariants as kinds;
+ghost use Rattle.node_judges.specs.Tests.{AreAscending};
+ghost use Rattle.proof_check.specs.Kept.{IsWide, Judges, StepsOn};
 
 use crate::nodes::NodeJudge;
 use crate::weighing::{Weighing, shares_of};
@@ -12,18 +12,6 @@ use proof_rules::Group;
 use std::alloc::AllocError;
 
 impl NodeJudge {
-    /// A leaf's line: how many cells, and the cells.
-    fn leaf_line(&mut self, lists: &Lists, numbers: &[u32], line: u64) -> Result<(), AllocError>
-        requires wide { IsWide lists.now self.old }
-        ensures steps { OnOk result (StepsOn lists.now kinds.Leaf numbers.now line self.old self.new) }
-        ensures wide { OnOk result (IsWide lists.now self.new) }
-    {
-        if let [_, these @ ..] = numbers {
-            self.leaf(lists, these, line)?;
-        }
-        Ok(())
-    }
-
     /// A weighted leaf's line: how many groups.
     fn weighted_line(&mut self, lists: &Lists, numbers: &[u32], line: u64)
         requires wide { IsWide lists.now self.old }
@@ -53,18 +41,6 @@ impl NodeJudge {
         Ok(())
     }
 
-    /// An omission's line: how many cells, and the cells.
-    fn omit_line(&mut self, lists: &Lists, numbers: &[u32], line: u64) -> Result<(), AllocError>
-        requires wide { IsWide lists.now self.old }
-        ensures steps { OnOk result (StepsOn lists.now kinds.Omit numbers.now line self.old self.new) }
-        ensures wide { OnOk result (IsWide lists.now self.new) }
-    {
-        if let [_, these @ ..] = numbers {
-            self.omit(lists, these, line)?;
-        }
-        Ok(())
-    }
-
     /// A branch's line: its cell, and how many kids.
     fn branch_line(&mut self, lists: &Lists, numbers: &[u32], line: u64) -> Result<(), AllocError>
         requires wide { IsWide lists.now self.old }
@@ -90,33 +66,6 @@ impl NodeJudge {
         Ok(())
     }
 
-    /// Takes a step where no node was against the rules.
-    fn step(
-        &mut self,
-        lists: &Lists,
-        kind: LineKind,
-        numbers: &[u32],
-        line: u64,
-    ) -> Result<(), AllocError>
-        requires wide { IsWide lists.now self.old }
-        requires ascending { AreAscending lists.now }
-        ensures steps { OnOk result (StepsOn lists.now kind numbers.now line self.old self.new) }
-        ensures wide { OnOk result (IsWide lists.now self.new) }
-    {
-        match kind {
-            LineKind::Leaf => self.leaf_line(lists, numbers, line)?,
-            LineKind::Branch => self.branch_line(lists, numbers, line)?,
-            LineKind::Bar => self.bar_line(lists, numbers, line)?,
-            LineKind::Weighted => self.weighted_line(lists, numbers, line),
-            LineKind::Group => self.group_line(lists, numbers, line)?,
-            LineKind::Omit => self.omit_line(lists, numbers, line)?,
-            LineKind::Dark => self.begin(numbers)?,
-            LineKind::Torches => self.expect(numbers.len()),
-            _ => {}
-        }
-        Ok(())
-    }
-
     /// Judges a line; stands still after one against the rules.
     pub fn line(
         &mut self,
@@ -130,8 +79,28 @@ impl NodeJudge {
         ensures judges { OnOk result (Judges lists.now kind numbers.now line self.old self.new) }
         ensures wide { OnOk result (IsWide lists.now self.new) }
     {
-        if self.bad.is_none() {
-            self.step(lists, kind, numbers, line)?;
+        if self.bad.is_some() {
+            return Ok(());
+        }
+        match kind {
+            // how many cells, and the cells
+            LineKind::Leaf => {
+                if let [_, these @ ..] = numbers {
+                    self.leaf(lists, these, line)?;
+                }
+            }
+            LineKind::Omit => {
+                if let [_, these @ ..] = numbers {
+                    self.omit(lists, these, line)?;
+                }
+            }
+            LineKind::Branch => self.branch_line(lists, numbers, line)?,
+            LineKind::Bar => self.bar_line(lists, numbers, line)?,
+            LineKind::Weighted => self.weighted_line(lists, numbers, line),
+            LineKind::Group => self.group_line(lists, numbers, line)?,
+            LineKind::Dark => self.begin(numbers)?,
+            LineKind::Torches => self.expect(numbers.len()),
+            _ => {}
         }
         Ok(())
     }

@@ -1,9 +1,9 @@
-ghost use Rattle.std.specs.Prelude.{◌≡◌, ◌+◌, length, nat_lt, if◌then◌else◌, Some, None, IfOk, OnOk};
 ghost use Rattle.std.specs.List.Sorted.{IsStrictlyIncreasing};
 ghost use Rattle.std.specs.Option.{option_or};
+ghost use Rattle.std.specs.Prelude.{◌≡◌, ◌+◌, length, nat_lt, if◌then◌else◌, Some, None, IfOk, OnOk};
 ghost use Rattle.lit_lists.specs.Lists.{row_at};
-ghost use Rattle.proof_check.specs.Kept.{BeginsRegion, Expects, IsNew, IsWide, JudgesBar};
 ghost use Rattle.node_judges.specs.Tests.{AreAscending};
+ghost use Rattle.proof_check.specs.Kept.{BeginsRegion, Expects, IsNew, IsWide, JudgesBar};
 ghost use Rattle.proof_check.specs.Kept.{JudgesBranch, JudgesGroup, JudgesLeaf, JudgesOmission, JudgesWeighted};
 
 use crate::track::Track;
@@ -81,15 +81,8 @@ impl NodeJudge {
         ensures leaf { OnOk result (JudgesLeaf lists.now these.now line self.old self.new) }
         ensures wide { OnOk result (IsWide lists.now self.new) }
     {
-        let fits = is_leaf(
-            lists,
-            &self.region,
-            &self.track.omitted,
-            &self.track.chosen,
-            &self.track.barred,
-            &mut self.seen,
-            these,
-        )?;
+        let setting = self.track.setting(lists, &self.region);
+        let fits = is_leaf(&setting, &mut self.seen, these)?;
         if !fits {
             self.bad = Some(line);
             return Ok(());
@@ -107,13 +100,10 @@ impl NodeJudge {
         ensures weighted { OnOk result (JudgesWeighted lists.now groups.now line self.old self.new) }
         ensures wide { OnOk result (IsWide lists.now self.new) }
     {
+        let setting = self.track.setting(lists, &self.region);
         let fits = is_weighted(
             self.alloc,
-            lists,
-            &self.region,
-            &self.track.omitted,
-            &self.track.chosen,
-            &self.track.barred,
+            &setting,
             &mut self.seen,
             &mut self.rooms,
             groups,
@@ -160,8 +150,8 @@ impl NodeJudge {
         ensures branch { OnOk result (JudgesBranch lists.now cell count line self.old self.new) }
         ensures wide { OnOk result (IsWide lists.now self.new) }
     {
-        let track = &self.track;
-        if !is_free(lists, &self.region, &track.omitted, &track.chosen, cell) {
+        let setting = self.track.setting(lists, &self.region);
+        if !is_free(&setting, cell) {
             self.bad = Some(line);
             return Ok(());
         }
@@ -180,16 +170,8 @@ impl NodeJudge {
         ensures bar { OnOk result (JudgesBar lists.now place by line self.old self.new) }
         ensures wide { OnOk result (IsWide lists.now self.new) }
     {
-        let track = &self.track;
-        if !is_dominated(
-            lists,
-            &self.region,
-            &track.omitted,
-            &track.chosen,
-            &track.barred,
-            place,
-            by,
-        ) {
+        let setting = self.track.setting(lists, &self.region);
+        if !is_dominated(&setting, place, by) {
             self.bad = Some(line);
             return Ok(());
         }
@@ -203,7 +185,8 @@ impl NodeJudge {
         ensures omission { OnOk result (JudgesOmission lists.now these.now line self.old self.new) }
         ensures wide { OnOk result (IsWide lists.now self.new) }
     {
-        if !are_left(&self.region, &self.track.omitted, these) {
+        let setting = self.track.setting(lists, &self.region);
+        if !are_left(&setting, these) {
             self.bad = Some(line);
             return Ok(());
         }

@@ -3,20 +3,20 @@ ghost use Rattle.cave_base.specs.Box.{cell_count};
 ghost use Rattle.lit_lists.specs.Seeded.{AreUnlit};
 ghost use Rattle.proof_check.specs.Ends as ends;
 
+use crate::ends::is_misplaced;
 use crate::homes::{Home, Homes};
 use cave_base::Cell;
 use cave_model::World;
 use lit_lists::{Lists, lit_cells};
 use std::alloc::{AllocError, Global};
 
-/// Whether a cell isn't in just one list, or is in one and may not be.
+/// Whether a cell is in no list and has to be in one, or is misplaced.
 fn is_unparted(home: Home, needed: bool) -> bool
     ensures { result ≡ ends.is_unparted home needed }
 {
     match home {
         Home::Nowhere => needed,
-        Home::Only(_) => !needed,
-        Home::Several => true,
+        Home::Only(_) | Home::Several => is_misplaced(home, needed),
     }
 }
 

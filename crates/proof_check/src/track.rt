@@ -1,8 +1,9 @@
 ghost use Rattle.std.specs.Prelude.{◌≡◌, ◌<◌, ◌+◌, [], length, OnOk};
-ghost use Rattle.proof_check.specs.Track.{ClosesFrames, Enters, IsNextKid};
+ghost use Rattle.proof_check.specs.Track.{ClosesFrames, Enters, IsNextKid, IsSettingOf};
 
 use cave_base::Cell;
-use node_judges::Tally;
+use lit_lists::Lists;
+use node_judges::{Setting, Tally};
 use std::alloc::AllocError;
 
 /// An open branch.
@@ -28,6 +29,19 @@ pub struct Track {
 }
 
 impl Track {
+    /// What a node of the region is judged in here.
+    pub fn setting<'a>(&'a self, lists: &'a Lists, region: &'a Tally) -> Setting<'a>
+        ensures { IsSettingOf lists.now region.now self.now result }
+    {
+        Setting {
+            lists,
+            region,
+            omitted: &self.omitted,
+            chosen: &self.chosen,
+            barred: &self.barred,
+        }
+    }
+
     /// Goes on to the next kid of a branch.
     fn next_kid(&mut self, frame: Frame) -> Result<(), AllocError>
         requires more { frame.index + 1 < length frame.places.items }

@@ -1,7 +1,7 @@
 ghost use Rattle.std.specs.Prelude.{◌≡◌, ◌∷◌, [], ◌↔◌, IsTrue, length, IfOk, OnOk, MatchOption};
+ghost use Rattle.certificate_lines.specs.declared.kind.LineKind.TheVariants.{Size};
 ghost use Rattle.proof_check.specs.Tried.{AgreesOn, Catches, Concludes, HasRoom, HearsAll, HearsTo, IsBehind, Tried};
 ghost use Rattle.proof_check.specs.Tried.{torches_on};
-ghost use Rattle.certificate_lines.specs.declared.kind.LineKind.TheVariants.{Size};
 
 use crate::ending::reason_of;
 use crate::judge::Judge;

@@ -2,7 +2,8 @@
 ghost use Rattle.std.specs.Prelude.{◌≡◌, [], IfOk};
 ghost use Rattle.proof_check.specs.Judged.{shares_of as told};
 
-use proof_rules::{Group, Share, Shares};
+use cave_base::Sequence;
+use proof_rules::{Group, Share};
 use std::alloc::{AllocError, Global};
 
 /// A weighted leaf of which not all groups are told.
@@ -32,7 +33,7 @@ impl Weighing {
 }
 
 /// The shares that the numbers tell, each by a cell and its weight.
-pub fn shares_of(alloc: Global, numbers: &[u32]) -> Result<Shares, AllocError>
+pub fn shares_of(alloc: Global, numbers: &[u32]) -> Result<Sequence<Share>, AllocError>
     ensures { IfOk result (λ shares. shares ≡ told numbers.now) }
 {
     let mut shares = Vec::new(alloc);
@@ -45,5 +46,5 @@ pub fn shares_of(alloc: Global, numbers: &[u32]) -> Result<Shares, AllocError>
         shares.push(share)?;
         rest = more;
     }
-    Ok(Shares::of(shares))
+    Ok(Sequence::from_vec(shares))
 }

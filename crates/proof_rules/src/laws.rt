@@ -3,8 +3,8 @@ ghost use Rattle.std.specs.Prelude.{ℕ, ◌≤◌, List, length};
 ghost use Rattle.cave_model.specs.Cave.{Cave};
 ghost use Rattle.cave_model.specs.Coverage.{of_cave};
 ghost use Rattle.cave_model.specs.Plan.{AreDistinct};
-ghost use Rattle.proof_rules.specs.Tree.{Tree};
 ghost use Rattle.proof_rules.specs.Good.{Good, IsCoverOfPiece};
+ghost use Rattle.proof_rules.specs.Tree.{Tree};
 
 /// No cover of a piece is smaller than what a good tree says, by whatever legal places.
 pub fn good_bounds()

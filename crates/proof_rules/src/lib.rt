@@ -6,4 +6,4 @@
 mod groups;
 pub mod laws;
 
-pub use groups::{Group, Share, Shares};
+pub use groups::{Group, Share};

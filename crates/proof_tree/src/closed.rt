@@ -61,11 +61,7 @@ impl Closed {
         ensures tree { tree_of result ≡ self.tree }
         ensures closed { IsClosed self }
     {
-        let Closed {
-            piece: _,
-            floor: _,
-            proof,
-        } = self;
+        let Closed { proof, .. } = self;
         proof
     }
 }

@@ -2,7 +2,6 @@
 #![tactic(auto)]
 
 mod closed;
-mod groups;
 mod kids;
 mod name;
 mod opened;
@@ -11,9 +10,8 @@ mod piece;
 mod proof;
 
 pub use closed::{Closed, floor_of};
-pub use groups::Groups;
 pub use name::Name;
 pub use opened::Opened;
 pub use opening::{is_unlit, kid_places};
 pub use piece::Piece;
-pub use proof::{Below, Cells, Kids, Proof};
+pub use proof::{Below, Kids, Proof};

@@ -83,11 +83,7 @@ impl Opened {
     pub fn into_piece(self) -> Piece
         ensures { result ≡ self.piece }
     {
-        let Opened {
-            piece,
-            cell: _,
-            places: _,
-        } = self;
+        let Opened { piece, .. } = self;
         piece
     }
 }

@@ -1,7 +1,7 @@
 //! The cells on which a piece may be opened, and the places of its kids.
 ghost use Rattle.std.specs.Prelude.{◌↔◌, IfOk, IsTrue, All, Contains};
-ghost use Rattle.set_cover.specs.Instance.{LightsIn, of_instance};
 ghost use Rattle.proof_rules.specs.Good.{AreOpen, IsUnlit};
+ghost use Rattle.set_cover.specs.Instance.{LightsIn, of_instance};
 
 use cave_base::Cell;
 use cave_model::OutOfMemory;

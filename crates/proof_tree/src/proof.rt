@@ -2,23 +2,10 @@
 ghost use Rattle.std.specs.Prelude.{◌≡◌, IfOk};
 ghost use Rattle.proof_tree.specs.Shape.{tree_of, forest_of};
 
-use crate::groups::Groups;
+use cave_base::Sequence;
+use proof_rules::Group;
 use std::alloc::{AllocError, Global};
 use std::marker::Model;
-
-/// Cells, which contracts see as a list.
-#[derive(Drop)]
-pub struct Cells {
-    items: Vec<u32>,
-}
-
-impl Model for Cells {
-    ghost use Rattle.std.specs.Prelude.{List, ℕ};
-
-    ghost Value = { List ℕ };
-
-    ghost view = { λ c. c.items.items };
-}
 
 /// The tree below a place or cells that are left out.
 #[cycle(proof)]
@@ -38,11 +25,11 @@ pub struct Kids {
 #[cycle(proof)]
 #[derive(Drop)]
 pub enum Proof {
-    Leaf(Cells),
-    Weighted(Groups),
+    Leaf(Sequence<u32>),
+    Weighted(Sequence<Group>),
     Branch { cell: u32, kids: Kids },
     Bar { place: u32, by: u32, kid: Below },
-    Omit { cells: Cells, kid: Below },
+    Omit { cells: Sequence<u32>, kid: Below },
 }
 
 impl Model for Below {
@@ -81,30 +68,6 @@ impl Model for Kids {
     ghost use Rattle.proof_tree.specs.Falls.{kids_fall};
 
     ghost size_decreases = { λ a h. kids_fall a.items.items };
-}
-
-impl Cells {
-    /// These cells, with no new memory.
-    pub fn of(items: Vec<u32>) -> Cells
-        ensures { result ≡ items.items }
-    {
-        Cells { items }
-    }
-
-    /// The cells, in the order in which they were given.
-    pub fn as_slice(&self) -> &[u32]
-        ensures { result.now ≡ self.now }
-    {
-        self.items.as_slice()
-    }
-
-    /// The cells alone, with no new memory.
-    pub fn into_items(self) -> Vec<u32>
-        ensures { result.items ≡ self }
-    {
-        let Cells { items } = self;
-        items
-    }
 }
 
 impl Kids {

@@ -1,8 +1,8 @@
 ghost use Rattle.std.specs.Prelude.{◌≡◌, All, None, codes, length, IsTrue};
-ghost use Rattle.nbt_core.specs.Value.{Nbt};
-ghost use Rattle.nbt_core.specs.Fields.{two_fields};
-ghost use Rattle.scan_core.specs.Answer.{TellsOrFaults, TellsInRoom};
 ghost use Rattle.cave_base.specs.Box as grid;
+ghost use Rattle.nbt_core.specs.Fields.{two_fields};
+ghost use Rattle.nbt_core.specs.Value.{Nbt};
+ghost use Rattle.scan_core.specs.Answer.{TellsOrFaults, TellsInRoom};
 ghost use Rattle.scan_core.specs.Cells.{AreCellsOf, IsIndexOf, IsPlaced, IsPointOf, ShowEntries};
 ghost use Rattle.scan_core.specs.Faults.{blocks_fault, entry_faults, pos_fault, state_fault};
 ghost use Rattle.scan_core.specs.Judging.{each_from, first_fault};

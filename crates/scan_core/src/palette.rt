@@ -1,6 +1,6 @@
 ghost use Rattle.std.specs.Prelude.{◌≡◌, codes};
-ghost use Rattle.nbt_core.specs.Value.{Nbt};
 ghost use Rattle.nbt_core.specs.Fields.{two_fields};
+ghost use Rattle.nbt_core.specs.Value.{Nbt};
 ghost use Rattle.scan_core.specs.Answer.{TellsInRoom};
 ghost use Rattle.scan_core.specs.Faults.{name_fault, palette_fault};
 ghost use Rattle.scan_core.specs.Judging.{each_from, first_fault};

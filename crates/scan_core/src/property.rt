@@ -8,7 +8,8 @@ ghost use Rattle.scan_core.specs.declared.fault.ScanFault.{ScanFault};
 
 use crate::fault::ScanFault;
 use crate::value::text;
-use nbt_core::{EntriesView, Sequence, View};
+use cave_base::Sequence;
+use nbt_core::{EntriesView, View};
 use std::alloc::Global;
 use std::collections::BTreeSet;
 

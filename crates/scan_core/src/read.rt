@@ -2,10 +2,10 @@ ghost use Rattle.std.specs.Prelude.{◌≡◌, ◌≢◌, IfOk, IfErr};
 ghost use Rattle.cave_base.specs.Answer.{IsAnswer, IsRefusal};
 ghost use Rattle.nbt_core.specs.Spelling.{Root};
 ghost use Rattle.nbt_core.specs.Value.{Nbt};
-ghost use Rattle.scan_core.specs.declared.fault.ScanFault.{ScanFault};
 ghost use Rattle.scan_core.specs.Answer.{TellsInRoom};
 ghost use Rattle.scan_core.specs.Faults.{IsFaultOf, fault_of};
 ghost use Rattle.scan_core.specs.Scan.{IsScanOf, Scans, Structure};
+ghost use Rattle.scan_core.specs.declared.fault.ScanFault.{ScanFault};
 
 use crate::block::cells_of;
 use crate::fault::ScanFault;

@@ -1,5 +1,5 @@
-ghost use Rattle.scan_core.specs.Answer.{TellsOrFaults};
 ghost use Rattle.cave_base.specs.Box as grid;
+ghost use Rattle.scan_core.specs.Answer.{TellsOrFaults};
 ghost use Rattle.scan_core.specs.Faults.{size_fault};
 ghost use Rattle.scan_core.specs.Told.{IsSizeOf};
 

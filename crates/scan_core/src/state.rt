@@ -1,4 +1,4 @@
-use nbt_core::Sequence;
+use cave_base::Sequence;
 
 /// A block of the palette: its whole name, prefix included, and its properties, each once, as name
 /// and value. Names and values are bytes, compared as such (Minecraft Wiki, "Structure file").

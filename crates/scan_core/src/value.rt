@@ -1,8 +1,8 @@
-ghost use Rattle.std.specs.Prelude.{◌≡◌};
 ghost use Rattle.std.specs.Option.{option_map};
-ghost use Rattle.nbt_core.specs.Value.{leaf};
-ghost use Rattle.nbt_core.specs.Value as values;
+ghost use Rattle.std.specs.Prelude.{◌≡◌};
 ghost use Rattle.cave_base.specs.Box.{point};
+ghost use Rattle.nbt_core.specs.Value as values;
+ghost use Rattle.nbt_core.specs.Value.{leaf};
 ghost use Rattle.scan_core.specs.Told.{AreCompoundsOf, IsReadAs, point_of_list, triple_value};
 
 use nbt_core::{ItemsView, View};

@@ -1,12 +1,12 @@
 //! Laws over plain data: what joined results say, whatever the schedule was.
 ghost use Rattle.std.specs.Prelude.{◌≡◌, ◌≤◌, ◌+◌, ℕ, List, ◌∷◌, length, IsPermutation};
-ghost use Rattle.set_cover.specs.Instance.{Instance};
-ghost use Rattle.proof_tree.specs.Piece.{Subproblem};
 ghost use Rattle.event_core.specs.State.{Begins, State};
+ghost use Rattle.proof_tree.specs.Piece.{Subproblem};
 ghost use Rattle.schedule_law.specs.Joined.{AreJoined, all_back, all_closed, all_kids, all_opened, root_split};
 ghost use Rattle.schedule_law.specs.Listing.{AllEnabled, listing};
 ghost use Rattle.schedule_law.specs.Names.{count_named};
 ghost use Rattle.schedule_law.specs.Worked.{Worked};
+ghost use Rattle.set_cover.specs.Instance.{Instance};
 
 /// In a core with one worker more than handed over, the last being the caller's thread, every event of the list is
 /// enabled.

@@ -1,6 +1,6 @@
 //! A worker's desk over a seat.
-ghost use Rattle.std.specs.Prelude.{◌≡◌};
 ghost use Rattle.std.specs.Arc.{arc_value};
+ghost use Rattle.std.specs.Prelude.{◌≡◌};
 ghost use Rattle.worker_results.specs.Results.{IsNewSeatAt};
 
 use beacon::{Beacon, Seat};

@@ -1,7 +1,7 @@
 //! Small regions from the cells that their places light, looked at row by row.
 ghost use Rattle.std.specs.Prelude.{◌≡◌, ◌≤◌, ◌<◌, ◌*◌, ◌+◌, ◌/◌, ℕ, IsTrue, length, IfOk};
-ghost use Rattle.set_cover.specs.Instance.{words_for};
 ghost use Rattle.search_cases.specs.Made.{CountsUp, made_row, IsRowFor, IsLitIn, AreRows};
+ghost use Rattle.set_cover.specs.Instance.{words_for};
 
 use cave_regions::Region;
 use set_cover::{Instance, first, has, next};

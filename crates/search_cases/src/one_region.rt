@@ -1,8 +1,8 @@
 //! The one region of a cave, and the certificate of what is planned of it.
-ghost use Rattle.std.specs.Prelude.{[], ◌∷◌, IfOk};
 ghost use Rattle.std.specs.Arc.{arc_value};
-ghost use Rattle.certificate_text.specs.Planned.{AreBestOf};
+ghost use Rattle.std.specs.Prelude.{[], ◌∷◌, IfOk};
 ghost use Rattle.certificate_text.specs.PlanOf.{plan_of};
+ghost use Rattle.certificate_text.specs.Planned.{AreBestOf};
 ghost use Rattle.search_cases.specs.Single.{IsSingleOf};
 
 use cave_model::World;

@@ -58,11 +58,7 @@ impl AimedDesk {
     pub(crate) fn into_desk(self) -> AloneDesk
         ensures { result ≡ self.desk }
     {
-        let AimedDesk {
-            desk,
-            aim: _,
-            shown: _,
-        } = self;
+        let AimedDesk { desk, .. } = self;
         desk
     }
 }

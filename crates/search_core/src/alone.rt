@@ -101,13 +101,7 @@ impl AloneDesk {
         ensures cover { result ≡ self.cover }
         ensures kept { IsKept self }
     {
-        let AloneDesk {
-            cover,
-            shown: _,
-            accepted: _,
-            limit: _,
-            granted: _,
-        } = self;
+        let AloneDesk { cover, .. } = self;
         cover
     }
 }

@@ -1,8 +1,6 @@
 //! A proposer whose nodes are told to an observer.
 
-use cave_regions::Region;
-use pack_bound::Node;
-use search_traits::{Observer, Proposal, Proposer};
+use search_traits::{Observer, Proposal, Proposer, Task};
 use std::alloc::{AllocError, Global};
 
 /// It proposes what the inner one does, and tells of each node.
@@ -34,14 +32,8 @@ impl<'o, P: Proposer, O: Observer> Observed<'o, P, O> {
 }
 
 impl<P: Proposer, O: Observer> Proposer for Observed<'_, P, O> {
-    fn propose(
-        &mut self,
-        alloc: Global,
-        region: &Region,
-        node: &Node,
-        floor: Option<u64>,
-    ) -> Result<Proposal, AllocError> {
-        self.observer.turn(self.size, floor.unwrap_or(0));
-        self.inner.propose(alloc, region, node, floor)
+    fn propose(&mut self, alloc: Global, task: Task<'_>) -> Result<Proposal, AllocError> {
+        self.observer.turn(self.size, task.floor.unwrap_or(0));
+        self.inner.propose(alloc, task)
     }
 }

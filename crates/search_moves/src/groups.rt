@@ -1,20 +1,23 @@
 //! The groups of a weighted leaf: copies, by the indices of cells, and the places that have to be left out above them.
 
+use cave_base::Sequence;
 use instance_reduction::{InRegion, ReducedInstance, set_bit, small};
-use proof_rules::{Group, Share, Shares};
-use proof_tree::Groups;
+use proof_rules::{Group, Share};
 use std::alloc::{AllocError, Global};
 
 /// The same groups once more.
-pub(crate) fn copied_groups(alloc: Global, groups: &[Group]) -> Result<Groups, AllocError> {
+pub(crate) fn copied_groups(
+    alloc: Global,
+    groups: &[Group],
+) -> Result<Sequence<Group>, AllocError> {
     let mut found = Vec::with_capacity(alloc, groups.len())?;
     for group in groups {
         found.push(Group {
             capacity: group.capacity,
-            shares: Shares::of(Vec::from_slice(alloc, group.shares.as_slice())?),
+            shares: Sequence::from_vec(Vec::from_slice(alloc, group.shares.as_slice())?),
         })?;
     }
-    Ok(Groups::of(found))
+    Ok(Sequence::from_vec(found))
 }
 
 /// What a place lights of the group that it was met in last.

@@ -1,33 +1,30 @@
 //! Finished trees without the kids that their branches can do without.
 
 use crate::groups::copied_groups;
-use crate::needless_kids::{Needless, NodeRows, RegionInstance, Told};
+use crate::needless_kids::{FinishedBranch, Needless, NodeRows, Told};
 use crate::pruning::{bars_above, copied};
 use crate::spoken::Spoken;
-use cave_regions::Region;
+use cave_base::Sequence;
 use instance_reduction::{
-    InRegion, ReducedInstance, bits_of, clear_bit, drop_all, is_set, set_bit,
+    InRegion, NodePlaces, RegionInstance, bits_of, clear_bit, drop_all, is_set, set_bit,
 };
-use pack_bound::Node;
-use proof_tree::{Below, Cells, Kids, Proof};
+use proof_tree::{Below, Kids, Proof};
 use std::alloc::{AllocError, Global};
 use tree_judges::{Bar, wrap};
 
 /// A copy of the tree of a node without the kids that its branches can do without.
 pub(crate) fn without_needless_kids(
     alloc: Global,
-    region: &Region,
-    instance: &ReducedInstance,
-    node: &Node,
+    site: NodePlaces<'_>,
     tree: &Proof,
 ) -> Result<Proof, AllocError> {
-    let site = RegionInstance { region, instance };
+    let NodePlaces { whole, node } = site;
     let left = NodeRows {
         unlit: Vec::from_slice(alloc, node.unlit())?,
         barred: Vec::from_slice(alloc, node.barred())?,
         gone: vec![in alloc; 0u64; node.barred().len()]?,
     };
-    let told = lessened(alloc, site, left, tree, region.places().len(), true)?;
+    let told = lessened(alloc, whole, left, tree, whole.region.places().len(), true)?;
     let Told { tree, spoken: _ } = told;
     Ok(tree)
 }
@@ -37,14 +34,14 @@ pub(crate) fn without_needless_kids(
 #[cycle(lessening)]
 fn lessened(
     alloc: Global,
-    site: RegionInstance<'_>,
+    whole: RegionInstance<'_>,
     left: NodeRows,
     tree: &Proof,
     room: usize,
     is_first: bool,
 ) -> Result<Told, AllocError> {
     let mut left = left;
-    let mut spoken = Spoken::none(alloc, site.region)?;
+    let mut spoken = Spoken::none(alloc, whole.region)?;
     let (bars, rest) = bars_above(alloc, tree)?;
     let bars = left.take_bars(alloc, &bars, &mut spoken)?;
     if room == 0 {
@@ -55,22 +52,29 @@ fn lessened(
     }
     let bare = match rest {
         Proof::Branch { cell, kids } => {
-            let places = site.open_at(alloc, &left, *cell)?;
+            let places = whole.open_at(alloc, InRegion::of(*cell), &left.barred)?;
             let trees = kids.trees();
-            let told = all_lessened(alloc, site, &left, &places, trees, room - 1, is_first)?;
-            let needless = site.needless(alloc, &left, *cell, &places, &told, is_first)?;
+            let told = all_lessened(alloc, whole, &left, &places, trees, room - 1, is_first)?;
+            let finished = FinishedBranch {
+                whole,
+                left: &left,
+                cell: *cell,
+                places: &places,
+                kids: &told,
+            };
+            let needless = finished.needless(alloc, is_first)?;
             let kids = if needless.bars.is_empty() {
                 told
             } else {
                 let trees = trees_of(alloc, told)?;
                 left.leave_out(&needless);
-                all_lessened(alloc, site, &left, &places, &trees, room - 1, false)?
+                all_lessened(alloc, whole, &left, &places, &trees, room - 1, false)?
             };
             branch(alloc, *cell, kids, needless, &mut spoken)?
         }
         Proof::Omit { cells, kid } => {
             left.omit(cells.as_slice());
-            let told = lessened(alloc, site, left, kid.tree(), room - 1, is_first)?;
+            let told = lessened(alloc, whole, left, kid.tree(), room - 1, is_first)?;
             let Told {
                 tree,
                 spoken: below,
@@ -98,7 +102,7 @@ fn lessened(
 #[cycle(lessening)]
 fn all_lessened(
     alloc: Global,
-    site: RegionInstance<'_>,
+    whole: RegionInstance<'_>,
     left: &NodeRows,
     places: &[u32],
     trees: &[Proof],
@@ -115,27 +119,14 @@ fn all_lessened(
                 barred: Vec::from_slice(alloc, &barred)?,
                 gone: Vec::from_slice(alloc, &left.gone)?,
             };
-            for lit in site.instance.spread(InRegion::of(place)) {
+            for lit in whole.instance.spread(InRegion::of(place)) {
                 clear_bit(below.unlit.as_mut_slice(), *lit as usize);
             }
-            found.push(lessened(alloc, site, below, &trees[index], room, is_first)?)?;
+            found.push(lessened(alloc, whole, below, &trees[index], room, is_first)?)?;
         }
         set_bit(barred.as_mut_slice(), place as usize);
     }
     Ok(found)
-}
-
-impl<'a> RegionInstance<'a> {
-    /// The places that light a cell and aren't barred: those of the kids of a branch on it.
-    fn open_at(self, alloc: Global, left: &NodeRows, cell: u32) -> Result<Vec<u32>, AllocError> {
-        let mut open = Vec::new(alloc);
-        for place in self.instance.sources(InRegion::of(cell)) {
-            if !is_set(&left.barred, *place as usize) {
-                open.push(*place)?;
-            }
-        }
-        Ok(open)
-    }
 }
 
 impl NodeRows {
@@ -206,7 +197,7 @@ fn omitted(alloc: Global, cells: Vec<u32>, tree: Proof) -> Result<Proof, AllocEr
         return Ok(tree);
     }
     Ok(Proof::Omit {
-        cells: Cells::of(cells),
+        cells: Sequence::from_vec(cells),
         kid: Below::of(alloc, tree)?,
     })
 }

@@ -5,18 +5,10 @@
 //! which know no cells that are left out, can say it.
 
 use crate::spoken::Spoken;
-use cave_regions::Region;
-use instance_reduction::{InRegion, ReducedInstance, has_each, is_set, keep_all, set_bit};
+use instance_reduction::{RegionInstance, keep_all, set_bit};
 use proof_tree::Proof;
 use std::alloc::{AllocError, Global};
 use tree_judges::Bar;
-
-/// A region, and its reduced instance.
-#[derive(Clone, Copy)]
-pub(crate) struct RegionInstance<'a> {
-    pub region: &'a Region,
-    pub instance: &'a ReducedInstance,
-}
 
 /// Rows of the cells that are unlit at a node and not left out, of the places that are barred there, and of those that
 /// are, though the tree doesn't know it.
@@ -34,6 +26,16 @@ pub(crate) struct Told {
     pub spoken: Spoken,
 }
 
+/// A finished branch on a cell at a node: the places of its kids, and their trees.
+#[derive(Clone, Copy)]
+pub(crate) struct FinishedBranch<'a> {
+    pub whole: RegionInstance<'a>,
+    pub left: &'a NodeRows,
+    pub cell: u32,
+    pub places: &'a [u32],
+    pub kids: &'a [Told],
+}
+
 /// Which kids of a branch can go, the places to leave out for that, and a row of the cells.
 #[derive(Drop)]
 pub(crate) struct Needless {
@@ -42,23 +44,16 @@ pub(crate) struct Needless {
     pub cells: Vec<u64>,
 }
 
-impl<'a> RegionInstance<'a> {
-    /// The kids of a branch that it can do without, the longest trees first; none where they aren't looked for.
-    pub(crate) fn needless(
-        self,
-        alloc: Global,
-        left: &NodeRows,
-        cell: u32,
-        places: &[u32],
-        kids: &[Told],
-        is_first: bool,
-    ) -> Result<Needless, AllocError> {
+impl<'a> FinishedBranch<'a> {
+    /// The kids that the branch can do without, the longest trees first; none where they aren't looked for.
+    pub(crate) fn needless(self, alloc: Global, is_first: bool) -> Result<Needless, AllocError> {
+        let kids = self.kids;
         let mut found = Needless {
             is_gone: vec![in alloc; false; kids.len()]?,
             bars: Vec::new(alloc),
-            cells: vec![in alloc; 0u64; left.unlit.len()]?,
+            cells: vec![in alloc; 0u64; self.left.unlit.len()]?,
         };
-        if !is_first || places.len() != kids.len() || !has_weights(kids) {
+        if !is_first || self.places.len() != kids.len() || !has_weights(kids) {
             return Ok(found);
         }
         let mut order = Vec::with_capacity(alloc, kids.len())?;
@@ -69,7 +64,7 @@ impl<'a> RegionInstance<'a> {
         for _ in 0..kids.len() {
             let before = found.bars.len();
             for (_, index) in &order {
-                self.try_without(alloc, left, cell, places, kids, *index, &mut found)?;
+                self.try_without(alloc, *index, &mut found)?;
             }
             if found.bars.len() == before {
                 break;
@@ -82,41 +77,31 @@ impl<'a> RegionInstance<'a> {
     fn try_without(
         self,
         alloc: Global,
-        left: &NodeRows,
-        cell: u32,
-        places: &[u32],
-        kids: &[Told],
         index: usize,
         found: &mut Needless,
     ) -> Result<(), AllocError> {
-        let place = places.get(index).copied().unwrap_or(u32::MAX);
-        if found.is_gone_at(index) || is_needed(kids, &found.is_gone, index, place) {
+        let unlit = self.left.unlit.as_slice();
+        let place = self.places.get(index).copied().unwrap_or(u32::MAX);
+        if found.is_gone_at(index) || is_needed(self.kids, &found.is_gone, index, place) {
             return Ok(());
         }
-        let mut rest = vec![in alloc; 0u64; left.unlit.len()]?;
-        for (other, kid) in kids.iter().enumerate() {
+        let mut rest = vec![in alloc; 0u64; unlit.len()]?;
+        for (other, kid) in self.kids.iter().enumerate() {
             if other != index && !found.is_gone_at(other) {
                 kid.spoken.write_cells(rest.as_mut_slice());
             }
         }
-        set_bit(rest.as_mut_slice(), cell as usize);
-        keep_all(rest.as_mut_slice(), &left.unlit);
-        let lit = self.instance.spread(InRegion::of(place));
-        for (other, by) in places.iter().enumerate() {
+        set_bit(rest.as_mut_slice(), self.cell as usize);
+        keep_all(rest.as_mut_slice(), unlit);
+        for (other, by) in self.places.iter().enumerate() {
             let by = *by;
             if other != index
                 && !found.is_gone_at(other)
-                && (by as usize) < self.region.places().len()
-                && has_each(self.region.row_at(by as usize), &rest, lit)
+                && self.whole.is_within(place, by, &rest)
             {
                 found.bars.push(Bar { place, by })?;
-                let row = self.region.row_at(by as usize);
-                for cell in lit {
-                    let cell = *cell as usize;
-                    if is_set(&left.unlit, cell) && !is_set(row, cell) {
-                        set_bit(found.cells.as_mut_slice(), cell);
-                    }
-                }
+                let cells = found.cells.as_mut_slice();
+                self.whole.mark_beyond(place, by, unlit, cells);
                 found.go(index);
                 return Ok(());
             }

@@ -1,14 +1,14 @@
 //! What the results of workers merge to, with the caller's own work.
-ghost use Rattle.std.specs.Prelude.{◌≡◌, ◌≤◌, ◌<◌, ◌+◌, ◌^◌, IfErr, IfOk, length};
 ghost use Rattle.std.specs.Arc.{arc_value};
-ghost use Rattle.worker_results.specs.Joining.{IsRootSplit};
+ghost use Rattle.std.specs.Prelude.{◌≡◌, ◌≤◌, ◌<◌, ◌+◌, ◌^◌, IfErr, IfOk, length};
 ghost use Rattle.proof_tree.specs.Shape.{tree_of};
 ghost use Rattle.schedule_law.specs.Worked.{IsCoverFor};
-ghost use Rattle.search_traits.specs.Planned.{IsBest, IsFloor};
 ghost use Rattle.search_pool.specs.Reports.{AddsUp, IsMerged, StopsPool};
-ghost use Rattle.search_pool.specs.Runs.{IsRun};
-ghost use Rattle.search_traits.specs.Turns.{IsWithin};
 ghost use Rattle.search_pool.specs.Rows.{counted};
+ghost use Rattle.search_pool.specs.Runs.{IsRun};
+ghost use Rattle.search_traits.specs.Planned.{IsBest, IsFloor};
+ghost use Rattle.search_traits.specs.Turns.{IsWithin};
+ghost use Rattle.worker_results.specs.Joining.{IsRootSplit};
 
 use crate::piece_counts::{PieceCounts, count_pieces};
 use crate::pool::Ran;

@@ -1,11 +1,11 @@
 //! Planning a region with many workers.
-ghost use Rattle.std.specs.Prelude.{◌≡◌, ◌≤◌, Contains, IfErr, IfOk, length, replicate};
 ghost use Rattle.std.specs.Arc.{arc_value};
-ghost use Rattle.worker_results.specs.Joining.{IsRootSplit};
+ghost use Rattle.std.specs.Prelude.{◌≡◌, ◌≤◌, Contains, IfErr, IfOk, length, replicate};
 ghost use Rattle.proof_tree.specs.Shape.{tree_of};
+ghost use Rattle.search_pool.specs.Reports.{AddsUp, IsOneLeaf, IsReport, StopsPool};
 ghost use Rattle.search_traits.specs.Planned.{IsBest, IsLeaf, ProvesAt};
 ghost use Rattle.search_traits.specs.Turns.{IsWithin};
-ghost use Rattle.search_pool.specs.Reports.{AddsUp, IsOneLeaf, IsReport, StopsPool};
+ghost use Rattle.worker_results.specs.Joining.{IsRootSplit};
 
 use crate::merging::merged;
 use crate::pool::Run;

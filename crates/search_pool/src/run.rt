@@ -1,8 +1,8 @@
 //! Workers are started and joined one after another.
-ghost use Rattle.std.specs.Prelude.{◌≡◌, ◌≤◌, ◌<◌, ◌+◌, ◌^◌, ◌∷◌, IfOk, IfSome, IsTrue, length};
 ghost use Rattle.std.specs.Arc.{arc_value};
-ghost use Rattle.worker_results.specs.Naming.{AreThieves};
+ghost use Rattle.std.specs.Prelude.{◌≡◌, ◌≤◌, ◌<◌, ◌+◌, ◌^◌, ◌∷◌, IfOk, IfSome, IsTrue, length};
 ghost use Rattle.search_pool.specs.Rows.{AreFrom, AreOfShares};
+ghost use Rattle.worker_results.specs.Naming.{AreThieves};
 
 use crate::turns::shares_of;
 use crate::unrun::Unrun;
@@ -34,6 +34,24 @@ fn in_front<B: Naming>(done: Done<B>, mut others: Vec<Done<B>>) -> Result<Vec<Do
 {
     others.insert(0, done)?;
     Ok(others)
+}
+
+/// The result of a worker that could not be started, if its slot holds what is its.
+fn idle<B: Naming, R: Wait>(
+    rt: &R,
+    slot: &Slot<B>,
+    worker: u32,
+    turns: Option<u64>,
+) -> Option<Done<B>>
+    ensures { IfSome result (λ done. (done.share.worker ≡ worker) × (done.turns.limit ≡ turns)) }
+{
+    let Some(berth) = slot.lock(rt).take() else {
+        return None;
+    };
+    if berth.worker() != worker {
+        return None;
+    }
+    Some(berth.idle(turns))
 }
 
 /// Starts a worker for each slot, one after another, and joins them, the last first. The first one has its own turns,
@@ -71,44 +89,25 @@ pub(crate) fn run_from<
         ensures { IfSome result (λ done. (done.share.worker ≡ worker) × (done.turns.limit ≡ own)) }
     { work_one::<B, S, R, O>(rt, alloc, shared, slot, observer, worker, own) };
     let promise = IsOf { worker, turns: own };
-    match scope.spawn_with(promise, work) {
-        Ok(child) => {
-            let others = run_from::<B, S, R, O>(
-                scope,
-                rt,
-                alloc,
-                shared,
-                rest,
-                observer,
-                worker + 1,
-                each,
-                each,
-            )?;
-            let Some(done) = child.join(rt) else {
-                return Err(Unrun::NoThread);
-            };
-            in_front(done, others)
-        }
-        Err(_) => {
-            let Some(berth) = slot.lock(rt).take() else {
-                return Err(Unrun::NoThread);
-            };
-            if berth.worker() != worker {
-                return Err(Unrun::NoThread);
-            }
-            let others = run_from::<B, S, R, O>(
-                scope,
-                rt,
-                alloc,
-                shared,
-                rest,
-                observer,
-                worker + 1,
-                each,
-                each,
-            )?;
-            in_front(berth.idle(own), others)
-        }
+    let child = scope.spawn_with(promise, work);
+    let others = run_from::<B, S, R, O>(
+        scope,
+        rt,
+        alloc,
+        shared,
+        rest,
+        observer,
+        worker + 1,
+        each,
+        each,
+    )?;
+    let done = match child {
+        Ok(child) => child.join(rt),
+        Err(_) => idle(rt, slot, worker, own),
+    };
+    match done {
+        Some(done) => in_front(done, others),
+        None => Err(Unrun::NoThread),
     }
 }
 

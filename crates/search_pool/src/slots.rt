@@ -1,10 +1,10 @@
 //! Filling the workers' slots: for each worker a seat at the beacon, its own deque, and a pass at each deque.
 ghost use Rattle.std.specs.Prelude.{◌≡◌, ◌+◌, ◌≤◌, [], true, All, IfOk, length, map};
+ghost use Rattle.search_pool.specs.Seats.{SplitsOff};
+ghost use Rattle.search_pool.specs.Slots.{AreOwners, IsReady, handed_out, numbers_of, pass_at};
 ghost use Rattle.worker_results.specs.Naming.{numbers_from};
 ghost use Rattle.worker_results.specs.Passes.{all_taken};
 ghost use Rattle.worker_results.specs.Results.{IsNewSeatAt};
-ghost use Rattle.search_pool.specs.Slots.{AreOwners, IsReady, handed_out, numbers_of, pass_at};
-ghost use Rattle.search_pool.specs.Seats.{SplitsOff};
 
 use crate::worker::Slot;
 use beacon::{Beacon, Seat};

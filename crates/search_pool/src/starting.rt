@@ -1,13 +1,13 @@
 //! A run of workers over a root that is opened.
-ghost use Rattle.std.specs.Prelude.{◌≡◌, IfOk, length};
 ghost use Rattle.std.specs.Arc.{arc_value};
+ghost use Rattle.std.specs.Prelude.{◌≡◌, IfOk, length};
 ghost use Rattle.beacon.specs.Marks.{at_first};
 ghost use Rattle.proof_tree.specs.Opened.{kids_of};
-ghost use Rattle.worker_results.specs.Joining.{IsRootSplit, StartWith};
 ghost use Rattle.search_pool.specs.Deques.{deque_at, pushed_at};
-ghost use Rattle.search_traits.specs.Turns.{IsWithin};
 ghost use Rattle.search_pool.specs.Runs.{IsRun};
 ghost use Rattle.search_pool.specs.Slots.{AreOwners};
+ghost use Rattle.search_traits.specs.Turns.{IsWithin};
+ghost use Rattle.worker_results.specs.Joining.{IsRootSplit, StartWith};
 ghost use Rattle.worker_results.specs.Naming.{AreThieves};
 
 use crate::pool::{Ran, Run, run_named};

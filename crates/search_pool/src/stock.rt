@@ -1,9 +1,9 @@
 //! The deques of all workers with the root's kids on the first one, and their thieves.
 ghost use Rattle.std.specs.Prelude.{◌≡◌, IfOk, length};
-ghost use Rattle.worker_results.specs.Joining.{StartWith};
 ghost use Rattle.proof_tree.specs.Opened.{kids_of};
 ghost use Rattle.search_pool.specs.Deques.{deque_at, pushed_at};
 ghost use Rattle.search_pool.specs.Slots.{AreOwners};
+ghost use Rattle.worker_results.specs.Joining.{StartWith};
 ghost use Rattle.worker_results.specs.Naming.{AreThieves};
 
 use crate::deques::{stocked_all, thieves_of};

@@ -1,8 +1,8 @@
 //! The turns that workers share.
 ghost use Rattle.std.specs.Prelude.{◌≡◌, ◌<◌};
-ghost use Rattle.search_traits.specs.Turns.{IsWithin};
 ghost use Rattle.search_pool.specs.Rows.{AreShares, AreSpendings, all_granted, counted, is_spent, is_started};
 ghost use Rattle.search_pool.specs.Turns.{left};
+ghost use Rattle.search_traits.specs.Turns.{IsWithin};
 
 use worker_results::{Done, Naming};
 

@@ -1,6 +1,6 @@
 //! One worker.
-ghost use Rattle.std.specs.Prelude.{◌≡◌, ◌<◌, IfSome, length};
 ghost use Rattle.std.specs.Arc.{arc_value};
+ghost use Rattle.std.specs.Prelude.{◌≡◌, ◌<◌, IfSome, length};
 ghost use Rattle.worker_results.specs.Naming.{AreThieves};
 ghost use Rattle.worker_results.specs.Steps.{KeepFloors};
 

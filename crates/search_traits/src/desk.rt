@@ -1,8 +1,8 @@
 //! Where a search looks for the size to beat, and offers covers.
 ghost use Rattle.std.specs.Prelude.{◌≡◌, ◌≤◌, ℕ, Option, length, OnOk, OnErr};
-ghost use Rattle.set_cover.specs.Instance.{Instance};
 ghost use Rattle.search_traits.specs.Sizes.{IsAtMost, lesser};
 ghost use Rattle.search_traits.specs.Turns.{Enters};
+ghost use Rattle.set_cover.specs.Instance.{Instance};
 
 use cave_model::OutOfMemory;
 use cave_regions::Cover;

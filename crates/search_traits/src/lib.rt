@@ -12,5 +12,5 @@ mod region_fault;
 pub use desk::Desk;
 pub use observer::{Observer, Unobserved};
 pub use planner::{BestPlan, Planner};
-pub use proposer::{Proposal, Proposer, Strategy};
-pub use region_fault::RegionFault;
+pub use proposer::{Proposal, Proposer, Strategy, Task};
+pub use region_fault::{RegionFault, RegionPlan};

@@ -8,6 +8,15 @@ use proof_tree::Proof;
 use std::alloc::{AllocError, Global};
 use tree_judges::Bar;
 
+/// What is asked of a proposer: a node of a region, and the floor of the tree that is wanted for it. With no floor it
+/// is the node where the search begins.
+#[derive(Clone, Copy)]
+pub struct Task<'a> {
+    pub region: &'a Region,
+    pub node: &'a Node,
+    pub floor: Option<u64>,
+}
+
 /// What is proposed at a node, by the indices of cells and places in the region.
 #[derive(Drop)]
 pub struct Proposal {
@@ -23,16 +32,10 @@ pub struct Proposal {
 
 /// The heuristics of a search, and what they remember of the nodes above the one that is worked on.
 pub trait Proposer {
-    /// What is proposed at a node for a tree of this floor, which the tree may fall short of. With no floor, at the
-    /// node where the search begins: a cover, as large a leaf as is found, and a cell to branch on.
-    fn propose(
-        &mut self,
-        alloc: Global,
-        region: &Region,
-        node: &Node,
-        floor: Option<u64>,
-    ) -> Result<Proposal, AllocError>
-        requires { IsStateOf region.now node.now };
+    /// What is proposed at a node for a tree of this floor, which the tree may fall short of. With no floor: a cover,
+    /// as large a leaf as is found, and a cell to branch on.
+    fn propose(&mut self, alloc: Global, task: Task<'_>) -> Result<Proposal, AllocError>
+        requires { IsStateOf task.region.now task.node.now };
 }
 
 /// Heuristics that a planner is put together with: how a proposer is made, and what is proposed of whole regions and

@@ -2,9 +2,13 @@
 ghost use Rattle.std.specs.Prelude.{◌≡◌};
 ghost use Rattle.search_traits.specs.declared.region_fault.RegionFault.TheVariants as region;
 
+use crate::planner::BestPlan;
 use cave_model::OutOfMemory;
 use cave_regions::Cover;
 use std::alloc::AllocFailed;
+
+/// The plan of a region, or why it has none.
+pub type RegionPlan = Result<BestPlan, RegionFault>;
 
 /// Why a region has no plan.
 #[derive(Drop)]

@@ -11,7 +11,7 @@ mod numbering;
 mod search;
 mod walk;
 
-pub use change::{add, add_apart, clear, empty};
+pub use change::{add, add_apart, add_each, clear, empty};
 pub use counting::count;
 pub use instance::Instance;
 pub use look::{first, has, is_within, meet};

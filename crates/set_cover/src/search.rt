@@ -1,5 +1,5 @@
-ghost use Rattle.std.specs.Prelude.{MatchOption, Contains};
 ghost use Rattle.std.specs.List.Sorted.{IsStrictlyIncreasing};
+ghost use Rattle.std.specs.Prelude.{MatchOption, Contains};
 ghost use Rattle.set_cover.specs.Instance.{StandsAt};
 
 use cave_base::Cell;

@@ -1,8 +1,8 @@
 //! A run of the program: what the words of its command line ask for is done, and an exit status answered.
-ghost use Rattle.std.specs.Prelude.{◌≡◌, ◌⊎◌, IsSome, IsTrue, map, string_bytes};
 ghost use Rattle.std.specs.Io.KnownBytes.{Keeps};
-ghost use Rattle.torch_plan.specs.Answers.{Answers, Does};
+ghost use Rattle.std.specs.Prelude.{◌≡◌, ◌⊎◌, IsSome, IsTrue, map, string_bytes};
 ghost use Rattle.clap.specs.Words.{kind_of};
+ghost use Rattle.torch_plan.specs.Answers.{Answers, Does};
 ghost use Rattle.torch_plan.specs.Status.{IsRefused, end_status, judged, status};
 ghost use Rattle.torch_plan.specs.Usage.{explained_status};
 

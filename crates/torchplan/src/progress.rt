@@ -55,7 +55,17 @@ impl<'r> Progress<'r> {
         let _ = eprintln!(self.rt; "torchplan: {advance}");
     }
 
-    /// Whether a line is due. The caller prints it: another thread finds none due then.
+    /// The number of the region that is planned and how many there are, where a line is due. The caller prints it:
+    /// another thread finds none due then.
+    fn region_due(&self) -> Option<(u64, u64)> {
+        if !self.is_due() {
+            return None;
+        }
+        let region = self.region.load(Ordering::SeqCst);
+        Some((region, self.regions.load(Ordering::SeqCst)))
+    }
+
+    /// Whether a line is due, which is taken to be printed then.
     fn is_due(&self) -> bool {
         if !self.is_asked.load(Ordering::SeqCst) {
             return false;
@@ -70,6 +80,11 @@ impl<'r> Progress<'r> {
     }
 }
 
+/// Counts one more: how many there are then.
+fn counted(count: &AtomicU64) -> u64 {
+    count.fetch_add(1, Ordering::SeqCst).saturating_add(1)
+}
+
 impl Observer for Progress<'_> {
     fn region(&self, number: usize, count: usize) {
         self.region.store(number as u64, Ordering::SeqCst);
@@ -79,25 +94,25 @@ impl Observer for Progress<'_> {
     }
 
     fn turn(&self, size: u64, aim: u64) {
-        let before = self.turns.fetch_add(1, Ordering::SeqCst);
-        if self.is_due() {
+        let turns = counted(&self.turns);
+        if let Some((region, regions)) = self.region_due() {
             self.tell(&Advance::Turns {
-                region: self.region.load(Ordering::SeqCst),
-                regions: self.regions.load(Ordering::SeqCst),
+                region,
+                regions,
                 floor: aim.saturating_sub(1),
                 size,
-                turns: before.saturating_add(1),
+                turns,
             });
         }
     }
 
     fn enter(&self, _worker: u32, _name: &Name) {
-        let before = self.pieces.fetch_add(1, Ordering::SeqCst);
-        if self.is_due() {
+        let pieces = counted(&self.pieces);
+        if let Some((region, regions)) = self.region_due() {
             self.tell(&Advance::Pieces {
-                region: self.region.load(Ordering::SeqCst),
-                regions: self.regions.load(Ordering::SeqCst),
-                pieces: before.saturating_add(1),
+                region,
+                regions,
+                pieces,
             });
         }
     }

@@ -18,6 +18,7 @@ use Rattle.proof_rules.proofs.OmitLemmas.{bool_cases, left_from, left_is_other, 
 use Rattle.proof_tree.specs.declared.proof.Proof.{Proof}
 use Rattle.proof_tree.specs.Shape.{tree_of, forest_of}
 use Rattle.pack_bound.specs.Indices.{cell_indices}
+use Rattle.pack_bound.specs.Judged.{MayGiveWay}
 use Rattle.pack_bound.specs.Nodes.{NodeState, IsStateOf, Closes}
 use Rattle.pack_bound.proofs.NodeLemmas.{row_of_state, lit_outside}
 use Rattle.pack_bound.proofs.NumberLemmas.{number_in, below_number}
@@ -199,18 +200,17 @@ omitted_below region cells cell m h =
 
 -- a place that lights no more of the row than another may be left out where no more is left
 pub barred_over : (region : Instance) (state : NodeState) (left : List ℕ) (place by : ℕ)
-    → place < length region.places → by < length region.places → place ≢ by
-    → (¬ Has state.barred place) → (¬ Has state.barred by) → (¬ Contains state.chosen place)
+    → MayGiveWay region state place by
     → IsWithin (row_of region place) left (row_of region by) → MayBeBarredOver region state left place by
-barred_over region state left place by inside by_inside other free by_free new within = record {
-  inside = inside;
+barred_over region state left place by gives within = record {
+  inside = gives.inside;
   dominated = λ barred cells listed are. record {
-    legal = inside;
-    by_legal = by_inside;
-    other = other;
-    free = λ c. free ((listed.exact place).1 c);
-    by_free = λ c. by_free ((listed.exact by).1 c);
-    unchosen = new;
+    legal = gives.inside;
+    by_legal = gives.by_inside;
+    other = gives.other;
+    free = λ c. gives.free ((listed.exact place).1 c);
+    by_free = λ c. gives.by_free ((listed.exact by).1 c);
+    unchosen = gives.unchosen;
     does_as_well = λ cell of_it lights. elim (are cell of_it) [
       | inl lit ↦ inl lit
       | inr unlit ↦ inr (within cell lights unlit)

@@ -1,8 +1,8 @@
 //! Places that are left out.
 ghost use Rattle.std.specs.Prelude.{◌≡◌, IfOk};
+ghost use Rattle.pack_bound.specs.Nodes.{IsStateOf};
 ghost use Rattle.proof_rules.specs.Tree.{bar};
 ghost use Rattle.proof_tree.specs.Shape.{tree_of};
-ghost use Rattle.pack_bound.specs.Nodes.{IsStateOf};
 ghost use Rattle.tree_judges.specs.Bars.{wrapped, TakesBars};
 
 use cave_regions::Region;

@@ -1,15 +1,15 @@
 //! Numbers of cells and places in place of their indices.
 ghost use Rattle.std.specs.Prelude.{◌≡◌, IfOk, map, slice_index};
+ghost use Rattle.pack_bound.specs.Naming.{cell_numbers, numbered_group, numbered, all_numbered};
 ghost use Rattle.proof_rules.specs.Tree.{leaf, weighted};
 ghost use Rattle.proof_tree.specs.Shape.{tree_of, forest_of};
-ghost use Rattle.pack_bound.specs.Naming.{cell_numbers, numbered_group, numbered, all_numbered};
 
 use crate::bars::{Bar, wrap};
-use cave_base::Cell;
+use cave_base::{Cell, Sequence};
 use cave_regions::Region;
 use pack_bound::{number_at, numbers_of_cells};
-use proof_rules::{Group, Share, Shares};
-use proof_tree::{Below, Cells, Groups, Kids, Proof};
+use proof_rules::{Group, Share};
+use proof_tree::{Below, Kids, Proof};
 use std::alloc::{AllocError, Global};
 use std::mem;
 
@@ -44,7 +44,7 @@ pub fn with_numbers(alloc: Global, region: &Region, tree: Proof) -> Result<Proof
                 rest = kid.into_tree();
             }
             Proof::Omit { cells, kid } => {
-                let cells = Cells::of(numbers_of_cells(region, cells.into_items()));
+                let cells = Sequence::from_vec(numbers_of_cells(region, cells.into_vec()));
                 let kid = Below::of(alloc, with_numbers(alloc, region, kid.into_tree())?)?;
                 let whole = wrap(alloc, bars, Proof::Omit { cells, kid })?;
                 return Ok(whole);
@@ -70,20 +70,20 @@ fn all_with_numbers(
 }
 
 /// The leaf with numbers in place of indices.
-fn leaf_with_numbers(region: &Region, cells: Cells) -> Proof
+fn leaf_with_numbers(region: &Region, cells: Sequence<u32>) -> Proof
     ensures { tree_of result ≡ leaf (cell_numbers region.now cells) }
 {
-    let numbers = numbers_of_cells(region, cells.into_items());
-    Proof::Leaf(Cells::of(numbers))
+    let numbers = numbers_of_cells(region, cells.into_vec());
+    Proof::Leaf(Sequence::from_vec(numbers))
 }
 
 /// The weighted leaf with numbers in place of indices.
-fn weighted_with_numbers(alloc: Global, region: &Region, groups: Groups) -> Proof
+fn weighted_with_numbers(alloc: Global, region: &Region, groups: Sequence<Group>) -> Proof
     ensures { tree_of result ≡ weighted (map (numbered_group region.now) groups) }
 {
-    let mut groups = groups.into_items();
+    let mut groups = groups.into_vec();
     put_group_numbers(alloc, region, groups.as_mut_slice());
-    Proof::Weighted(Groups::of(groups))
+    Proof::Weighted(Sequence::from_vec(groups))
 }
 
 /// Writes the group with numbers over each group.
@@ -93,7 +93,7 @@ fn put_group_numbers(alloc: Global, region: &Region, groups: &mut [Group])
     for group in groups.iter_mut() {
         let empty = Group {
             capacity: 0,
-            shares: Shares::of(Vec::new(alloc)),
+            shares: Sequence::from_vec(Vec::new(alloc)),
         };
         let old = mem::replace(group, empty);
         *group = group_with_numbers(region, old);
@@ -105,11 +105,11 @@ fn group_with_numbers(region: &Region, group: Group) -> Group
     ensures { result ≡ numbered_group region.now group }
 {
     let Group { capacity, shares } = group;
-    let mut items = shares.into_items();
+    let mut items = shares.into_vec();
     put_share_numbers(region.cells(), items.as_mut_slice());
     Group {
         capacity,
-        shares: Shares::of(items),
+        shares: Sequence::from_vec(items),
     }
 }
 

@@ -1,18 +1,18 @@
 //! Cells that are left out. What closes a node with all of its cells, and speaks of none of those that are left out,
 //! closes it without them. The judges answer for their `true` alone.
 ghost use Rattle.std.specs.Prelude.{◌≡◌, ◌*◌, ◌<◌, [], ℕ, Contains, IsTrue, IfOk, length};
-ghost use Rattle.set_cover.specs.Bits.{Has, IsRowOf, IsWithout};
-ghost use Rattle.proof_rules.specs.Omitted.{MayBeOmitted};
-ghost use Rattle.proof_tree.specs.Shape.{tree_of, forest_of};
 ghost use Rattle.pack_bound.specs.Indices.{cell_indices};
 ghost use Rattle.pack_bound.specs.Nodes.{IsStateOf};
+ghost use Rattle.proof_rules.specs.Omitted.{MayBeOmitted};
+ghost use Rattle.proof_tree.specs.Shape.{tree_of, forest_of};
+ghost use Rattle.set_cover.specs.Bits.{Has, IsRowOf, IsWithout};
 ghost use Rattle.tree_judges.specs.Omission.{CellsAvoid, SharesAvoid, GroupsAvoid, Avoids, AllAvoid, MayBeBarredOver};
 
 use cave_regions::Region;
-use pack_bound::Node;
+use pack_bound::{Node, may_give_way};
 use proof_rules::{Group, Share};
 use proof_tree::Proof;
-use set_cover::{add, clear, empty, has, is_within};
+use set_cover::{add_each, clear, empty, has, is_within};
 use std::alloc::{AllocError, Global};
 
 /// Whether the cells may be left out: some of the region's, ascending.
@@ -45,20 +45,8 @@ pub(crate) fn omitted_row(
     ensures whole { IfOk result (λ row. length row.items ≡ region.now.width) }
 {
     let mut row = empty(alloc, region.width())?;
-    add_cells(cells, row.as_mut_slice());
+    add_each(cells, row.as_mut_slice());
     Ok(row)
-}
-
-/// Sets these bits in a row without any.
-fn add_cells(cells: &[u32], row: &mut [u64])
-    requires inside { (cell : ℕ) → Contains cells.now cell → cell < 64 * length row.old }
-    requires none { IsRowOf [] row.old }
-    ensures all { IsRowOf cells.now row.new }
-    ensures whole { length row.new ≡ length row.old }
-{
-    for cell in cells {
-        add(row, *cell as usize);
-    }
 }
 
 /// A row of the cells that no chosen place lights and that aren't left out.
@@ -81,21 +69,12 @@ pub(crate) fn is_bar_over(region: &Region, node: &Node, left: &[u64], place: u32
     requires left { length left.now ≡ region.now.width }
     ensures { IsTrue result → MayBeBarredOver region.now node.now left.now place by }
 {
-    let places = region.places().len();
-    if place as usize >= places || by as usize >= places || place == by {
-        return false;
-    }
-    if has(node.barred(), place as usize) || has(node.barred(), by as usize) {
-        return false;
-    }
-    if node.chosen().contains(&place) {
-        return false;
-    }
-    is_within(
-        region.row_at(place as usize),
-        left,
-        region.row_at(by as usize),
-    )
+    may_give_way(region, node, place, by)
+        && is_within(
+            region.row_at(place as usize),
+            left,
+            region.row_at(by as usize),
+        )
 }
 
 /// Whether the tree speaks of no cell of a row.

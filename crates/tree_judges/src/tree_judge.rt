@@ -1,9 +1,9 @@
 //! Judging a whole tree, as a copied or a pruned one.
 ghost use Rattle.std.specs.Prelude.{IsTrue, IfOk};
-ghost use Rattle.set_cover.specs.Bits.{Has, IsWithout};
-ghost use Rattle.proof_tree.specs.Shape.{tree_of, forest_of};
-ghost use Rattle.pack_bound.specs.Nodes.{IsStateOf, Closes};
 ghost use Rattle.pack_bound.specs.Judged.{AreKidPlaces};
+ghost use Rattle.pack_bound.specs.Nodes.{IsStateOf, Closes};
+ghost use Rattle.proof_tree.specs.Shape.{tree_of, forest_of};
+ghost use Rattle.set_cover.specs.Bits.{Has, IsWithout};
 ghost use Rattle.tree_judges.specs.Kids.{ClosesKids};
 ghost use Rattle.tree_judges.specs.Omission.{ClosesWithout};
 

@@ -1,10 +1,10 @@
 //! The judge of weighted leaves. It answers for its `true` alone.
 ghost use Rattle.std.specs.Prelude.{◌≡◌, ◌<◌, IsTrue, IfOk, slice_index};
-ghost use Rattle.proof_rules.specs.Tree.{weighted};
-ghost use Rattle.proof_rules.specs.Groups.{cells_of, AreGroups, IsGroup};
 ghost use Rattle.pack_bound.specs.Nodes.{IsStateOf, Closes};
-ghost use Rattle.weight_judge.specs.Claims.{claims_of as list_of};
+ghost use Rattle.proof_rules.specs.Groups.{cells_of, AreGroups, IsGroup};
+ghost use Rattle.proof_rules.specs.Tree.{weighted};
 ghost use Rattle.tree_judges.specs.Weighted.{claimed, AreShares, MayBeWeighted};
+ghost use Rattle.weight_judge.specs.Claims.{claims_of as list_of};
 
 use crate::open_lists::open_lists;
 use cave_regions::Region;

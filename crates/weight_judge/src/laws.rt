@@ -1,12 +1,12 @@
 //! Laws over the definitions alone.
-ghost use Rattle.std.specs.Prelude.{ℕ, List, ◌↔◌, All};
 ghost use Rattle.std.specs.List.{AllPairs};
+ghost use Rattle.std.specs.Prelude.{ℕ, List, ◌↔◌, All};
 ghost use Rattle.cave_model.specs.Cave.{Cave};
 ghost use Rattle.cave_model.specs.Coverage.{of_cave};
 ghost use Rattle.cave_model.specs.Plan.{AreDistinct};
-ghost use Rattle.proof_rules.specs.declared.groups.Group.{Group};
-ghost use Rattle.proof_rules.specs.Groups.{all_cells_of};
 ghost use Rattle.proof_rules.specs.Good.{KeepsCapacity, ShareNoPlace};
+ghost use Rattle.proof_rules.specs.Groups.{all_cells_of};
+ghost use Rattle.proof_rules.specs.declared.groups.Group.{Group};
 ghost use Rattle.weight_judge.specs.Claims.{claims_of};
 ghost use Rattle.weight_judge.specs.Held.{AreAllKept, AreAllOpen};
 

@@ -1,16 +1,16 @@
 //! Groups of a weighted leaf, of whole weights.
 
-use crate::kernel::Left;
-use instance_reduction::is_set;
+use cave_base::Sequence;
+use instance_reduction::{RowsLeft, is_set};
 use linear_relaxation::WholeWeights;
-use proof_rules::{Group, Share, Shares};
+use proof_rules::{Group, Share};
 use std::alloc::{AllocError, Global};
 
 /// Adds the group of those of these cells that are left, one weight each, at a capacity of one; none where none is.
 pub(crate) fn push_alone(
     alloc: Global,
     groups: &mut Vec<Group>,
-    left: Left<'_>,
+    left: RowsLeft<'_>,
     cells: &[u32],
 ) -> Result<(), AllocError> {
     let mut shares = Vec::new(alloc);
@@ -24,7 +24,7 @@ pub(crate) fn push_alone(
 pub(crate) fn push_group(
     alloc: Global,
     groups: &mut Vec<Group>,
-    left: Left<'_>,
+    left: RowsLeft<'_>,
     cells: &[u32],
     whole: &WholeWeights<'_>,
 ) -> Result<(), AllocError> {
@@ -38,7 +38,7 @@ pub(crate) fn push_group(
 /// Adds the share of a cell of the instance, if it is left and weighs anything.
 fn push_share(
     shares: &mut Vec<Share>,
-    left: Left<'_>,
+    left: RowsLeft<'_>,
     cell: u32,
     weight: u32,
 ) -> Result<(), AllocError> {
@@ -67,7 +67,7 @@ fn push_shares(
     shares.sort_by_key(|share| share.cell)?;
     groups.push(Group {
         capacity,
-        shares: Shares::of(shares),
+        shares: Sequence::from_vec(shares),
     })?;
     Ok(())
 }

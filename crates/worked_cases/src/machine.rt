@@ -73,11 +73,7 @@ impl<'a> System for Machine<'a> {
         if path == "locked" {
             return None;
         }
-        self.record.make();
-        Some(Kept {
-            record: self.record,
-            step: self.step,
-        })
+        Some(self.record.make(self.step))
     }
 
     fn is_same(&self, path: &str, other: &str) -> bool {

@@ -11,6 +11,7 @@ mod judging;
 mod machine;
 mod record;
 mod running;
+mod sides;
 
 use crate::running::{Tally, tried};
 use case_texts::{Shelf, put_caves, put_texts};

@@ -4,7 +4,8 @@
 use crate::commands::{Command, check_of, command_of, piped};
 use crate::judging::{Came, difference};
 use crate::machine::Machine;
-use crate::record::{Output, Record, Sides};
+use crate::record::Record;
+use crate::sides::Sides;
 use case_texts::{Case, Files, Series, Shelf, case_of, parts_of, unknown};
 use std::alloc::{AllocError, Global};
 use std::sync::Wait;
@@ -46,15 +47,12 @@ fn came_of<X: Threads + Wait + Sync>(
         record: &record,
     };
     let sides = Sides::new();
-    let mut output = Output {
-        taken: Vec::new(alloc),
-        step,
-    };
+    let mut output = record.output(step);
     let status = answer(rt, alloc, &machine, &sides, &command.words, &mut output);
     Ok(Came {
         status,
         told: record.told(),
-        out: output.taken,
+        out: record.out(),
         made: record.made(),
         edge: sides.line(alloc)?,
     })

@@ -48,11 +48,7 @@ impl<B: Naming> Access<B> {
         ensures deque { IsPassOf (B.deque self.deque) result }
         ensures others { IsOthers (view result) }
     {
-        let Access {
-            deque: _,
-            hand,
-            of: _,
-        } = self;
+        let Access { hand, .. } = self;
         hand
     }
 

@@ -1,8 +1,8 @@
 //! Passes are taken in, and what is left in the deques is taken.
 ghost use Rattle.std.specs.Prelude.{◌≡◌, length, All, IfOk};
-ghost use Rattle.worker_results.specs.Naming.{numbers_from};
-ghost use Rattle.worker_results.specs.Joining.{numbers_of};
 ghost use Rattle.worker_results.specs.Apart.{AreOut, IsRow};
+ghost use Rattle.worker_results.specs.Joining.{numbers_of};
+ghost use Rattle.worker_results.specs.Naming.{numbers_from};
 ghost use Rattle.worker_results.specs.Taking.{AreDrained, TakeRows, take_in};
 
 use crate::accesses::Accesses;

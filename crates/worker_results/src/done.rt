@@ -99,7 +99,7 @@ impl<B: Naming> Done<B> {
             seat,
             cover,
             share,
-            turns: _,
+            ..
         } = self;
         let (own, reaches, work) = share.into_parts(cover);
         Parts {

@@ -1,8 +1,8 @@
 ghost use Rattle.std.specs.Prelude.{◌≡◌, ◌≢◌, [], ◌∷◌, IfErr, OnOk};
 ghost use Rattle.crossbeam_deque.specs.Handles.{worker_deque, worker_flavor, worker_view};
 ghost use Rattle.piece_deque.specs.Deals.{one_more_out, pushed_too, thief_pass};
-ghost use Rattle.piece_deque.specs.declared.answer.Take.TheVariants.{Again};
 ghost use Rattle.piece_deque.specs.Rule.{Answers, WasEmpty};
+ghost use Rattle.piece_deque.specs.declared.answer.Take.TheVariants.{Again};
 ghost use Rattle.worker_results.specs.Passes.{IsOwners, took_in};
 
 use crate::access::Access;
@@ -96,11 +96,7 @@ impl<B: Naming> Own<B> {
         ensures known { worker_view result ≡ self.knows }
         ensures owners { (worker_flavor result ≡ 0) × IsOwners (worker_view result) }
     {
-        let Own {
-            worker: _,
-            owner,
-            of: _,
-        } = self;
+        let Own { owner, .. } = self;
         owner
     }
 }

@@ -1,8 +1,8 @@
 //! Results are taken apart, and their seats joined.
 ghost use Rattle.std.specs.Prelude.{◌≡◌, length, true, IfOk};
 ghost use Rattle.beacon.specs.Marks.{together};
-ghost use Rattle.worker_results.specs.Joining.{numbers_of, workers_of, works_of};
 ghost use Rattle.worker_results.specs.Apart.{AreApart, AreResultParts, IsOneMore};
+ghost use Rattle.worker_results.specs.Joining.{numbers_of, workers_of, works_of};
 
 use crate::accesses::Accesses;
 use crate::done::{Done, Parts};

@@ -1,6 +1,6 @@
 //! A worker's desk.
-ghost use Rattle.std.specs.Prelude.{◌≡◌, None, false, true, IfSome};
 ghost use Rattle.std.specs.Arc.{arc_value};
+ghost use Rattle.std.specs.Prelude.{◌≡◌, None, false, true, IfSome};
 ghost use Rattle.schedule_law.specs.Worked.{IsCoverFor};
 ghost use Rattle.search_traits.specs.Turns.{AreSpent, IsWithin};
 ghost use Rattle.worker_results.specs.Results.{IsNewSeatAt, IsSeatAt, KeepsTold};

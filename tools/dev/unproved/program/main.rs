@@ -1,6 +1,7 @@
 //! The search without its proofs: the crates that only propose, as rustc builds them, below stand-ins for the crates
 //! with contracts. It reads a cave's regions and writes how many torches they need, and the certificate.
 
+mod cave_base;
 mod cave_regions;
 mod certificate;
 mod memory;
@@ -16,11 +17,6 @@ mod linear_relaxation;
 mod local_search;
 mod search_moves;
 mod weighted_leaves;
-
-mod cave_base {
-    /// A cell's number.
-    pub type Cell = u32;
-}
 
 use cave_regions::{Region, add};
 use std::io::Read;

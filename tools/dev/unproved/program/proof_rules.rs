@@ -1,6 +1,6 @@
 //! Groups of cells that weigh.
 
-use crate::memory::Vec;
+use crate::cave_base::Sequence;
 
 #[derive(Clone, Copy)]
 pub struct Share {
@@ -8,21 +8,7 @@ pub struct Share {
     pub weight: u32,
 }
 
-pub struct Shares {
-    items: Vec<Share>,
-}
-
-impl Shares {
-    pub fn of(items: Vec<Share>) -> Shares {
-        Shares { items }
-    }
-
-    pub fn as_slice(&self) -> &[Share] {
-        &self.items
-    }
-}
-
 pub struct Group {
     pub capacity: u32,
-    pub shares: Shares,
+    pub shares: Sequence<Share>,
 }

@@ -1,31 +1,8 @@
 //! Trees of cases.
 
+use crate::cave_base::Sequence;
 use crate::memory::{AllocError, Global, Vec};
 use crate::proof_rules::Group;
-
-pub struct Cells(Vec<u32>);
-
-impl Cells {
-    pub fn of(items: Vec<u32>) -> Cells {
-        Cells(items)
-    }
-
-    pub fn as_slice(&self) -> &[u32] {
-        &self.0
-    }
-}
-
-pub struct Groups(Vec<Group>);
-
-impl Groups {
-    pub fn of(items: Vec<Group>) -> Groups {
-        Groups(items)
-    }
-
-    pub fn as_slice(&self) -> &[Group] {
-        &self.0
-    }
-}
 
 pub struct Below(Box<Proof>);
 
@@ -60,9 +37,9 @@ impl Kids {
 }
 
 pub enum Proof {
-    Leaf(Cells),
-    Weighted(Groups),
+    Leaf(Sequence<u32>),
+    Weighted(Sequence<Group>),
     Branch { cell: u32, kids: Kids },
     Bar { place: u32, by: u32, kid: Below },
-    Omit { cells: Cells, kid: Below },
+    Omit { cells: Sequence<u32>, kid: Below },
 }

@@ -6,6 +6,13 @@ use crate::pack_bound::Node;
 use crate::proof_tree::Proof;
 use crate::tree_judges::Bar;
 
+#[derive(Clone, Copy)]
+pub struct Task<'a> {
+    pub region: &'a Region,
+    pub node: &'a Node,
+    pub floor: Option<u64>,
+}
+
 pub struct Proposal {
     pub cover: Option<Vec<u32>>,
     pub tree: Proof,
@@ -14,13 +21,7 @@ pub struct Proposal {
 }
 
 pub trait Proposer {
-    fn propose(
-        &mut self,
-        alloc: Global,
-        region: &Region,
-        node: &Node,
-        floor: Option<u64>,
-    ) -> Result<Proposal, AllocError>;
+    fn propose(&mut self, alloc: Global, task: Task<'_>) -> Result<Proposal, AllocError>;
 }
 
 pub trait Strategy: Proposer + Sized {

@@ -1,6 +1,8 @@
 use Rattle.std.proofs.Common.{sym, subst}
 use Rattle.certificate_lines.specs.Decides.{Decides}
 use Rattle.certificate_lines.specs.Kinds.{MeansAt}
+use Rattle.certificate_lines.specs.Nodes.{GroupMeans}
+use Rattle.certificate_lines.specs.declared.node.Trees.{Trees}
 use Rattle.certificate_lines.specs.declared.stage.Stage.{Stage}
 use Rattle.certificate_lines.proofs.KindLemmas.{region_means}
 use Rattle.certificate_lines.proofs.step.after.Goals as goal
@@ -18,8 +20,11 @@ returns-in-Regions c = subst (λ (s : Stage). Decides c.after_regions.result (Me
     (sym c.in-Regions.is) c.after_regions.ensures
 
 pub returns-in-Group : goal.returns-in-Group
-returns-in-Group c = subst (λ (s : Stage). Decides c.after_group.result (MeansAt s c.args.kind c.args.numbers.now))
-    (sym c.in-Group.is) c.after_group.ensures
+returns-in-Group c =
+    let means = subst (λ (t : Trees). Decides c.after_group.result (GroupMeans t.rank t.count t.to_come t.pending
+    c.in-Group.left c.in-Group.from c.args.numbers.now)) c.new-trees-in-Group.ensures c.after_group.ensures in
+    subst (λ (s : Stage). Decides c.after_group.result (MeansAt s c.args.kind c.args.numbers.now))
+    (sym c.in-Group.is) means
 
 pub returns-in_default : goal.returns-in_default
 returns-in_default c = subst (λ (s : Stage). Decides c.after_region.result (MeansAt s c.args.kind c.args.numbers.now))

@@ -1,11 +1,11 @@
-use Rattle.std.proofs.Common.{◌++◌, ◌∙◌, ℕ, List, length, string_bytes, ap, sym}
+use Rattle.std.proofs.Common.{◌++◌, ◌∙◌, ℕ, List, length, ap, sym}
 use Rattle.std.proofs.lemmas.List.{length-map}
 use Rattle.std.proofs.lemmas.Result.{err_from_is_err_and}
 use Rattle.certificate_text.specs.Heading.{heading_text}
 use Rattle.certificate_text.specs.PlanOf.{plan_of, plans_of}
 use Rattle.certificate_text.specs.Planned.{version_at, version_of, certificate_text}
 use Rattle.certificate_text.specs.Sections.{body_text}
-use Rattle.certificate_text.proofs.NodeLemmas.{err_sent, then_sent}
+use Rattle.certificate_text.proofs.SentLemmas.{err_sent, then_sent}
 use Rattle.certificate_text.proofs.WholeLemmas.{certificate_is}
 use Rattle.certificate_text.proofs.certificate.put_certificate.Goals as goal
 
@@ -20,8 +20,7 @@ returns-in_err-put_text g c =
     ∙ ap (λ (n : ℕ). heading_text c.args.world.now n (version_of need plans))
     (sym (length-map c.args.parts.now plan_of)))
     ∙ certificate_is c.args.world.now plans in
-    err_sent c.from_residual-in_err-put_text.result p.0 (g.W.Write.contents c.args.writer.now)
-    (g.W.Write.contents c.put_text.new.writer) (string_bytes c.args.buffer.now) (string_bytes c.put_text.new.buffer)
+    err_sent g.W.Write.contents c.from_residual-in_err-put_text.result p.0 c.args.sink.now c.put_text.new.self
     c.as_str.result.now body (certificate_text c.args.world.now plans) p.1 text c.in_err-put_text.ensures
 
 pub returns : goal.returns
@@ -34,7 +33,5 @@ returns g c =
     ∙ ap (λ (n : ℕ). heading_text c.args.world.now n (version_of need plans))
     (sym (length-map c.args.parts.now plan_of)))
     ∙ certificate_is c.args.world.now plans in
-    then_sent c.put_body.result (g.W.Write.contents c.args.writer.now) (g.W.Write.contents c.put_text.new.writer)
-    (g.W.Write.contents c.put_body.new.writer)
-    (string_bytes c.args.buffer.now) (string_bytes c.put_text.new.buffer) (string_bytes c.put_body.new.buffer)
+    then_sent g.W.Write.contents c.put_body.result c.args.sink.now c.put_text.new.self c.put_body.new.sink
     c.as_str.result.now body (certificate_text c.args.world.now plans) text c.in_ok-put_text.ensures c.put_body.ensures

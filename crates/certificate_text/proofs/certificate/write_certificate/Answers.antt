@@ -1,4 +1,4 @@
-use Rattle.std.proofs.Common.{string_bytes}
+use Rattle.std.proofs.Common.{string_bytes, rules}
 use Rattle.std.proofs.lemmas.Result.{err_from_is_err_and}
 use Rattle.certificate_text.specs.PlanOf.{plans_of}
 use Rattle.certificate_text.specs.Planned.{certificate_text}
@@ -11,14 +11,14 @@ put_certificate-requires g c = best_are_writable c.args.world.now (plans_of c.ar
 pub returns-in_err-put_certificate-clause-begun : goal.returns-in_err-put_certificate-clause-begun
 returns-in_err-put_certificate-clause-begun g c =
     let p = err_from_is_err_and c.from_residual.result c.from_residual.ensures.1 in
-    rw p.1 (part_of_empty (g.W.Write.contents c.args.writer.now) (g.W.Write.contents c.put_certificate.new.writer)
+    rw p.1 (part_of_empty (g.W.Write.contents c.args.writer.now) (g.W.Write.contents _)
     (string_bytes c.new-buffer.result) (certificate_text c.args.world.now (plans_of c.args.parts.now))
-    c.new-buffer.ensures.bytes c.in_err-put_certificate.ensures)
+    c.new-buffer.ensures.bytes (search rules))
 
 pub returns-clause-begun : goal.returns-clause-begun
 returns-clause-begun g c =
     part_where_failed c.flush.result (g.W.Write.contents c.args.writer.now)
-    (g.W.Write.contents c.put_certificate.new.writer) (g.W.Write.contents c.flush.new.writer)
-    (string_bytes c.new-buffer.result) (string_bytes c.put_certificate.new.buffer)
+    (g.W.Write.contents c.put_certificate.new.sink.writer.now) (g.W.Write.contents _)
+    (string_bytes c.new-buffer.result) (string_bytes c.put_certificate.new.sink.buffer.now)
     (certificate_text c.args.world.now (plans_of c.args.parts.now)) c.new-buffer.ensures.bytes
-    c.in_ok-put_certificate.ensures c.flush.ensures.begun
+    c.in_ok-put_certificate.ensures.passed (search rules)

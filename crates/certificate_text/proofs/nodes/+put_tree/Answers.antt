@@ -1,4 +1,4 @@
-use Rattle.std.proofs.Common.{◌∙◌, ◌∷◌, [], ◌++◌, List, ℕ, length, codes, string_bytes, subst, sym, ap, arith, rules}
+use Rattle.std.proofs.Common.{◌∙◌, ◌∷◌, [], ◌++◌, List, ℕ, length, codes, subst, sym, ap, arith, rules}
 use Rattle.std.proofs.lemmas.Result.{err_from_is_err_and}
 use Rattle.proof_rules.specs.declared.groups.Group.{Group}
 use Rattle.proof_rules.specs.Tree.{Tree, Forest, leaf, weighted, branch, bar, omit}
@@ -6,10 +6,11 @@ use Rattle.proof_rules.specs.Text.{line}
 use Rattle.certificate_text.specs.Lines.{tree_text, forest_text, HasDistinctCells}
 use Rattle.proof_tree.specs.Order.{in_order}
 use Rattle.proof_tree.specs.Shape.{tree_of, forest_of, tree_size}
-use Rattle.certificate_text.specs.Writing.{IsSent, AppendsPart, Passes}
+use Rattle.certificate_text.specs.Sending.{IsSent, SendsAll, SendsPart}
 use Rattle.proof_tree.specs.declared.proof.Proof.{Proof}
-use Rattle.certificate_text.proofs.NodeLemmas.{one_line, branch_text, count_trees, err_sent, then_sent, none_sent}
+use Rattle.certificate_text.proofs.NodeLemmas.{one_line, branch_text, count_trees, none_sent}
 use Rattle.certificate_text.proofs.NodeLemmas.{next_distinct, one_sent, failed_sent, tree_below}
+use Rattle.certificate_text.proofs.SentLemmas.{err_sent, then_sent}
 use Rattle.certificate_text.proofs.nodes.+put_tree.Goals as goal
 
 pub put_tree-returns-in_ok-numbers-in-Leaf : goal.put_tree-returns-in_ok-numbers-in-Leaf
@@ -20,8 +21,7 @@ put_tree-returns-in_ok-numbers-in-Leaf g t c =
     ∙ one_line (line (codes "L") (length (in_order cells) ∷ in_order cells))
     ∙ ap (λ (l : List ℕ). tree_text (leaf l)) c.as_slice.ensures
     ∙ ap (λ (p : Proof). tree_text (tree_of p)) (sym c.in-Leaf.is) in
-    subst (IsSent c.put_line.result (g.W.Write.contents c.args.writer.now) (string_bytes c.args.buffer.now)
-    (g.W.Write.contents c.put_line.new.writer) (string_bytes c.put_line.new.buffer)) text c.put_line.ensures
+    subst (IsSent g.W.Write.contents c.put_line.result c.args.sink.now c.put_line.new.self) text c.put_line.ensures
 
 pub put_tree-returns-in_err-put_line-in-Branch : goal.put_tree-returns-in_err-put_line-in-Branch
 put_tree-returns-in_err-put_line-in-Branch g t c =
@@ -32,9 +32,8 @@ put_tree-returns-in_err-put_line-in-Branch g t c =
     (sym (count_trees c.trees-trees.result.now))
     ∙ ap (λ (f : Forest). tree_text (branch c.in-Branch.cell f)) (sym c.trees-trees.ensures)
     ∙ ap (λ (q : Proof). tree_text (tree_of q)) (sym c.in-Branch.is) in
-    err_sent c.from_residual-in_err-put_line-in-Branch.result p.0 (g.W.Write.contents c.args.writer.now)
-    (g.W.Write.contents c.put_line-in-Branch.new.writer) (string_bytes c.args.buffer.now)
-    (string_bytes c.put_line-in-Branch.new.buffer)
+    err_sent g.W.Write.contents c.from_residual-in_err-put_line-in-Branch.result p.0 c.args.sink.now
+    c.put_line-in-Branch.new.self
     (line (codes "B") (c.in-Branch.cell ∷ length c.trees-trees.result.now ∷ []) ++ 10 ∷ [])
     (forest_text kids) _ p.1 whole c.in_err-put_line-in-Branch.ensures
 
@@ -45,10 +44,8 @@ put_tree-returns-in_ok-put_line-in-Branch g t c =
     (sym (count_trees c.trees-trees.result.now))
     ∙ ap (λ (f : Forest). tree_text (branch c.in-Branch.cell f)) (sym c.trees-trees.ensures)
     ∙ ap (λ (q : Proof). tree_text (tree_of q)) (sym c.in-Branch.is) in
-    then_sent c.put_trees.result (g.W.Write.contents c.args.writer.now)
-    (g.W.Write.contents c.put_line-in-Branch.new.writer) (g.W.Write.contents c.put_trees.new.writer)
-    (string_bytes c.args.buffer.now) (string_bytes c.put_line-in-Branch.new.buffer)
-    (string_bytes c.put_trees.new.buffer)
+    then_sent g.W.Write.contents c.put_trees.result c.args.sink.now c.put_line-in-Branch.new.self
+    c.put_trees.new.sink
     (line (codes "B") (c.in-Branch.cell ∷ length c.trees-trees.result.now ∷ []) ++ 10 ∷ [])
     (forest_text kids) _ whole c.in_ok-put_line-in-Branch.ensures c.put_trees.ensures
 
@@ -57,9 +54,8 @@ put_tree-returns-in_err-put_line-in-Bar g t c =
     let p = err_from_is_err_and c.from_residual-in_err-put_line-in-Bar.result
     c.from_residual-in_err-put_line-in-Bar.ensures.1 in
     let whole = ap (λ (q : Proof). tree_text (tree_of q)) (sym c.in-Bar.is) in
-    err_sent c.from_residual-in_err-put_line-in-Bar.result p.0 (g.W.Write.contents c.args.writer.now)
-    (g.W.Write.contents c.put_line-in-Bar.new.writer) (string_bytes c.args.buffer.now)
-    (string_bytes c.put_line-in-Bar.new.buffer)
+    err_sent g.W.Write.contents c.from_residual-in_err-put_line-in-Bar.result p.0 c.args.sink.now
+    c.put_line-in-Bar.new.self
     (line (codes "E") (c.in-Bar.place ∷ c.in-Bar.by ∷ []) ++ 10 ∷ [])
     (tree_text c.in-Bar.kid) _ p.1 whole c.in_err-put_line-in-Bar.ensures
 
@@ -68,9 +64,8 @@ put_tree-returns-in_ok-put_line-in-Bar g t c =
     let below = tree_of c.tree.result.now in
     let whole = ap (λ (k : Tree). tree_text (bar c.in-Bar.place c.in-Bar.by k)) c.tree.ensures
     ∙ ap (λ (q : Proof). tree_text (tree_of q)) (sym c.in-Bar.is) in
-    then_sent c.put_tree.result (g.W.Write.contents c.args.writer.now)
-    (g.W.Write.contents c.put_line-in-Bar.new.writer) (g.W.Write.contents c.put_tree.new.writer)
-    (string_bytes c.args.buffer.now) (string_bytes c.put_line-in-Bar.new.buffer) (string_bytes c.put_tree.new.buffer)
+    then_sent g.W.Write.contents c.put_tree.result c.args.sink.now c.put_line-in-Bar.new.self
+    c.put_tree.new.sink
     (line (codes "E") (c.in-Bar.place ∷ c.in-Bar.by ∷ []) ++ 10 ∷ [])
     (tree_text below) _ whole c.in_ok-put_line-in-Bar.ensures c.put_tree.ensures
 
@@ -78,8 +73,7 @@ pub put_tree-returns-in-Weighted : goal.put_tree-returns-in-Weighted
 put_tree-returns-in-Weighted g t c =
     let text = ap (λ (l : List Group). tree_text (weighted l)) c.as_slice-in-Weighted.ensures
     ∙ ap (λ (p : Proof). tree_text (tree_of p)) (sym c.in-Weighted.is) in
-    subst (IsSent c.put_weighted.result (g.W.Write.contents c.args.writer.now) (string_bytes c.args.buffer.now)
-    (g.W.Write.contents c.put_weighted.new.writer) (string_bytes c.put_weighted.new.buffer)) text
+    subst (IsSent g.W.Write.contents c.put_weighted.result c.args.sink.now c.put_weighted.new.sink) text
     c.put_weighted.ensures
 
 pub put_tree-returns-in_err-put_line-in-Omit : goal.put_tree-returns-in_err-put_line-in-Omit
@@ -90,9 +84,8 @@ put_tree-returns-in_err-put_line-in-Omit g t c =
     ∙ ap (λ (l : List ℕ). length l ∷ l) c.as_slice-in-Omit.ensures in
     let whole = ap (λ (l : List ℕ). (line (codes "D") l ++ 10 ∷ []) ++ tree_text c.in-Omit.kid) numbers
     ∙ ap (λ (q : Proof). tree_text (tree_of q)) (sym c.in-Omit.is) in
-    err_sent c.from_residual-in_err-put_line-in-Omit.result p.0 (g.W.Write.contents c.args.writer.now)
-    (g.W.Write.contents c.put_line-in-Omit.new.writer) (string_bytes c.args.buffer.now)
-    (string_bytes c.put_line-in-Omit.new.buffer) (line (codes "D") c.deref-in-Omit.result.now ++ 10 ∷ [])
+    err_sent g.W.Write.contents c.from_residual-in_err-put_line-in-Omit.result p.0 c.args.sink.now
+    c.put_line-in-Omit.new.self (line (codes "D") c.deref-in-Omit.result.now ++ 10 ∷ [])
     (tree_text c.in-Omit.kid) _ p.1 whole c.in_err-put_line-in-Omit.ensures
 
 pub put_tree-returns-in_ok-put_line-in-Omit : goal.put_tree-returns-in_ok-put_line-in-Omit
@@ -103,24 +96,20 @@ put_tree-returns-in_ok-put_line-in-Omit g t c =
     let whole = ap (λ (l : List ℕ). (line (codes "D") l ++ 10 ∷ []) ++ tree_text below) numbers
     ∙ ap (λ (k : Tree). tree_text (omit c.in-Omit.cells k)) c.tree-in-Omit.ensures
     ∙ ap (λ (q : Proof). tree_text (tree_of q)) (sym c.in-Omit.is) in
-    then_sent c.put_tree-in-Omit.result (g.W.Write.contents c.args.writer.now)
-    (g.W.Write.contents c.put_line-in-Omit.new.writer) (g.W.Write.contents c.put_tree-in-Omit.new.writer)
-    (string_bytes c.args.buffer.now) (string_bytes c.put_line-in-Omit.new.buffer)
-    (string_bytes c.put_tree-in-Omit.new.buffer) (line (codes "D") c.deref-in-Omit.result.now ++ 10 ∷ [])
+    then_sent g.W.Write.contents c.put_tree-in-Omit.result c.args.sink.now c.put_line-in-Omit.new.self
+    c.put_tree-in-Omit.new.sink (line (codes "D") c.deref-in-Omit.result.now ++ 10 ∷ [])
     (tree_text below) _ whole c.in_ok-put_line-in-Omit.ensures c.put_tree-in-Omit.ensures
 
 pub put_trees-loop-tree-init : goal.put_trees-loop-tree-init
-put_trees-loop-tree-init g t c = none_sent (g.W.Write.contents c.args.writer.now)
-    (string_bytes c.args.buffer.now) c.args.trees.now c.requires
+put_trees-loop-tree-init g t c = none_sent g.W.Write.contents c.args.sink.now c.args.trees.now c.requires
 
 pub put_trees-put_tree-requires : goal.put_trees-put_tree-requires
 put_trees-put_tree-requires g t c κs within =
     let i = c.loop-tree.tree-index in
     let same = ap (λ (p : Proof). tree_size (tree_of p)) c.tree-item.is in
     let below = tree_below c.args.trees.now i c.tree-item.result c.loop-tree-test.true in
-    let distinct = next_distinct (g.W.Write.contents c.args.writer.now) (string_bytes c.args.buffer.now)
-    (g.W.Write.contents c.loop-tree.writer) (string_bytes c.loop-tree.buffer) c.args.trees.now i c.tree-item.result
-    c.loop-tree-test.true c.loop-tree.invariant in (
+    let distinct = next_distinct g.W.Write.contents c.args.sink.now c.loop-tree.sink c.args.trees.now i
+    c.tree-item.result c.loop-tree-test.true c.loop-tree.invariant in (
       omega (arith, below, same, c.decreases),
       (
         search rules,
@@ -132,22 +121,14 @@ put_trees-put_tree-requires g t c κs within =
 pub put_trees-returns-in_err-put_tree : goal.put_trees-returns-in_err-put_tree
 put_trees-returns-in_err-put_tree g t c =
     let p = err_from_is_err_and c.from_residual.result c.from_residual.ensures.1 in
-    let part = subst (λ (q : Proof). AppendsPart (g.W.Write.contents c.loop-tree.writer)
-    (g.W.Write.contents c.put_tree.new.writer) (string_bytes c.loop-tree.buffer ++ tree_text (tree_of q)))
-    c.tree-item.is c.in_err-put_tree.ensures in
-    failed_sent c.from_residual.result p.0 (g.W.Write.contents c.args.writer.now) (string_bytes c.args.buffer.now)
-    (g.W.Write.contents c.loop-tree.writer) (string_bytes c.loop-tree.buffer) c.args.trees.now c.loop-tree.tree-index
-    c.tree-item.result
-    (g.W.Write.contents c.put_tree.new.writer)
-    (string_bytes c.put_tree.new.buffer) p.1 c.loop-tree-test.true c.loop-tree.invariant part
+    let part = subst (λ (q : Proof). SendsPart g.W.Write.contents c.loop-tree.sink c.put_tree.new.sink
+    (tree_text (tree_of q))) c.tree-item.is c.in_err-put_tree.ensures in
+    rw p.1 (failed_sent g.W.Write.contents c.args.sink.now c.loop-tree.sink c.put_tree.new.sink c.args.trees.now
+    c.loop-tree.tree-index c.tree-item.result c.loop-tree-test.true c.loop-tree.invariant part)
 
 pub put_trees-loop-tree-preserved : goal.put_trees-loop-tree-preserved
 put_trees-loop-tree-preserved g t c =
-    let passed = subst (λ (q : Proof). Passes (g.W.Write.contents c.loop-tree.writer) (string_bytes c.loop-tree.buffer)
-    (g.W.Write.contents c.put_tree.new.writer) (string_bytes c.put_tree.new.buffer) (tree_text (tree_of q)))
-    c.tree-item.is c.in_ok-put_tree.ensures in
-    one_sent (g.W.Write.contents c.args.writer.now) (string_bytes c.args.buffer.now)
-    (g.W.Write.contents c.loop-tree.writer) (string_bytes c.loop-tree.buffer) c.args.trees.now c.loop-tree.tree-index
-    c.tree-item.result
-    (g.W.Write.contents c.put_tree.new.writer)
-    (string_bytes c.put_tree.new.buffer) c.loop-tree-test.true c.loop-tree.invariant passed
+    let sent = subst (λ (q : Proof). SendsAll g.W.Write.contents c.loop-tree.sink c.put_tree.new.sink
+    (tree_text (tree_of q))) c.tree-item.is c.in_ok-put_tree.ensures in
+    one_sent g.W.Write.contents c.args.sink.now c.loop-tree.sink c.put_tree.new.sink c.args.trees.now
+    c.loop-tree.tree-index c.tree-item.result c.loop-tree-test.true c.loop-tree.invariant sent

@@ -1,27 +1,19 @@
-use Rattle.std.proofs.Common.{◌≡◌, ◌∙◌, ap₂, codes, rules}
+use Rattle.std.proofs.Common.{codes, rules}
 use Rattle.std.proofs.lemmas.Result.{IfOk-weaker}
-use Rattle.clap.specs.Words.{app_of, new_app, with_rule}
-use Rattle.command_words.proofs.WordLemmas.{neither}
+use Rattle.clap.specs.Words.{new_app}
+use Rattle.command_words.specs.Options.{IsCommand}
+use Rattle.command_words.proofs.WordLemmas.{grown_command, one_more}
 use Rattle.command_words.proofs.command.plan_command.Goals as goal
 
 pub returns : goal.returns
 returns c =
-    let base : app_of c.after_help.result ≡ new_app (codes "plan") = search rules in
-    let shape0 = c.in_ok-arg.ensures.shape c.file.ensures.local ∙ ap₂ with_rule base c.file.ensures.rule in
-    let local0 = c.in_ok-arg.ensures.globals ∙ neither _ _ (search rules) c.file.ensures.local in
-    let shape1 = c.in_ok-arg-2.ensures.shape c.headroom.ensures.local ∙ ap₂ with_rule shape0 c.headroom.ensures.rule in
-    let local1 = c.in_ok-arg-2.ensures.globals ∙ neither _ _ local0 c.headroom.ensures.local in
-    let shape2 = c.in_ok-arg-3.ensures.shape c.rule.ensures.local ∙ ap₂ with_rule shape1 c.rule.ensures.rule in
-    let local2 = c.in_ok-arg-3.ensures.globals ∙ neither _ _ local1 c.rule.ensures.local in
-    let shape3 = c.in_ok-arg-4.ensures.shape c.table.ensures.local ∙ ap₂ with_rule shape2 c.table.ensures.rule in
-    let local3 = c.in_ok-arg-4.ensures.globals ∙ neither _ _ local2 c.table.ensures.local in
-    let shape4 = c.in_ok-arg-5.ensures.shape c.proof.ensures.local ∙ ap₂ with_rule shape3 c.proof.ensures.rule in
-    let local4 = c.in_ok-arg-5.ensures.globals ∙ neither _ _ local3 c.proof.ensures.local in
-    let shape5 = c.in_ok-arg-6.ensures.shape c.workers.ensures.local ∙ ap₂ with_rule shape4 c.workers.ensures.rule in
-    let local5 = c.in_ok-arg-6.ensures.globals ∙ neither _ _ local4 c.workers.ensures.local in
-    let shape6 = c.in_ok-arg-7.ensures.shape c.turns.ensures.local ∙ ap₂ with_rule shape5 c.turns.ensures.rule in
-    let local6 = c.in_ok-arg-7.ensures.globals ∙ neither _ _ local5 c.turns.ensures.local in
-    IfOk-weaker c.arg-8.result _ _ (λ r h. record {
-      shape = h.shape c.progress.ensures.local ∙ ap₂ with_rule shape6 c.progress.ensures.rule;
-      local = h.globals ∙ neither _ _ local6 c.progress.ensures.local;
-    }) c.arg-8.ensures
+    let bare : IsCommand (new_app (codes "plan")) c.after_help.result = record {
+      shape = search rules;
+      local = search rules;
+    } in
+    let on_file = one_more _ _ _ _ _ bare c.file.ensures c.in_ok-command.ensures in
+    let ruled = grown_command _ _ _ _ on_file c.in_ok-ruled.ensures in
+    let proof = one_more _ _ _ _ _ ruled c.proof.ensures c.in_ok-arg.ensures in
+    let workers = one_more _ _ _ _ _ proof c.workers.ensures c.in_ok-arg-2.ensures in
+    let turns = one_more _ _ _ _ _ workers c.turns.ensures c.in_ok-arg-3.ensures in
+    IfOk-weaker c.arg-5.result _ _ (λ r h. one_more _ _ _ _ _ turns c.progress.ensures h) c.arg-5.ensures

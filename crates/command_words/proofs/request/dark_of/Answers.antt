@@ -1,13 +1,13 @@
-use Rattle.std.proofs.Common.{◌∙◌, ap, codes, refl}
+use Rattle.std.proofs.Common.{◌∙◌, ap, codes, refl, rules}
 use Rattle.std.specs.Prelude.{option_copied}
 use Rattle.clap.specs.Words.{found_of, rows_of}
 use Rattle.clap.proofs.WalkLemmas.{one_text-rows}
-use Rattle.command_words.proofs.UnaskedLemmas.{if_none, no_file, no_rule}
+use Rattle.command_words.proofs.UnaskedLemmas.{none_found, no_file, no_rule}
 use Rattle.command_words.proofs.WordLemmas.{text_of}
 use Rattle.command_words.proofs.request.dark_of.Goals as goal
 
-pub returns-clause-some : goal.returns-clause-some
-returns-clause-some c = let f = found_of c.args.matches.now in let flag = one_text-rows f (codes "progress") in (
+pub returns : goal.returns
+returns c = let f = found_of c.args.matches.now in let flag = one_text-rows f (codes "progress") in (
   refl,
   text_of f (codes "FILE") c.get_str.result c.get_str.ensures ∙ ap option_copied c.in_ok-get_str.was,
   text_of f (codes "table") c.get_str-2.result c.get_str-2.ensures,
@@ -19,13 +19,13 @@ returns-clause-some c = let f = found_of c.args.matches.now in let flag = one_te
   },
 )
 
-pub returns-in_err-get_str-clause-none : goal.returns-in_err-get_str-clause-none
-returns-in_err-get_str-clause-none c =
+pub returns-in_err-get_str : goal.returns-in_err-get_str
+returns-in_err-get_str c =
     let f = found_of c.args.matches.now in
     let untold = text_of f (codes "FILE") c.get_str.result c.get_str.ensures ∙ ap option_copied c.in_err-get_str.was in
-    if_none c.from_residual.result _ (no_file (codes "dark") (rows_of f) untold)
+    none_found _ (rows_of f) c.from_residual.result (no_file (codes "dark") (rows_of f) untold) (search rules)
 
-pub returns-in_err-rule_of-clause-none : goal.returns-in_err-rule_of-clause-none
-returns-in_err-rule_of-clause-none c =
-    if_none c.from_residual-in_err-rule_of.result _ (no_rule (codes "dark") (rows_of (found_of c.args.matches.now))
-    c.in_err-rule_of.ensures.none)
+pub returns-in_err-rule_of : goal.returns-in_err-rule_of
+returns-in_err-rule_of c = let f = found_of c.args.matches.now in
+    none_found _ (rows_of f) c.from_residual-in_err-rule_of.result (no_rule (codes "dark") (rows_of f)
+    c.in_err-rule_of.ensures.none) (search rules)

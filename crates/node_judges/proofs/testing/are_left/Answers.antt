@@ -1,5 +1,5 @@
 use Rattle.std.proofs.Common.{◌<◌, ℕ, length, Contains, refl}
-use Rattle.proof_rules.specs.Omitted.{left_without}
+use Rattle.node_judges.specs.Settings.{left_in}
 use Rattle.node_judges.proofs.TestLemmas.{off_true, all_more, all_taken}
 use Rattle.node_judges.proofs.testing.are_left.Goals as goal
 
@@ -12,10 +12,10 @@ returns-then-not-is_left-clause-left c = (
 
 pub loop-cell-preserved : goal.loop-cell-preserved
 loop-cell-preserved c = record {
-  left = all_more (Contains (left_without c.args.omitted.now.items c.args.region.now.items)) c.args.cells.now
+  left = all_more (Contains (left_in c.args.setting.now)) c.args.cells.now
       c.loop-cell.cell-index c.loop-cell-test.true c.loop-cell.invariant.left
       (c.is_left.ensures.left.0 c.if-not-is_left.false);
-  inside = all_more (λ (cell : ℕ). cell < length c.args.region.now.counts) c.args.cells.now
+  inside = all_more (λ (cell : ℕ). cell < length c.args.setting.now.region.now.counts) c.args.cells.now
       c.loop-cell.cell-index c.loop-cell-test.true c.loop-cell.invariant.inside
       (c.is_left.ensures.inside c.if-not-is_left.false);
 }
@@ -23,10 +23,10 @@ loop-cell-preserved c = record {
 pub returns : goal.returns
 returns c = record {
   left = (
-    λ t. all_taken (Contains (left_without c.args.omitted.now.items c.args.region.now.items)) c.args.cells.now
+    λ t. all_taken (Contains (left_in c.args.setting.now)) c.args.cells.now
         c.loop-cell.cell-index c.loop-cell-test.false c.loop-cell.invariant.left,
     λ all. refl,
   );
-  inside = λ t. all_taken (λ (cell : ℕ). cell < length c.args.region.now.counts) c.args.cells.now
+  inside = λ t. all_taken (λ (cell : ℕ). cell < length c.args.setting.now.region.now.counts) c.args.cells.now
       c.loop-cell.cell-index c.loop-cell-test.false c.loop-cell.invariant.inside;
 }

@@ -1,6 +1,6 @@
 use Rattle.std.proofs.Common.{sym, refl, slice_index}
 use Rattle.std.proofs.lemmas.Bool.{true≢false}
-use Rattle.proof_rules.specs.Omitted.{left_without}
+use Rattle.node_judges.specs.Settings.{left_in}
 use Rattle.node_judges.specs.Tests.{IsServed}
 use Rattle.node_judges.proofs.TestLemmas.{each_more, each_element, element_of, off_true}
 use Rattle.node_judges.proofs.testing.are_served.Goals as goal
@@ -14,15 +14,15 @@ returns-then-not-is_served c = (
 )
 
 pub loop-cell-preserved : goal.loop-cell-preserved
-loop-cell-preserved c = each_more (IsServed c.args.lists.now
-    (left_without c.args.omitted.now.items c.args.region.now.items) c.args.chosen.now.items c.args.by)
+loop-cell-preserved c = each_more (IsServed c.args.setting.now.lists.now
+    (left_in c.args.setting.now) c.args.setting.now.chosen.now.items c.args.by)
     c.args.cells.now c.loop-cell.cell-index c.loop-cell.invariant
     (c.is_served.ensures.0 c.if-not-is_served.false)
 
 pub returns : goal.returns
 returns c = (
-  λ t. each_element (IsServed c.args.lists.now (left_without c.args.omitted.now.items c.args.region.now.items)
-      c.args.chosen.now.items c.args.by)
+  λ t. each_element (IsServed c.args.setting.now.lists.now (left_in c.args.setting.now)
+      c.args.setting.now.chosen.now.items c.args.by)
       c.args.cells.now c.loop-cell.cell-index c.loop-cell-test.false c.loop-cell.invariant,
   λ all. refl,
 )

@@ -1,6 +1,6 @@
 use Rattle.std.proofs.Common.{ℕ, List, sym, subst, ◌∙◌}
 use Rattle.std.specs.Prelude.{IsTrue}
-use Rattle.proof_rules.specs.Omitted.{left_without}
+use Rattle.node_judges.specs.Settings.{left_in}
 use Rattle.node_judges.specs.Tests.{AreServed}
 use Rattle.node_judges.proofs.TestLemmas.{off_true}
 use Rattle.node_judges.proofs.testing.is_dominated.Goals as goal
@@ -8,8 +8,8 @@ use Rattle.node_judges.proofs.testing.is_dominated.Goals as goal
 pub returns : goal.returns
 returns c =
     let served = λ (t : IsTrue c.are_served.result). subst
-    (λ (l : List ℕ). AreServed c.args.lists.now (left_without c.args.omitted.now.items c.args.region.now.items)
-    c.args.chosen.now.items c.args.by l)
+    (λ (l : List ℕ). AreServed c.args.setting.now.lists.now (left_in c.args.setting.now)
+    c.args.setting.now.chosen.now.items c.args.by l)
     c.lights.ensures (c.are_served.ensures.0 t) in (
       λ t. record {
         legal = sym c.is_place.ensures ∙ c.if-not-is_place.false;
@@ -21,7 +21,7 @@ returns c =
         served = served t;
       },
       λ d. c.are_served.ensures.1 (subst
-          (λ (l : List ℕ). AreServed c.args.lists.now (left_without c.args.omitted.now.items c.args.region.now.items)
-          c.args.chosen.now.items c.args.by l)
+          (λ (l : List ℕ). AreServed c.args.setting.now.lists.now (left_in c.args.setting.now)
+          c.args.setting.now.chosen.now.items c.args.by l)
           (sym c.lights.ensures) d.served),
     )

@@ -2,7 +2,7 @@ use Rattle.std.proofs.Common.{◌<◌, ◌++◌, ◌∷◌, [], ℕ, List, lengt
 use Rattle.std.proofs.Common.{◌∙◌, append_assoc, arith}
 use Rattle.std.proofs.lemmas.List.{take_all, length-map}
 use Rattle.std.proofs.lemmas.List.Elements.{All-push, Contains-append_left, Contains-append_right}
-use Rattle.proof_rules.specs.Omitted.{left_without}
+use Rattle.node_judges.specs.Settings.{left_in}
 use Rattle.weight_judge.specs.declared.claims.Claim.{Claim}
 use Rattle.node_judges.specs.Weighed.{cells_claimed}
 use Rattle.node_judges.proofs.TestLemmas.{off_true}
@@ -12,10 +12,11 @@ use Rattle.node_judges.proofs.weighted.are_free_once.Goals as goal
 pub returns-then-has-clause-once : goal.returns-then-has-clause-once
 returns-then-has-clause-once c =
     let none : Claim = record { group = 0; capacity = 0; cell = 0; weight = 0 } in
-    let cells = left_without c.args.omitted.now.items c.args.region.now.items in (
+    let cells = left_in c.args.setting.now in (
       λ t. absurd cc,
-      λ s. absurd (repeated_or_lit c.args.lists.now cells c.args.chosen.now.items c.args.claims.now
-          c.loop-claim.claim-index none c.loop-claim-test.true c.mark_lit.new.tally.items c.in_ok-mark_lit.ensures.lit
+      λ s. absurd (repeated_or_lit c.args.setting.now.lists.now cells c.args.setting.now.chosen.now.items
+          c.args.claims.now c.loop-claim.claim-index none c.loop-claim-test.true c.mark_lit.new.tally.items
+          c.in_ok-mark_lit.ensures.lit
           (subst (λ (l : List ℕ). Contains l (get_or c.args.claims.now c.loop-claim.claim-index none).cell)
           c.loop-claim.invariant.seen (c.has.ensures.has.0 c.if-has.true)) s),
     )
@@ -23,18 +24,18 @@ returns-then-has-clause-once c =
 pub returns-then-not-is_left-clause-once : goal.returns-then-not-is_left-clause-once
 returns-then-not-is_left-clause-once c =
     let none : Claim = record { group = 0; capacity = 0; cell = 0; weight = 0 } in
-    let cells = left_without c.args.omitted.now.items c.args.region.now.items in (
+    let cells = left_in c.args.setting.now in (
       λ t. absurd cc,
       λ s. absurd (off_true c.is_left.result c.if-not-is_left.true (c.is_left.ensures.left.1
           (s.free (get_or c.args.claims.now c.loop-claim.claim-index none).cell
-          (cell_there c.args.lists.now cells c.args.chosen.now.items c.args.claims.now c.loop-claim.claim-index none
-          c.loop-claim-test.true)).of_it)),
+          (cell_there c.args.setting.now.lists.now cells c.args.setting.now.chosen.now.items c.args.claims.now
+          c.loop-claim.claim-index none c.loop-claim-test.true)).of_it)),
     )
 
 pub loop-claim-preserved : goal.loop-claim-preserved
 loop-claim-preserved c =
     let none : Claim = record { group = 0; capacity = 0; cell = 0; weight = 0 } in
-    let cells = left_without c.args.omitted.now.items c.args.region.now.items in
+    let cells = left_in c.args.setting.now in
     let i = c.loop-claim.claim-index in
     let claim = get_or c.args.claims.now i none in
     let old = c.loop-claim.invariant in
@@ -50,7 +51,7 @@ loop-claim-preserved c =
       seen = c.in_ok-push.ensures.items (omega (arith, low, old.whole))
           ∙ ap (λ (l : List ℕ). l ++ claim.cell ∷ []) old.seen ∙ append_assoc lit before (claim.cell ∷ [])
           ∙ ap (λ (l : List ℕ). lit ++ l) (sym more);
-      once = free_more c.args.lists.now cells c.args.chosen.now.items c.args.claims.now i none
+      once = free_more c.args.setting.now.lists.now cells c.args.setting.now.chosen.now.items c.args.claims.now i none
           c.loop-claim-test.true old.once
           (λ h. unseen (Contains-append_right lit before claim.cell h))
           (record {

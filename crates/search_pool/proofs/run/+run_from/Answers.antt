@@ -2,12 +2,11 @@ use denote.RattleType.{RattleType}
 use denote.Param.Send.{IsSend, sendable}
 use Rattle.std.proofs.Crossing.{crosses}
 use Rattle.beacon.proofs.seat.Seat.TheSendSync as seat
+use Rattle.cave_base.proofs.sequence.Sequence.TheSendSync as sequence
 use Rattle.cave_regions.proofs.cover.Cover.TheSendSync as cover
-use Rattle.proof_tree.proofs.groups.Groups.TheSendSync as groups
 use Rattle.proof_tree.proofs.opened.Opened.TheSendSync as opened
 use Rattle.proof_tree.proofs.piece.Piece.TheSendSync as piece
 use Rattle.proof_tree.proofs.proof.Below.TheLaws.TheKnot as ring
-use Rattle.proof_tree.proofs.proof.Cells.TheSendSync as cells
 use Rattle.proof_tree.specs.contracts.closed.Closed as closed
 use Rattle.worker_results.specs.declared.naming.Naming.{Ghosts}
 use Rattle.worker_results.proofs.accesses.Accesses.TheSendSync as accesses
@@ -24,8 +23,7 @@ closed_send = search (
   ring.send-Proof,
   ring.send-Kids,
   ring.send-Below,
-  cells.the_send,
-  groups.the_send,
+  sequence.the_send,
   piece.the_send,
 ) depth 40 fits 100000
 
@@ -43,5 +41,5 @@ share_send B names = search (
 done_send : (B : RattleType) (names : Ghosts B.Denot) → IsSend (done.the_row B names)
 done_send B names = search (sendable, crosses, share_send, cover.the_send, seat.the_send) depth 40 fits 100000
 
-pub spawn_with-requires-send-T : goal.spawn_with-requires-send-T
-spawn_with-requires-send-T g t c κs within = search (sendable, crosses, done_send) depth 40
+pub spawn_with-child-requires-send-T : goal.spawn_with-child-requires-send-T
+spawn_with-child-requires-send-T g t c κs within = search (sendable, crosses, done_send) depth 40

@@ -1,9 +1,0 @@
-use Rattle.std.proofs.Common.{string_bytes}
-use Rattle.std.proofs.lemmas.Result.{err_from_is_err_and}
-use Rattle.certificate_text.proofs.SentLemmas.{part_longer}
-use Rattle.certificate_text.proofs.buffer.put_text.Goals as goal
-
-pub returns-in_err-flush : goal.returns-in_err-flush
-returns-in_err-flush g c =
-    let p = err_from_is_err_and c.from_residual.result c.from_residual.ensures.1 in
-    rw p.1 (part_longer _ _ (string_bytes c.args.buffer.now) c.args.text.now c.in_err-flush.ensures.begun)

@@ -1,0 +1,38 @@
+//! Files planned by many workers, from bytes to bytes.
+use super::gates::Meeting;
+use super::planning::{is_accepted, lines_with, plan_by, plan_run, shared};
+use cave_files::caves::{RING, WIDE_RING};
+use std::test::Fail;
+use torch_plan::{Outcome, Rule};
+
+#[test]
+fn both_workers_enter_where_a_file_is_planned(rt: HostRuntime) -> Result<(), Fail> {
+    let alloc = rt.alloc();
+    let bytes = RING.bytes(alloc)?;
+    let opts = shared(&rt, 2, Rule::new(2, 1), None);
+    let gate = Meeting::of([true, true]);
+    let planned = plan_by(&rt, alloc, &bytes, None, &opts, &gate)?;
+    assert!(rt; matches!(&planned.ended, Ok(Outcome::Done { .. })));
+    assert!(rt; planned.text.starts_with(b"torches 2\ndark 28\n"));
+    assert!(rt; gate.has_both());
+    assert!(rt; !gate.gave_up());
+    is_accepted(&rt, alloc, &bytes, None, opts.rule, &planned)
+}
+
+#[test]
+fn a_ring_two_wide_takes_as_many_torches_by_many_workers(rt: HostRuntime) -> Result<(), Fail> {
+    let alloc = rt.alloc();
+    let bytes = WIDE_RING.bytes(alloc)?;
+    let mut torches = 0;
+    for count in [1, 2, 3] {
+        let opts = shared(&rt, count, Rule::new(2, 1), None);
+        let planned = plan_run(&rt, alloc, &bytes, None, &opts)?;
+        assert!(rt; matches!(&planned.ended, Ok(Outcome::Done { .. })));
+        is_accepted(&rt, alloc, &bytes, None, opts.rule, &planned)?;
+        let found = lines_with(&planned.text, b'T');
+        assert!(rt; found > 0);
+        assert!(rt; torches == 0 || torches == found);
+        torches = found;
+    }
+    Ok(())
+}

@@ -1,0 +1,13 @@
+mod beacons;
+mod certificates;
+mod cores;
+mod deques;
+mod desks;
+mod felt;
+mod gathered;
+mod kids;
+mod omissions;
+mod pieces;
+mod rings;
+mod shortened;
+mod turns;

@@ -1,0 +1,101 @@
+//! How many turns a ring takes: one for each node that is worked on, and none for what is tried in between.
+//!
+//! In a ring of an odd number of cells, where each place lights a cell and the next, a packing has one cell less than
+//! the fewest places, so the root is no leaf. Two places light the cell that it branches on. Each of them leaves a row
+//! of cells of which every other one is scattered, so each kid is a leaf: three nodes, and three turns.
+use super::rings::ring;
+use cave_regions::Region;
+use pack_bound::first_plan;
+use proof_tree::{Piece, floor_of};
+use search_core::{AloneDesk, AloneFault, CloseFault, close_piece, plan_alone};
+use search_moves::Moves;
+use std::alloc::{AllocError, Global};
+use std::sync::Arc;
+use std::test::Fail;
+
+/// How a search ends.
+#[derive(Clone, Copy, Debug, PartialEq, Eq)]
+enum End {
+    /// A cover of the fewest places was found.
+    Done { size: u64 },
+    /// The turns were spent: the size of the smallest cover, and one that none is below.
+    Stopped { size: u64, floor: u64 },
+}
+
+/// A ring of so many cells, its turns, and how the search ends.
+type Row = (u32, Option<u64>, End);
+
+const ROWS: [Row; 13] = [
+    (5, Some(1), End::Stopped { size: 3, floor: 2 }),
+    (5, Some(2), End::Stopped { size: 3, floor: 2 }),
+    (5, Some(3), End::Done { size: 3 }),
+    (5, Some(4), End::Done { size: 3 }),
+    (5, None, End::Done { size: 3 }),
+    (7, Some(1), End::Stopped { size: 4, floor: 3 }),
+    (7, Some(2), End::Stopped { size: 4, floor: 3 }),
+    (7, Some(3), End::Done { size: 4 }),
+    (9, Some(2), End::Stopped { size: 5, floor: 4 }),
+    (9, Some(3), End::Done { size: 5 }),
+    // An even ring is one leaf, and one turn.
+    (6, Some(1), End::Done { size: 3 }),
+    (8, Some(1), End::Done { size: 4 }),
+    (8, None, End::Done { size: 4 }),
+];
+
+/// How the search of the region ends, alone.
+fn end_of(alloc: Global, region: &Arc<Region>, turns: Option<u64>) -> Result<End, AllocError> {
+    match plan_alone::<Moves>(alloc, region, turns) {
+        Ok(plan) => Ok(End::Done {
+            size: plan.cover.size(),
+        }),
+        Err(AloneFault::Stopped { cover, floor }) => Ok(End::Stopped {
+            size: cover.size(),
+            floor,
+        }),
+        Err(AloneFault::OutOfMemory) => Err(AllocError),
+    }
+}
+
+#[test]
+fn three_turns_suffice_for_an_odd_ring_and_two_do_not(rt: HostRuntime) -> Result<(), Fail> {
+    let alloc = rt.alloc();
+    for (cells, turns, end) in ROWS {
+        let region = ring(alloc, cells)?;
+        assert_eq!(rt; end_of(alloc, &region, turns)?, end);
+    }
+    Ok(())
+}
+
+/// What comes of closing the region's root at a desk with these turns: its floor, none where they were spent; and how
+/// many were granted.
+fn closed_root(
+    alloc: Global,
+    region: &Arc<Region>,
+    turns: Option<u64>,
+) -> Result<(Option<u64>, u64), AllocError> {
+    let mut desk = AloneDesk::new(first_plan(alloc, region)?, turns);
+    match close_piece::<Moves, AloneDesk>(alloc, Piece::root(alloc, region)?, &mut desk) {
+        Ok(closed) => Ok((Some(floor_of(&closed)), desk.granted())),
+        Err(CloseFault::TurnsSpent(_)) => Ok((None, desk.granted())),
+        Err(CloseFault::OutOfMemory(_)) => Err(AllocError),
+    }
+}
+
+#[test]
+fn a_desk_counts_what_it_grants_and_grants_no_more_than_it_has(
+    rt: HostRuntime,
+) -> Result<(), Fail> {
+    let alloc = rt.alloc();
+    let region = ring(alloc, 7)?;
+    for (turns, told) in [
+        (Some(0), (None, 0)),
+        (Some(1), (None, 1)),
+        (Some(2), (None, 2)),
+        (Some(3), (Some(4), 3)),
+        (Some(4), (Some(4), 3)),
+        (None, (Some(4), 3)),
+    ] {
+        assert_eq!(rt; closed_root(alloc, &region, turns)?, told);
+    }
+    Ok(())
+}
