@@ -23,7 +23,7 @@ use Rattle.proof_check.proofs.FewestLemmas.{length-cells}
 use Rattle.cave_model.proofs.TorchLemmas.{spawnable_inside}
 use Rattle.cover_rows.proofs.CoverLemmas.{cells_hung}
 use Rattle.set_cover.specs.Instance.{of_instance}
-use Rattle.cave_regions.specs.Splitting.{least_cell}
+use Rattle.instance_regions.specs.Splitting.{least_cell}
 use Rattle.proof_rules.specs.Tree.{Tree, Forest, leaf, weighted, branch, bar, omit, none, more}
 use Rattle.proof_rules.specs.Good.{Good}
 use Rattle.proof_rules.specs.Certificate.{Section, Version, first, second, third, need_of, IsKnownTo, AreKnownTo}

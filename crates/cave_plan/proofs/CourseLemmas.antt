@@ -13,7 +13,7 @@ use Rattle.proof_rules.specs.Tree.{Tree}
 use Rattle.proof_rules.specs.Good.{IsCoverOfPiece}
 use Rattle.proof_rules.proofs.ListLemmas.{all_members, at_member, distinct_nil}
 use Rattle.proof_rules.proofs.BoundLemmas.{bounds, piece_serves}
-use Rattle.cave_regions.specs.Cover.{Covering, IsCover, IsCoverOfRegion}
+use Rattle.instance_regions.specs.Cover.{Covering, IsCover, IsCoverOfRegion}
 use Rattle.certificate_text.specs.Planned.{Plan}
 use Rattle.search_traits.specs.Planned.{IsBest, IsStopped}
 use Rattle.cave_plan.specs.Bounded.{Bounded, all_torches, finished, total_floor}

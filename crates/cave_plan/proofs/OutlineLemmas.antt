@@ -14,8 +14,8 @@ use Rattle.cave_model.specs.Coverage.{of_cave, Agrees}
 use Rattle.cave_model.specs.Listing.{ListsAll}
 use Rattle.cave_model.specs.Regions.{AreRegions}
 use Rattle.set_cover.specs.Instance.{Instance, of_instance}
-use Rattle.cave_regions.specs.Region.{IsRegion}
-use Rattle.cave_regions.specs.Splitting.{cells_of_each, least_cell}
+use Rattle.instance_regions.specs.Region.{IsRegion}
+use Rattle.instance_regions.specs.Splitting.{cells_of_each, least_cell}
 use Rattle.proof_rules.specs.Certificate.{torches_of}
 use Rattle.proof_rules.proofs.ListLemmas.{all_members, here}
 use Rattle.proof_rules.proofs.OmitLemmas.{bool_cases}

@@ -9,8 +9,8 @@ use Rattle.cave_model.specs.Plan.{Torch, hung, IsSafe}
 use Rattle.cave_model.specs.Regions.{AreRegions, all_cells}
 use Rattle.set_cover.specs.Instance.{Instance, of_instance}
 use Rattle.proof_rules.specs.Good.{IsCoverOfPiece}
-use Rattle.cave_regions.specs.Cover.{IsCoverOfRegion}
-use Rattle.cave_regions.specs.Splitting.{least_cell}
+use Rattle.instance_regions.specs.Cover.{IsCoverOfRegion}
+use Rattle.instance_regions.specs.Splitting.{least_cell}
 
 -- a region, torches that are to cover it, a number that none of its covers is to be below, and whether the turns of its
 -- search were spent

@@ -3,7 +3,7 @@ use Rattle.std.specs.Prelude.{◌≡◌, ℕ, ◌≤◌, Bool, true, false, List
 use Rattle.std.specs.Prelude.{Contains, Option, Some, None, IsSome, if◌then◌else◌}
 use Rattle.set_cover.specs.Instance.{Instance, of_instance}
 use Rattle.proof_rules.specs.Good.{Good}
-use Rattle.cave_regions.specs.Cover.{IsCoverOfRegion}
+use Rattle.instance_regions.specs.Cover.{IsCoverOfRegion}
 use Rattle.certificate_text.specs.Planned.{Plan}
 use Rattle.search_traits.specs.Planned.{NoneBelow}
 use Rattle.cave_plan.specs.Bounded.{Bounded, all_torches, finished, total_floor}

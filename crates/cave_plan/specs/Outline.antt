@@ -7,8 +7,8 @@ use Rattle.cave_model.specs.Plan.{hung, IsSafe}
 use Rattle.cave_model.specs.Regions.{AreRegions}
 use Rattle.cave_model.specs.Spawn.{AreDarkCells}
 use Rattle.set_cover.specs.Instance.{Instance, of_instance}
-use Rattle.cave_regions.specs.Region.{IsRegion}
-use Rattle.cave_regions.specs.Splitting.{cells_of_each, least_cell}
+use Rattle.instance_regions.specs.Region.{IsRegion}
+use Rattle.instance_regions.specs.Splitting.{cells_of_each, least_cell}
 use Rattle.certificate_text.specs.Planned.{Plan, AreBestOf}
 use Rattle.proof_check.specs.Accepted.{IsBestPlan}
 use Rattle.cave_plan.specs.Best.{AreTorchesOf}

@@ -12,7 +12,7 @@ ghost use Rattle.search_traits.specs.Turns.{IsWithin};
 
 use crate::fault::PlanFault;
 use cave_base::Cell;
-use cave_regions::{Cover, Region};
+use instance_regions::{Cover, Region};
 use certificate_text::Planned;
 use proof_tree::Proof;
 use search_traits::{Observer, Planner, RegionFault, RegionPlan};

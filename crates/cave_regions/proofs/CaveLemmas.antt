@@ -6,9 +6,9 @@ use Rattle.cave_model.specs.Regions.{AreRegions}
 use Rattle.cover_rows.specs.Coverage.{IsProblemOf}
 use Rattle.set_cover.specs.Instance.{Instance, LightsIn, of_instance}
 use Rattle.set_cover.proofs.OrderLemmas.{element_at, element_of}
-use Rattle.cave_regions.specs.Region.{IsRegion}
-use Rattle.cave_regions.specs.Splitting.{AreRegionsOf, IsPartOf, cells_of_each}
-use Rattle.cave_regions.proofs.FlatLemmas.{in_all}
+use Rattle.instance_regions.specs.Region.{IsRegion}
+use Rattle.instance_regions.specs.Splitting.{AreRegionsOf, IsPartOf, cells_of_each}
+use Rattle.instance_regions.proofs.FlatLemmas.{in_all}
 
 -- the number of a place that lights something is one of the places
 pub place_of : (instance : Instance) (place cell : ℕ) → LightsIn instance place cell → Contains instance.places place

@@ -14,9 +14,9 @@ use Rattle.cover_rows.specs.Coverage.{IsProblemOf}
 use Rattle.cover_rows.proofs.CoverLemmas as problems
 use Rattle.set_cover.specs.Instance.{Instance, LightsIn}
 use Rattle.set_cover.proofs.ListLemmas.{none_in}
-use Rattle.cave_regions.specs.Cover.{Covering, IsCover, places_of, regions_in}
-use Rattle.cave_regions.specs.Splitting.{AreRegionsOf, IsPartOf, cells_of_each}
-use Rattle.cave_regions.proofs.FlatLemmas.{in_all, in_one, distinct_all}
+use Rattle.instance_regions.specs.Cover.{Covering, IsCover, places_of, regions_in}
+use Rattle.instance_regions.specs.Splitting.{AreRegionsOf, IsPartOf, cells_of_each}
+use Rattle.instance_regions.proofs.FlatLemmas.{in_all, in_one, distinct_all}
 use Rattle.cave_regions.proofs.CaveLemmas.{place_of}
 
 -- the places of each cover

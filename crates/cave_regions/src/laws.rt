@@ -4,9 +4,9 @@ ghost use Rattle.cave_model.specs.Cave.{Cave, IsSound};
 ghost use Rattle.cave_model.specs.Coverage.{Agrees, of_cave};
 ghost use Rattle.cave_model.specs.Plan.{IsSafe, hung};
 ghost use Rattle.cave_model.specs.Regions.{AreRegions};
-ghost use Rattle.cave_regions.specs.Cover.{Covering, IsCover, places_of, regions_in};
-ghost use Rattle.cave_regions.specs.Splitting.{AreRegionsOf, cells_of_each};
 ghost use Rattle.cover_rows.specs.Coverage.{IsProblemOf};
+ghost use Rattle.instance_regions.specs.Cover.{Covering, IsCover, places_of, regions_in};
+ghost use Rattle.instance_regions.specs.Splitting.{AreRegionsOf, cells_of_each};
 ghost use Rattle.set_cover.specs.Instance.{Instance, of_instance};
 
 /// The regions of a cave's problem are regions of the cave, and each has of the cave's light what falls on its cells.

@@ -1,19 +1,8 @@
-//! Regions: the independent parts of a set cover instance, and their covers.
+//! The independent regions of a cave's problem, and the laws that tie them to the cave.
 #![tactic(auto)]
 
-mod buckets;
-mod columns;
-mod copying;
-mod cover;
-mod entire;
-mod grouping;
-mod joining;
 pub mod laws;
-mod region;
-mod restricting;
 mod splitting;
 
-pub use cover::Cover;
-pub use entire::whole;
-pub use region::Region;
-pub use splitting::split;
+pub use instance_regions::{Cover, Region};
+pub use splitting::{split, whole};

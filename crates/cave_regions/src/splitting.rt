@@ -1,15 +1,10 @@
-//! The regions of a problem.
+//! The regions of a problem, as the definitions of instance regions have them.
 ghost use Rattle.std.specs.Prelude.{IfOk};
-ghost use Rattle.cave_regions.specs.Splitting.{AreRegionsOf};
-ghost use Rattle.set_cover.specs.Instance.{IsInstance};
+ghost use Rattle.instance_regions.specs.Splitting.{AreRegionsOf, IsWholeRegion};
 
-use crate::grouping::{cells_by, places_by};
-use crate::joining::labels_of;
-use crate::region::Region;
-use crate::restricting::restrict;
 use cave_model::OutOfMemory;
 use cover_rows::Problem;
-use set_cover::Instance;
+use instance_regions::{Region, entire_of, parts_of};
 use std::alloc::Global;
 
 /// The regions of a problem, by their least cells: no place lights cells of two of them, and any two cells of one are
@@ -18,26 +13,12 @@ use std::alloc::Global;
 pub fn split(alloc: Global, problem: &Problem) -> Result<Vec<Region>, OutOfMemory>
     ensures { IfOk result (λ v. AreRegionsOf problem.now v.items) }
 {
-    let regions = parts_of(alloc, problem.instance())?;
-    Ok(regions)
+    parts_of(alloc, problem.instance())
 }
 
-/// The regions of an instance.
-fn parts_of(alloc: Global, instance: &Instance) -> Result<Vec<Region>, OutOfMemory>
-    requires kept { IsInstance instance.now }
-    ensures { IfOk result (λ v. AreRegionsOf instance.now v.items) }
+/// The one region of all cells of a problem, and None where it has no cell.
+pub fn whole(alloc: Global, problem: &Problem) -> Result<Option<Region>, OutOfMemory>
+    ensures { IfOk result (λ found. IsWholeRegion problem.now found) }
 {
-    let labels = labels_of(alloc, instance)?;
-    let cells = cells_by(alloc, &labels)?;
-    let places = places_by(alloc, instance, &labels)?;
-    let mut ranks = vec![in alloc; 0u32; labels.len()]?;
-    let ranks = ranks.as_mut_slice();
-    let mut regions = Vec::new(alloc);
-    for label in 0..labels.len() {
-        let own = cells.at(label);
-        if !own.is_empty() {
-            regions.push(restrict(alloc, instance, ranks, own, places.at(label))?)?;
-        }
-    }
-    Ok(regions)
+    entire_of(alloc, problem.instance())
 }

@@ -24,7 +24,7 @@ use cave_base::coordinates;
 use cave_model::{Rule, World};
 use cave_plan::{Outline, PlanFault, Planner, RegionPlan, plan_cave};
 use cave_reading::read_cave;
-use cave_regions::Region;
+use instance_regions::Region;
 use certificate_text::write_certificate;
 use std::alloc::Global;
 use std::io::{Read, Write};

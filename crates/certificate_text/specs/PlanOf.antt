@@ -2,8 +2,8 @@
 use Rattle.std.specs.Prelude.{List, map}
 use Rattle.std.specs.Arc.{arc_value}
 use Rattle.std.specs.declared.sync.Arc.{Arc}
-use Rattle.cave_regions.specs.declared.cover.Cover.{Cover}
-use Rattle.cave_regions.specs.declared.region.Region.{Region}
+use Rattle.instance_regions.specs.declared.cover.Cover.{Cover}
+use Rattle.instance_regions.specs.declared.region.Region.{Region}
 use Rattle.proof_tree.specs.declared.proof.Proof.{Proof}
 use Rattle.proof_tree.specs.Shape.{tree_of}
 use Rattle.certificate_text.specs.Planned.{Plan}

@@ -8,8 +8,8 @@ use Rattle.proof_rules.specs.Tree.{Tree, Forest, leaf, weighted, branch, bar, om
 use Rattle.proof_rules.specs.Good.{Good}
 use Rattle.proof_rules.specs.Certificate.{Section, Version, first, second, third, Certificate}
 use Rattle.proof_rules.specs.Text.{ended, lines_of}
-use Rattle.cave_regions.specs.Cover.{IsCoverOfRegion}
-use Rattle.cave_regions.specs.Region.{IsRegion}
+use Rattle.instance_regions.specs.Cover.{IsCoverOfRegion}
+use Rattle.instance_regions.specs.Region.{IsRegion}
 use Rattle.proof_tree.specs.Order.{in_order, ordered_tree}
 
 -- a region with a cover of it, and a tree

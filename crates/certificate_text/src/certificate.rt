@@ -14,7 +14,7 @@ use crate::ranks::rank_of;
 use crate::sections::put_section;
 use crate::sink::Sink;
 use cave_model::World;
-use cave_regions::{Cover, Region};
+use instance_regions::{Cover, Region};
 use proof_tree::Proof;
 use std::alloc::Global;
 use std::io::Write;

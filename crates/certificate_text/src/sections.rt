@@ -11,7 +11,7 @@ use crate::fault::WriteFault;
 use crate::nodes::{ordered, put_tree, widened};
 use crate::sink::Sink;
 use cave_base::Cell;
-use cave_regions::{Cover, Region};
+use instance_regions::{Cover, Region};
 use proof_tree::Proof;
 use std::io::Write;
 

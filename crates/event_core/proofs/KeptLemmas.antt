@@ -2,7 +2,7 @@
 use Rattle.std.proofs.Common.{◌≡◌, ◌↔◌, ◌⊎◌, inl, inr, ℕ, ◌<◌, ◌≤◌, Bool, true, false, List, [], length, set, refl}
 use Rattle.std.proofs.Common.{sym, ap, ◌∙◌, subst}
 use Rattle.std.specs.Prelude.{IsTrue}
-use Rattle.cave_regions.specs.Cover.{Covering, IsCoverOfRegion}
+use Rattle.instance_regions.specs.Cover.{Covering, IsCoverOfRegion}
 use Rattle.proof_rules.specs.Tree.{Tree}
 use Rattle.event_core.specs.State.{IsDone}
 use Rattle.event_core.specs.Plays.{Steps}

@@ -2,7 +2,7 @@
 use Rattle.std.specs.Prelude.{◌≡◌, ◌≢◌, ℕ, ◌<◌, ◌≤◌, List, [], ◌∷◌, ◌++◌, length, slice_index, set, take, nat_lt}
 use Rattle.std.specs.Prelude.{if◌then◌else◌}
 use Rattle.set_cover.specs.Instance.{of_instance}
-use Rattle.cave_regions.specs.Cover.{Covering, IsCover}
+use Rattle.instance_regions.specs.Cover.{Covering, IsCover}
 use Rattle.proof_rules.specs.Good.{IsUnlit, AreOpen}
 use Rattle.proof_tree.specs.Piece.{Fathomed, IsClosed}
 use Rattle.event_core.specs.State.{State, Status, waiting, held, opened, closed, HasPart, IsLeft}

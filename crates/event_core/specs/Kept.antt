@@ -2,7 +2,7 @@
 use Rattle.std.specs.Prelude.{◌≡◌, ℕ, Bool, true, false, List, [], length, refl}
 use Rattle.std.specs.Coded.{Coded, code_by, coded×, coded_ℕ, coded_list}
 use Rattle.set_cover.specs.Instance.{Instance, instance_coded, of_instance}
-use Rattle.cave_regions.specs.Cover.{Covering, IsCoverOfRegion}
+use Rattle.instance_regions.specs.Cover.{Covering, IsCoverOfRegion}
 use Rattle.proof_rules.specs.Tree.{Tree}
 use Rattle.proof_rules.specs.Good.{Good}
 use Rattle.event_core.specs.State.{State}

@@ -1,5 +1,5 @@
 use cave_base::Cell;
-use cave_regions::Cover;
+use instance_regions::Cover;
 use proof_tree::{Closed, Name};
 
 /// What may happen in a core. Workers are numbers below the count handed in.

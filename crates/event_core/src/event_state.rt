@@ -1,7 +1,6 @@
 //! The core.
 ghost use Rattle.std.specs.Arc.{arc_value};
 ghost use Rattle.std.specs.Prelude.{◌≡◌, ◌<◌, ◌↔◌, [], length, set, slice_index, IsTrue, IfOk, IfErr, is_ok};
-ghost use Rattle.cave_regions.specs.Cover.{IsCover};
 ghost use Rattle.event_core.specs.Events.{smaller};
 ghost use Rattle.event_core.specs.Finished.{IsWhole};
 ghost use Rattle.event_core.specs.Kept.{IsKept, IsAssembly, put_kept, state_of};
@@ -9,13 +8,14 @@ ghost use Rattle.event_core.specs.NodeShape.{shape_of};
 ghost use Rattle.event_core.specs.Sound.{IsSoundState};
 ghost use Rattle.event_core.specs.State.{Begins, IsDone};
 ghost use Rattle.event_core.specs.Tracing.{IsTraced};
+ghost use Rattle.instance_regions.specs.Cover.{IsCover};
 ghost use Rattle.proof_tree.specs.Shape.{tree_of};
 
 use crate::assembling::{assemble, is_done};
 use crate::node::Node;
 use crate::putting::put;
 use crate::tracing::{Traced, trace};
-use cave_regions::{Cover, Region};
+use instance_regions::{Cover, Region};
 use proof_tree::Proof;
 use std::alloc::{AllocError, Global};
 use std::marker::Model;

@@ -3,7 +3,7 @@ ghost use Rattle.event_core.specs.Kept.{StepsTo};
 ghost use Rattle.event_core.specs.declared.event.Event.TheVariants.{Look, Offer};
 
 use crate::event_state::Core;
-use cave_regions::Cover;
+use instance_regions::Cover;
 
 impl Core {
     /// A worker sees the size of the best cover.

@@ -5,7 +5,7 @@ ghost use Rattle.event_core.specs.Opening.{IsOpening};
 
 use crate::node::{Node, Siblings};
 use cave_base::{Cell, Sequence};
-use cave_regions::Region;
+use instance_regions::Region;
 use proof_tree::{Proof, kid_places};
 use std::alloc::{AllocError, Global};
 

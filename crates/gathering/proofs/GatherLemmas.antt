@@ -3,7 +3,7 @@ use Rattle.std.proofs.Common.{◌≡◌, ℕ, ◌+◌, ◌<◌, ◌≤◌, List,
 use Rattle.std.proofs.Common.{◌∙◌, subst, arith}
 use Rattle.std.proofs.lemmas.List.{length-replicate}
 use Rattle.set_cover.specs.Instance.{Instance, of_instance}
-use Rattle.cave_regions.specs.Cover.{Covering}
+use Rattle.instance_regions.specs.Cover.{Covering}
 use Rattle.proof_rules.specs.Tree.{Tree, leaf}
 use Rattle.proof_rules.specs.Good.{Good}
 use Rattle.proof_rules.proofs.ListLemmas.{all_members, no_member}

@@ -5,7 +5,7 @@ use Rattle.std.proofs.Common.{refl, sym, ap, ◌∙◌, subst, arith}
 use Rattle.std.proofs.lemmas.Bool.Decides.{nat_tests}
 use Rattle.std.proofs.lemmas.List.{get_or-set_same, length-set}
 use Rattle.std.proofs.lemmas.List.Elements.{Contains-append_cases}
-use Rattle.cave_regions.specs.Cover.{Covering, IsCover}
+use Rattle.instance_regions.specs.Cover.{Covering, IsCover}
 use Rattle.proof_tree.specs.Piece.{Fathomed, IsClosed, Subproblem}
 use Rattle.event_core.specs.State.{State, Status, waiting, held, closed, HasPart, IsLeft}
 use Rattle.event_core.specs.Events.{IsEnabled, Does, MayOffer, MayClose, IsWorker, smaller}

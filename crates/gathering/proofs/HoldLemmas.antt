@@ -4,7 +4,7 @@ use Rattle.std.proofs.Common.{length, Some, None, Option}
 use Rattle.std.proofs.Common.{refl, sym, ap, ◌∙◌, subst}
 use Rattle.std.specs.Prelude.{if◌then◌else◌, eqb}
 use Rattle.set_cover.specs.Instance.{Instance}
-use Rattle.cave_regions.specs.Cover.{Covering}
+use Rattle.instance_regions.specs.Cover.{Covering}
 use Rattle.proof_tree.specs.Piece.{Fathomed}
 use Rattle.proof_tree.specs.Opened.{Split}
 use Rattle.event_core.specs.State.{State, Status, waiting, held, opened, closed, HasPart, Begins}

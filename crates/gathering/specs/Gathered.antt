@@ -1,7 +1,7 @@
 -- What gathering the results of workers answers. This is this project's own.
 use Rattle.std.specs.Prelude.{◌≡◌, ◌≤◌, ℕ, ◌+◌, true, List, [], ◌∷◌, length, Option, Some, None}
 use Rattle.set_cover.specs.Instance.{Instance}
-use Rattle.cave_regions.specs.Cover.{Covering}
+use Rattle.instance_regions.specs.Cover.{Covering}
 use Rattle.proof_rules.specs.Tree.{Tree}
 use Rattle.proof_tree.specs.Piece.{Fathomed}
 use Rattle.search_traits.specs.Planned.{IsStopped}

@@ -1,6 +1,6 @@
 -- What gleaning keeps.
 use Rattle.std.specs.Prelude.{◌≡◌, ℕ, ◌≤◌, Bool, true, false, List, length}
-use Rattle.cave_regions.specs.Cover.{Covering}
+use Rattle.instance_regions.specs.Cover.{Covering}
 use Rattle.proof_tree.specs.Piece.{Fathomed}
 use Rattle.event_core.specs.State.{State, HasPart, waiting, held}
 use Rattle.event_core.specs.Events.{IsWorker}

@@ -1,7 +1,7 @@
 //! Why no fewest places were found.
 ghost use Rattle.std.specs.Prelude.{◌≡◌};
 
-use cave_regions::Cover;
+use instance_regions::Cover;
 use std::alloc::{AllocError, AllocFailed};
 
 /// Why workers found no fewest places.

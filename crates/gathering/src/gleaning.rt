@@ -8,7 +8,7 @@ ghost use Rattle.gathering.specs.Gleaning.{Finishes, GleansWhere, MayFinish, Non
 ghost use Rattle.search_core.specs.declared.halt.Halt.TheVariants.{TurnsSpent};
 ghost use Rattle.search_traits.specs.Turns.{AreSpent, Works};
 
-use cave_regions::Cover;
+use instance_regions::Cover;
 use event_core::{Core, Event};
 use proof_tree::{Closed, Name, floor_of};
 use search_core::{AloneDesk, CloseFault, Halt, Strategy, close_piece};

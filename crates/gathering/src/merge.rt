@@ -11,7 +11,7 @@ use crate::gleaning::glean;
 use crate::opening::try_before_closes;
 use crate::trying::close_all;
 use cave_base::Cell;
-use cave_regions::{Cover, Region};
+use instance_regions::{Cover, Region};
 use event_core::Core;
 use pack_bound::scattered;
 use proof_tree::{Name, Piece, Proof};

@@ -6,7 +6,7 @@ ghost use Rattle.gathering.specs.Playing.{tries, tries_as_long, tries_before_clo
 ghost use Rattle.schedule_law.specs.Listing.{looks, offer_of, offers};
 
 use cave_base::Cell;
-use cave_regions::Cover;
+use instance_regions::Cover;
 use event_core::{Core, Event};
 use proof_tree::{Name, Opened};
 use schedule_law::Work;

@@ -2,7 +2,7 @@
 
 use crate::bits::{has_each, is_set, set_bit};
 use crate::reduced_instance::{InRegion, ReducedInstance};
-use cave_regions::Region;
+use instance_regions::Region;
 use std::alloc::{AllocError, Global};
 
 /// A region, and its reduced instance at the node where the search began. Cells and places go by their indices in the

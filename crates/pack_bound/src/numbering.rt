@@ -1,11 +1,11 @@
 //! Numbers of cells and places in place of their indices, and back.
 ghost use Rattle.std.specs.Prelude.{◌≡◌, All, Contains, IfOk, slice_index, map};
-ghost use Rattle.cave_regions.specs.Region.{IsRegion};
+ghost use Rattle.instance_regions.specs.Region.{IsRegion};
 ghost use Rattle.pack_bound.specs.Naming.{AreIndicesOf, cell_numbers};
 
 use crate::node::place_index;
 use cave_base::Cell;
-use cave_regions::Region;
+use instance_regions::Region;
 use set_cover::find;
 use std::alloc::{AllocError, Global};
 

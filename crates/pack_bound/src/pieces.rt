@@ -7,7 +7,7 @@ use crate::numbering::{indices_of, numbers_of_cells};
 use crate::packing::packed;
 use cave_base::Cell;
 use cave_model::OutOfMemory;
-use cave_regions::Region;
+use instance_regions::Region;
 use proof_tree::Piece;
 use std::alloc::Global;
 

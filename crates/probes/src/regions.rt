@@ -1,7 +1,8 @@
 //! Regions, and what planning one alone finds.
 
 use cave_model::{OutOfMemory, World};
-use cave_regions::{Region, split};
+use cave_regions::split;
+use instance_regions::Region;
 use cover_rows::{CoverFault, Problem};
 use proof_tree::Proof;
 use search_core::{AloneFault, plan_alone};

@@ -5,7 +5,7 @@ ghost use Rattle.set_cover.specs.Instance.{LightsIn, of_instance};
 
 use cave_base::Cell;
 use cave_model::OutOfMemory;
-use cave_regions::Region;
+use instance_regions::Region;
 use set_cover::find;
 use std::alloc::Global;
 

@@ -5,7 +5,7 @@ ghost use Rattle.proof_tree.specs.Piece.{IsPiece, root_of};
 use crate::name::Name;
 use cave_base::Cell;
 use cave_model::OutOfMemory;
-use cave_regions::Region;
+use instance_regions::Region;
 use std::alloc::Global;
 use std::marker::Model;
 use std::sync::Arc;

@@ -1,7 +1,7 @@
 -- What is known of the results of all workers once they are joined. This is this project's own.
 use Rattle.std.specs.Prelude.{◌≡◌, ℕ, ◌+◌, List, [], ◌∷◌, ◌++◌, length, All, Option, Some, None, min, map, flat_map}
 use Rattle.set_cover.specs.Instance.{Instance}
-use Rattle.cave_regions.specs.Cover.{Covering}
+use Rattle.instance_regions.specs.Cover.{Covering}
 use Rattle.proof_tree.specs.Piece.{Subproblem, Fathomed, root_of}
 use Rattle.proof_tree.specs.Opened.{Split, IsSplit, kids_of}
 use Rattle.proof_tree.specs.Weights.{weigh}

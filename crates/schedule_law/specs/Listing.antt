@@ -2,7 +2,7 @@
 -- It isn't the order in time: offers stand before all closing, which the results allow.
 use Rattle.std.specs.Prelude.{ℕ, ◌+◌, List, [], ◌∷◌, ◌++◌, length, eqb, Option, Some, None}
 use Rattle.std.specs.Prelude.{if◌then◌else◌}
-use Rattle.cave_regions.specs.Cover.{Covering}
+use Rattle.instance_regions.specs.Cover.{Covering}
 use Rattle.proof_tree.specs.Piece.{Fathomed}
 use Rattle.proof_tree.specs.Opened.{Split}
 use Rattle.event_core.specs.State.{State}

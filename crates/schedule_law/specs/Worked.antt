@@ -2,7 +2,7 @@
 use Rattle.std.specs.Prelude.{◌≡◌, ℕ, ◌≤◌, ◌<◌, List, length, Option, All, IfSome, refl}
 use Rattle.std.specs.Coded.{Coded, code_by, coded×, coded_list, coded_option}
 use Rattle.set_cover.specs.Instance.{Instance}
-use Rattle.cave_regions.specs.Cover.{Covering, covering_coded, IsCover}
+use Rattle.instance_regions.specs.Cover.{Covering, covering_coded, IsCover}
 use Rattle.proof_tree.specs.Piece.{Subproblem, subproblem_coded, Fathomed, fathomed_coded, IsClosed}
 use Rattle.proof_tree.specs.Opened.{Split, split_coded, IsSplit}
 

@@ -1,4 +1,4 @@
-use cave_regions::Cover;
+use instance_regions::Cover;
 use proof_tree::{Closed, Opened, Piece};
 use std::marker::Model;
 

@@ -5,7 +5,7 @@ use Rattle.std.specs.List.Sorted.{IsStrictlyIncreasing}
 use Rattle.std.proofs.lemmas.Bool.{cases_lt}
 use Rattle.std.proofs.lemmas.List.{get_or_push, get_or_append_left}
 use Rattle.set_cover.specs.Instance.{words_for}
-use Rattle.cave_regions.specs.Region.{IsRegion}
+use Rattle.instance_regions.specs.Region.{IsRegion}
 use Rattle.search_cases.specs.Made.{CountsUp, AreRows}
 
 -- numbers that count up, and the next one

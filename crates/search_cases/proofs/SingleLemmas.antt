@@ -5,7 +5,7 @@ use Rattle.cave_model.specs.Cave.{Cave}
 use Rattle.cave_model.specs.Coverage.{of_cave, Agrees}
 use Rattle.cover_rows.specs.Coverage.{IsProblemOf}
 use Rattle.set_cover.specs.Instance.{Instance, of_instance}
-use Rattle.cave_regions.specs.Splitting.{AreRegionsOf, IsPartOf}
+use Rattle.instance_regions.specs.Splitting.{AreRegionsOf, IsPartOf}
 use Rattle.cave_regions.proofs.CaveLemmas.{regions_are, regions_agree}
 use Rattle.search_cases.specs.Single.{IsSingleOf}
 

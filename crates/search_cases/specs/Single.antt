@@ -4,7 +4,7 @@ use Rattle.cave_model.specs.Cave.{Cave}
 use Rattle.cave_model.specs.Coverage.{of_cave, Agrees}
 use Rattle.cave_model.specs.Regions.{AreRegions}
 use Rattle.set_cover.specs.Instance.{Instance, of_instance}
-use Rattle.cave_regions.specs.Region.{IsRegion}
+use Rattle.instance_regions.specs.Region.{IsRegion}
 
 -- it has all the dark cells, and its places light the same of them as in the cave
 pub record IsSingleOf (cave : Cave) (region : Instance) : Type 0 where

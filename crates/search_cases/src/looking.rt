@@ -4,7 +4,7 @@ ghost use Rattle.std.specs.Prelude.{◌≡◌};
 ghost use Rattle.worker_results.specs.Results.{IsNewSeatAt};
 
 use beacon::{Beacon, Seat};
-use cave_regions::Region;
+use instance_regions::Region;
 use search_core::Desk;
 use std::alloc::{AllocError, Global};
 use std::marker::Brand;

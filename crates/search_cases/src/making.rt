@@ -3,7 +3,7 @@ ghost use Rattle.std.specs.Prelude.{◌≡◌, ◌≤◌, ◌<◌, ◌*◌, ◌+
 ghost use Rattle.search_cases.specs.Made.{CountsUp, made_row, IsRowFor, IsLitIn, AreRows};
 ghost use Rattle.set_cover.specs.Instance.{words_for};
 
-use cave_regions::Region;
+use instance_regions::Region;
 use set_cover::{Instance, first, has, next};
 use std::alloc::{AllocError, Global};
 

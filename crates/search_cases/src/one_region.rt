@@ -6,7 +6,8 @@ ghost use Rattle.certificate_text.specs.Planned.{AreBestOf};
 ghost use Rattle.search_cases.specs.Single.{IsSingleOf};
 
 use cave_model::World;
-use cave_regions::{Region, split};
+use cave_regions::split;
+use instance_regions::Region;
 use certificate_text::{Planned, write_certificate};
 use cover_rows::Problem;
 use event_core::Core;

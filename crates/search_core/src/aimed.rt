@@ -3,7 +3,7 @@ ghost use Rattle.std.specs.Prelude.{◌≡◌, ◌≤◌, IsTrue, length, min};
 
 use crate::alone::AloneDesk;
 use cave_model::OutOfMemory;
-use cave_regions::Cover;
+use instance_regions::Cover;
 use search_traits::Desk;
 
 /// A desk of a search alone, which shows no more than the size that the search is after.

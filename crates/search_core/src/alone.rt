@@ -4,7 +4,7 @@ ghost use Rattle.search_core.specs.Alone.{IsKept};
 ghost use Rattle.search_traits.specs.Turns.{IsWithin};
 
 use cave_model::OutOfMemory;
-use cave_regions::Cover;
+use instance_regions::Cover;
 use proof_tree::Proof;
 use search_traits::{BestPlan, Desk};
 use std::marker::Model;

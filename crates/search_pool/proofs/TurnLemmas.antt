@@ -4,7 +4,7 @@ use Rattle.std.proofs.Common.{Option, Some, None, IsSome, max, refl, sym, ap, â—
 use Rattle.std.proofs.lemmas.List.Elements.{All-head, All-tail}
 use native.Mathlib.Nat.{add-mul, one-mul}
 use Rattle.set_cover.specs.Instance.{Instance}
-use Rattle.cave_regions.specs.Cover.{Covering}
+use Rattle.instance_regions.specs.Cover.{Covering}
 use Rattle.search_traits.specs.Planned.{IsFloor}
 use Rattle.search_traits.specs.Turns.{AreSpent, IsWithin}
 use Rattle.gathering.specs.Gathered.{StopsGathering}

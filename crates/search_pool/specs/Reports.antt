@@ -1,7 +1,7 @@
 -- What a report of many workers tells. This is this project's own.
 use Rattle.std.specs.Prelude.{◌≡◌, ◌≤◌, ◌⊎◌, ℕ, ◌+◌, List, [], ◌∷◌, length, replicate, Option}
 use Rattle.set_cover.specs.Instance.{Instance}
-use Rattle.cave_regions.specs.Cover.{Covering}
+use Rattle.instance_regions.specs.Cover.{Covering}
 use Rattle.proof_tree.specs.Shape.{tree_of}
 use Rattle.proof_tree.specs.Opened.{Split}
 use Rattle.proof_tree.specs.Piece.{Subproblem}

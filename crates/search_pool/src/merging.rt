@@ -14,7 +14,7 @@ use crate::piece_counts::{PieceCounts, count_pieces};
 use crate::pool::Ran;
 use crate::report::Report;
 use crate::turns::left_of;
-use cave_regions::{Cover, Region};
+use instance_regions::{Cover, Region};
 use gathering::{Gathered, PoolFault, gather};
 use plan_options::Workers;
 use proof_tree::Opened;

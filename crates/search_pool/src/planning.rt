@@ -12,7 +12,7 @@ use crate::pool::Run;
 use crate::report::Report;
 use crate::starting::run_opened;
 use cave_base::Cell;
-use cave_regions::Region;
+use instance_regions::Region;
 use gathering::PoolFault;
 use plan_options::Workers;
 use proof_tree::{Opened, Piece};

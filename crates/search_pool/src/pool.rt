@@ -15,7 +15,7 @@ use crate::turns::{is_any_started, spent_by};
 use crate::unrun::Unrun;
 use crate::worker::Shared;
 use beacon::{Beacon, Seat};
-use cave_regions::{Cover, Region};
+use instance_regions::{Cover, Region};
 use piece_deque::{Owner, Thief};
 use plan_options::Workers;
 use proof_tree::Opened;

@@ -5,7 +5,7 @@ ghost use Rattle.worker_results.specs.Naming.{AreThieves};
 ghost use Rattle.worker_results.specs.Steps.{KeepFloors};
 
 use beacon::Beacon;
-use cave_regions::Region;
+use instance_regions::Region;
 use piece_deque::Thief;
 use search_core::{Desk, Observer, Strategy};
 use std::alloc::Global;

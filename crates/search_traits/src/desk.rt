@@ -5,7 +5,7 @@ ghost use Rattle.search_traits.specs.Turns.{Enters};
 ghost use Rattle.set_cover.specs.Instance.{Instance};
 
 use cave_model::OutOfMemory;
-use cave_regions::Cover;
+use instance_regions::Cover;
 
 /// It holds the size that it showed last, the least size that it accepted, how many turns it granted, how many it
 /// grants at most, if they are limited, and its region. No call changes the last two.

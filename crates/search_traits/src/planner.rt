@@ -1,6 +1,6 @@
 //! Who plans the regions of a cave.
 
-use cave_regions::Cover;
+use instance_regions::Cover;
 use proof_tree::Proof;
 
 /// A cover, a tree, and how many turns were granted.

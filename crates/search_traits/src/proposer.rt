@@ -2,7 +2,7 @@
 ghost use Rattle.pack_bound.specs.Nodes.{IsStateOf};
 
 use cave_base::Cell;
-use cave_regions::Region;
+use instance_regions::Region;
 use pack_bound::Node;
 use proof_tree::Proof;
 use std::alloc::{AllocError, Global};

@@ -4,7 +4,7 @@ ghost use Rattle.search_traits.specs.declared.region_fault.RegionFault.TheVarian
 
 use crate::planner::BestPlan;
 use cave_model::OutOfMemory;
-use cave_regions::Cover;
+use instance_regions::Cover;
 use std::alloc::AllocFailed;
 
 /// The plan of a region, or why it has none.

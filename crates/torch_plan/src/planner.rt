@@ -4,7 +4,7 @@ ghost use Rattle.cave_model.specs.RuleOf.{rule_of};
 ghost use Rattle.cave_runs.specs.RunOfPlan.{IsRunOfPlan};
 
 use cave_model::Rule;
-use cave_regions::Region;
+use instance_regions::Region;
 use cave_runs::{Outcome, Planner, RunFault, Watcher};
 use plan_options::PlanOpts;
 use search_core::plan_by_one;

@@ -10,7 +10,7 @@ use Rattle.std.proofs.lemmas.List.Elements.{All-head, All-tail, All-from_get_or}
 use Rattle.set_cover.specs.Bits.{Has}
 use Rattle.set_cover.specs.Instance.{Instance, IsInstance, LightsAt, row_of}
 use Rattle.set_cover.proofs.OrderLemmas.{element_at, element_of, rises}
-use Rattle.cave_regions.specs.Region.{IsRegion}
+use Rattle.instance_regions.specs.Region.{IsRegion}
 use Rattle.pack_bound.specs.Indices.{IsCoverAt}
 use Rattle.tree_judges.specs.Thinning.{thinned}
 

@@ -5,7 +5,7 @@ ghost use Rattle.proof_rules.specs.Tree.{bar};
 ghost use Rattle.proof_tree.specs.Shape.{tree_of};
 ghost use Rattle.tree_judges.specs.Bars.{wrapped, TakesBars};
 
-use cave_regions::Region;
+use instance_regions::Region;
 use pack_bound::{Node, is_bar};
 use proof_tree::{Below, Proof};
 use std::alloc::{AllocError, Global};

@@ -6,7 +6,7 @@ ghost use Rattle.proof_tree.specs.Shape.{tree_of, forest_of};
 
 use crate::bars::{Bar, wrap};
 use cave_base::{Cell, Sequence};
-use cave_regions::Region;
+use instance_regions::Region;
 use pack_bound::{number_at, numbers_of_cells};
 use proof_rules::{Group, Share};
 use proof_tree::{Below, Kids, Proof};

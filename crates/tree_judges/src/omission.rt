@@ -8,7 +8,7 @@ ghost use Rattle.proof_tree.specs.Shape.{tree_of, forest_of};
 ghost use Rattle.set_cover.specs.Bits.{Has, IsRowOf, IsWithout};
 ghost use Rattle.tree_judges.specs.Omission.{CellsAvoid, SharesAvoid, GroupsAvoid, Avoids, AllAvoid, MayBeBarredOver};
 
-use cave_regions::Region;
+use instance_regions::Region;
 use pack_bound::{Node, may_give_way};
 use proof_rules::{Group, Share};
 use proof_tree::Proof;

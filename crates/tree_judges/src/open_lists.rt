@@ -4,7 +4,7 @@ ghost use Rattle.pack_bound.specs.Judged.{AreMarked};
 ghost use Rattle.pack_bound.specs.Nodes.{IsStateOf};
 ghost use Rattle.tree_judges.specs.Weighted.{claimed, AreOpenLists};
 
-use cave_regions::Region;
+use instance_regions::Region;
 use pack_bound::{Node, open_places};
 use std::alloc::{AllocError, Global};
 use weight_judge::{Claim, PlaceLists};

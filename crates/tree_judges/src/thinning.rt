@@ -1,13 +1,13 @@
 //! A region with some of its places alone.
 ghost use Rattle.std.specs.List.Sorted.{IsStrictlyIncreasing};
 ghost use Rattle.std.specs.Prelude.{◌≡◌, IsTrue, IfOk, IfSome, map, flat_map, slice_index};
-ghost use Rattle.cave_regions.specs.Region.{IsRegion};
+ghost use Rattle.instance_regions.specs.Region.{IsRegion};
 ghost use Rattle.pack_bound.specs.Indices.{IsCoverAt};
 ghost use Rattle.set_cover.specs.Instance.{row_of};
 ghost use Rattle.tree_judges.specs.Thinning.{thinned};
 
 use cave_base::Cell;
-use cave_regions::Region;
+use instance_regions::Region;
 use pack_bound::is_cover;
 use set_cover::Instance;
 use std::alloc::{AllocError, Global};

@@ -9,7 +9,7 @@ ghost use Rattle.tree_judges.specs.Omission.{ClosesWithout};
 
 use crate::omission::{avoids, is_bar_over, may_be_omitted, omitted_row, unlit_without};
 use crate::weighted_leaf::is_weighted_leaf;
-use cave_regions::Region;
+use instance_regions::Region;
 use pack_bound::{Node, is_bar, is_leaf, open_places};
 use proof_tree::Proof;
 use set_cover::{add, has};

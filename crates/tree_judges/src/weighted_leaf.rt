@@ -7,7 +7,7 @@ ghost use Rattle.tree_judges.specs.Weighted.{claimed, AreShares, MayBeWeighted};
 ghost use Rattle.weight_judge.specs.Claims.{claims_of as list_of};
 
 use crate::open_lists::open_lists;
-use cave_regions::Region;
+use instance_regions::Region;
 use pack_bound::{Node, mark_unlit};
 use proof_rules::{Group, Share};
 use set_cover::empty;

@@ -6,7 +6,7 @@ use Rattle.std.proofs.lemmas.List.Elements.{All-push, All-weaker}
 use Rattle.beacon.specs.declared.known.Known.{Known}
 use Rattle.beacon.specs.Marks.{AtLeast, lesser_told, together}
 use Rattle.set_cover.specs.Instance.{Instance}
-use Rattle.cave_regions.specs.Cover.{Covering}
+use Rattle.instance_regions.specs.Cover.{Covering}
 use Rattle.proof_tree.specs.Piece.{Subproblem, Fathomed}
 use Rattle.proof_tree.specs.Weights.{weigh}
 use Rattle.schedule_law.specs.Joined.{all_kids, least_size, less_by}

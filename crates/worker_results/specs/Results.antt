@@ -3,7 +3,7 @@ use Rattle.std.specs.Prelude.{◌≡◌, ℕ, ◌≤◌, Bool, true, false, List
 use Rattle.std.specs.Coded.{Coded, code_by, coded×, coded_ℕ, coded_bool, coded_option}
 use Rattle.atomic_table.specs.Seated.{TableId}
 use Rattle.set_cover.specs.Instance.{Instance, instance_coded}
-use Rattle.cave_regions.specs.Cover.{Covering, covering_coded}
+use Rattle.instance_regions.specs.Cover.{Covering, covering_coded}
 use Rattle.proof_tree.specs.Piece.{Subproblem}
 use Rattle.beacon.specs.declared.known.Known.{Known}
 use Rattle.beacon.specs.Marks.{Seated, known_coded}

@@ -2,7 +2,7 @@
 use Rattle.std.specs.Prelude.{◌≡◌, ℕ, ◌+◌, List, [], ◌++◌, All, Option, refl}
 use Rattle.std.specs.Coded.{Coded, code_by, coded×, coded_ℕ, coded_list}
 use Rattle.set_cover.specs.Instance.{Instance}
-use Rattle.cave_regions.specs.Cover.{Covering}
+use Rattle.instance_regions.specs.Cover.{Covering}
 use Rattle.proof_tree.specs.Piece.{Subproblem, subproblem_coded, Fathomed, fathomed_coded}
 use Rattle.proof_tree.specs.Opened.{Split, split_coded}
 use Rattle.proof_tree.specs.Weights.{weigh}

@@ -7,7 +7,7 @@ ghost use Rattle.worker_results.specs.declared.step.Step.TheVariants.{Made};
 use crate::naming::Naming;
 use crate::share::WorkerShare;
 use crate::step::Step;
-use cave_regions::Region;
+use instance_regions::Region;
 use proof_tree::floor_of;
 use search_core::{CloseFault, Desk, Strategy, close_piece};
 use std::alloc::Global;

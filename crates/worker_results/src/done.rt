@@ -13,7 +13,7 @@ use crate::own::Own;
 use crate::share::WorkerShare;
 use crate::spending::Spending;
 use beacon::Seat;
-use cave_regions::Cover;
+use instance_regions::Cover;
 use schedule_law::Work;
 use std::marker::Model;
 

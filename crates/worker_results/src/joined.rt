@@ -8,7 +8,7 @@ use crate::naming::Naming;
 use crate::parting::{AllParts, part_all};
 use beacon::{Beacon, Seat};
 use cave_model::OutOfMemory;
-use cave_regions::Cover;
+use instance_regions::Cover;
 use proof_tree::Piece;
 use schedule_law::Work;
 use std::alloc::Global;

@@ -9,7 +9,7 @@ use crate::pushing::push_all;
 use crate::share::WorkerShare;
 use crate::splitting::split;
 use crate::step::Step;
-use cave_regions::Region;
+use instance_regions::Region;
 use proof_tree::{Opened, Piece};
 use search_core::{Desk, Strategy};
 use std::alloc::Global;

@@ -10,7 +10,7 @@ use crate::naming::Naming;
 use crate::spending::Spending;
 use beacon::{Beacon, Seat};
 use cave_model::OutOfMemory;
-use cave_regions::{Cover, Region};
+use instance_regions::{Cover, Region};
 use search_core::Desk;
 use std::marker::{Model, PhantomData};
 use std::sync::Arc;

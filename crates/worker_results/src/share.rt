@@ -6,7 +6,7 @@ ghost use Rattle.worker_results.specs.Shares.{IsFresh, IsShare, work_of};
 use crate::accesses::Accesses;
 use crate::naming::Naming;
 use crate::own::Own;
-use cave_regions::Cover;
+use instance_regions::Cover;
 use proof_tree::{Closed, Name, Opened, Piece};
 use schedule_law::Work;
 use std::alloc::Global;

@@ -6,7 +6,7 @@ ghost use Rattle.worker_results.specs.declared.step.Step.TheVariants.{Made, Turn
 use crate::step::Step;
 use cave_base::Cell;
 use cave_model::OutOfMemory;
-use cave_regions::Region;
+use instance_regions::Region;
 use proof_tree::{Opened, Piece};
 use search_core::{Strategy, cell_to_open};
 use std::alloc::Global;

@@ -1,7 +1,7 @@
 //! Reports of many workers, and their numbers.
 use super::planning::workers;
 use super::ring_caves::{corridor, stone_ring};
-use cave_regions::Region;
+use instance_regions::Region;
 use search_moves::Moves;
 use search_pool::{PoolFault, Report, plan_with};
 use std::alloc::{AllocError, Global};

@@ -2,7 +2,7 @@
 use super::counted::{closed, report_of};
 use super::gates::Meeting;
 use super::ring_caves::{both_rings, each_ring, stone_ring};
-use cave_regions::Region;
+use instance_regions::Region;
 use search_pool::Report;
 use std::alloc::Global;
 use std::process::Abort;

@@ -1,7 +1,7 @@
 //! Results of workers, gathered on the stone ring: the root has 52 kids, and each is closed at a floor of 2.
 use super::felt::{felt_ring, stone_ring};
 use super::kids::{closed, kids_on};
-use cave_regions::Region;
+use instance_regions::Region;
 use gathering::{Gathered, PoolFault, gather};
 use proof_tree::Closed;
 use schedule_law::Work;

@@ -1,7 +1,7 @@
 //! The kids of an opened root, each taken and closed, and the tree that is assembled from them.
 use super::felt::{core_of, felt_ring, kid_name, play, root_name};
 use cave_base::Cell;
-use cave_regions::{Cover, Region};
+use instance_regions::{Cover, Region};
 use event_core::{Core, Event};
 use pack_bound::first_plan;
 use proof_tree::{Closed, Opened, Piece, Proof};

@@ -1,7 +1,7 @@
 //! Trees that leave cells out, of a ring of four cells and four places, two of which are needed.
 use super::rings::region;
 use cave_base::Sequence;
-use cave_regions::Region;
+use instance_regions::Region;
 use pack_bound::Node;
 use proof_tree::{Below, Kids, Proof};
 use std::alloc::{AllocError, Global};

@@ -2,7 +2,7 @@
 use super::kids::closed;
 use super::rings::{region, ring};
 use cave_base::Cell;
-use cave_regions::Region;
+use instance_regions::Region;
 use pack_bound::{dominated, first_plan, scattered};
 use proof_tree::{Piece, floor_of};
 use search_core::{AloneDesk, CloseFault, close_piece};

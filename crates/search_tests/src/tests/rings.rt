@@ -1,5 +1,5 @@
 //! Rings of cells, where each place lights a cell and the next: the fewest are half of them, rounded up.
-use cave_regions::Region;
+use instance_regions::Region;
 use pack_bound::first_plan;
 use proof_tree::Proof;
 use search_cases::made;

@@ -1,7 +1,7 @@
 //! Finished trees without the kids that a branch can do without, in small regions, two of whose places are needed.
 use super::rings::region;
 use cave_base::Sequence;
-use cave_regions::Region;
+use instance_regions::Region;
 use pack_bound::Node;
 use proof_rules::{Group, Share};
 use proof_tree::{Kids, Proof};

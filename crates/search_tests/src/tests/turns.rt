@@ -4,7 +4,7 @@
 //! the fewest places, so the root is no leaf. Two places light the cell that it branches on. Each of them leaves a row
 //! of cells of which every other one is scattered, so each kid is a leaf: three nodes, and three turns.
 use super::rings::ring;
-use cave_regions::Region;
+use instance_regions::Region;
 use pack_bound::first_plan;
 use proof_tree::{Piece, floor_of};
 use search_core::{AloneDesk, AloneFault, CloseFault, close_piece, plan_alone};

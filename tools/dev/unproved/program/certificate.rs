@@ -1,6 +1,6 @@
 //! The lines of a certificate (docs/FORMATS.md), and its version.
 
-use crate::cave_regions::Region;
+use crate::instance_regions::Region;
 use crate::proof_tree::Proof;
 use std::fmt::Write;
 

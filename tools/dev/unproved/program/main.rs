@@ -2,7 +2,7 @@
 //! with contracts. It reads a cave's regions and writes how many torches they need, and the certificate.
 
 mod cave_base;
-mod cave_regions;
+mod instance_regions;
 mod certificate;
 mod memory;
 mod pack_bound;
@@ -18,7 +18,7 @@ mod local_search;
 mod search_moves;
 mod weighted_leaves;
 
-use cave_regions::{Region, add};
+use instance_regions::{Region, add};
 use std::io::Read;
 
 /// Usage: unproved TURNS CERTIFICATE, with the regions on standard input as `run` writes them.

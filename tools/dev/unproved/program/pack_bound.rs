@@ -1,6 +1,6 @@
 //! A node: the chosen places, a row of the cells that none of them lights, and a row of the barred places.
 
-use crate::cave_regions::{Region, add};
+use crate::instance_regions::{Region, add};
 use crate::memory::{AllocError, Global};
 
 pub struct Node {

@@ -1,6 +1,6 @@
 //! What proposes, and what is proposed.
 
-use crate::cave_regions::Region;
+use crate::instance_regions::Region;
 use crate::memory::{AllocError, Global, Vec};
 use crate::pack_bound::Node;
 use crate::proof_tree::Proof;

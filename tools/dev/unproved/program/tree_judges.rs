@@ -1,7 +1,7 @@
 //! Whether a tree closes a node, judged as `tree_judges` judges it: what stands below cells that are left out speaks of
 //! none of them and is judged over all cells, but for the bars right below.
 
-use crate::cave_regions::{Region, add, bits_of, has};
+use crate::instance_regions::{Region, add, bits_of, has};
 use crate::memory::{AllocError, Global, Vec};
 use crate::pack_bound::Node;
 use crate::proof_tree::{Below, Proof};

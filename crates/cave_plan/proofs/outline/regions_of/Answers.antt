@@ -1,7 +1,7 @@
 use Rattle.std.proofs.lemmas.List.Elements.{All-weaker}
 use Rattle.std.proofs.lemmas.Result.{err_from_is_err_and}
-use Rattle.cave_regions.specs.Region.{IsRegion}
-use Rattle.cave_regions.specs.Splitting.{IsPartOf}
+use Rattle.instance_regions.specs.Region.{IsRegion}
+use Rattle.instance_regions.specs.Splitting.{IsPartOf}
 use Rattle.cave_regions.proofs.CaveLemmas.{regions_are, regions_agree}
 use Rattle.cave_plan.proofs.FaultLemmas.{cover_names, none_named}
 use Rattle.cave_plan.proofs.outline.regions_of.Goals as goal

@@ -1,5 +1,5 @@
 use Rattle.std.proofs.Common.{◌∙◌, ℕ, List, Option, true, length, ap, sym, subst, arith}
-use Rattle.cave_regions.specs.Cover.{Covering}
+use Rattle.instance_regions.specs.Cover.{Covering}
 use Rattle.proof_tree.specs.Piece.{Subproblem}
 use Rattle.event_core.specs.State.{HasPart, held}
 use Rattle.event_core.specs.Kept.{state_of, StepsTo}

@@ -1,6 +1,6 @@
 use Rattle.std.proofs.Common.{◌∙◌, ℕ, length, ap, subst, arith}
 use Rattle.std.specs.Arc.{arc_value}
-use Rattle.cave_regions.specs.Cover.{Covering}
+use Rattle.instance_regions.specs.Cover.{Covering}
 use Rattle.proof_tree.specs.Shape.{tree_of}
 use Rattle.event_core.specs.Kept.{state_of}
 use Rattle.gathering.specs.Gathered.{Gleans}

@@ -1,6 +1,6 @@
 use Rattle.std.proofs.Common.{◌∙◌, ℕ, Some, IsSome, ap, refl, subst, sym, arith}
 use Rattle.std.specs.Arc.{arc_value}
-use Rattle.cave_regions.specs.Cover.{Covering}
+use Rattle.instance_regions.specs.Cover.{Covering}
 use Rattle.gathering.proofs.GatherLemmas.{scattered_floor}
 use Rattle.gathering.proofs.merge.stopped.Goals as goal
 

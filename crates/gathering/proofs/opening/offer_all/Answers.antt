@@ -1,5 +1,5 @@
 use Rattle.std.proofs.Common.{◌∙◌, ◌+◌, ◌++◌, Option, drop, refl, sym, ap, arith}
-use Rattle.cave_regions.specs.Cover.{Covering}
+use Rattle.instance_regions.specs.Cover.{Covering}
 use Rattle.schedule_law.specs.Listing.{offers, offer_of}
 use Rattle.schedule_law.specs.Worked.{Worked}
 use Rattle.event_core.specs.Kept.{state_of}

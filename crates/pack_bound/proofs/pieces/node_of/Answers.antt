@@ -1,6 +1,6 @@
 use Rattle.std.proofs.Common.{List, ℕ, ◌∙◌, All, Contains, subst, sym}
 use Rattle.set_cover.specs.Instance.{Instance}
-use Rattle.cave_regions.specs.Region.{IsRegion}
+use Rattle.instance_regions.specs.Region.{IsRegion}
 use Rattle.cave_model.specs.Plan.{AreDistinct}
 use Rattle.pack_bound.specs.Naming.{AreIndicesOf}
 use Rattle.pack_bound.specs.Nodes.{AreInside, IsStateWith}

@@ -1,5 +1,5 @@
 use Rattle.std.proofs.Common.{◌/◌, ◌+◌, refl, subst, sym}
-use Rattle.cave_regions.specs.Region.{IsRegion}
+use Rattle.instance_regions.specs.Region.{IsRegion}
 use Rattle.search_cases.specs.Made.{AreRows}
 use Rattle.std.proofs.Common.{length}
 use Rattle.search_cases.proofs.RowLemmas.{rows_make}

@@ -1,6 +1,6 @@
 use Rattle.std.proofs.Common.{◌≡◌, ◌∙◌, inl, inr, ap, subst, Option}
 use Rattle.std.specs.Prelude.{IfSome}
-use Rattle.cave_regions.specs.Cover.{Covering}
+use Rattle.instance_regions.specs.Cover.{Covering}
 use Rattle.proof_tree.specs.Shape.{tree_of}
 use Rattle.std.specs.Arc.{arc_value}
 use Rattle.search_core.proofs.AloneLemmas.{proved_floor}

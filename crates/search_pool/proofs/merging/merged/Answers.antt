@@ -1,6 +1,6 @@
 use Rattle.std.proofs.Common.{ℕ, List, Option, sym, ap, ◌∙◌, subst, arith}
 use Rattle.std.specs.Arc.{arc_value}
-use Rattle.cave_regions.specs.Cover.{Covering}
+use Rattle.instance_regions.specs.Cover.{Covering}
 use Rattle.proof_rules.specs.Tree.{Tree}
 use Rattle.search_traits.specs.Turns.{IsWithin}
 use Rattle.gathering.specs.Gathered.{IsGathered, StopsGathering}

@@ -3,7 +3,7 @@ use denote.Param.Send.{IsSend, sendable}
 use Rattle.std.proofs.Crossing.{crosses}
 use Rattle.beacon.proofs.seat.Seat.TheSendSync as seat
 use Rattle.cave_base.proofs.sequence.Sequence.TheSendSync as sequence
-use Rattle.cave_regions.proofs.cover.Cover.TheSendSync as cover
+use Rattle.instance_regions.proofs.cover.Cover.TheSendSync as cover
 use Rattle.proof_tree.proofs.opened.Opened.TheSendSync as opened
 use Rattle.proof_tree.proofs.piece.Piece.TheSendSync as piece
 use Rattle.proof_tree.proofs.proof.Below.TheLaws.TheKnot as ring

@@ -1,6 +1,6 @@
 use Rattle.std.proofs.Common.{◌≡◌, sym, subst, ◌∙◌}
 use Rattle.set_cover.specs.Instance.{IsInstance}
-use Rattle.cave_regions.specs.Region.{IsRegion}
+use Rattle.instance_regions.specs.Region.{IsRegion}
 use Rattle.tree_judges.specs.Thinning.{thinned}
 use Rattle.tree_judges.proofs.ThinLemmas.{made_of, thin_instance, thin_region}
 use Rattle.tree_judges.proofs.thinning.with_places.Goals.{After-width}

@@ -1,7 +1,7 @@
 use Rattle.std.proofs.Common.{sym, ap, ◌∙◌, subst}
 use Rattle.std.specs.Arc.{arc_value}
 use Rattle.set_cover.specs.Instance.{Instance}
-use Rattle.cave_regions.specs.Cover.{IsCoverOfRegion}
+use Rattle.instance_regions.specs.Cover.{IsCoverOfRegion}
 use Rattle.event_core.specs.NodeShape.{shape_of}
 use Rattle.event_core.specs.Kept.{Kept}
 use Rattle.event_core.proofs.KeptLemmas.{better_kept}

@@ -1,5 +1,0 @@
-use Rattle.cave_regions.proofs.BucketLemmas.{AreEmptyLists}
-use Rattle.cave_regions.proofs.buckets.Buckets.new.Given as goal
-
-abbrev pub invariant-loop : goal.invariant-loop
-invariant-loop l = AreEmptyLists l.counter l.lists.items

@@ -1,5 +1,0 @@
-use Rattle.cave_regions.specs.Columns.{AreColumns}
-use Rattle.cave_regions.proofs.columns.columns_of.Given as goal
-
-abbrev pub invariant-loop-place : goal.invariant-loop-place
-invariant-loop-place l = AreColumns l.instance l.place l.words.items

@@ -1,7 +1,0 @@
-use Rattle.std.proofs.Common.{length}
-use Rattle.set_cover.specs.Instance.{words_for}
-use Rattle.cave_regions.specs.Restricting.{AreCopied}
-use Rattle.cave_regions.proofs.copying.copy_rows.Given as goal
-
-abbrev pub invariant-loop-row : goal.invariant-loop-row
-invariant-loop-row l = AreCopied l.instance l.own l.placed (words_for (length l.own)) l.row l.words

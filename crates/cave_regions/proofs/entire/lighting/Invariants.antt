@@ -1,6 +1,0 @@
-use Rattle.cave_model.proofs.ListingLemmas.{ListsBelow}
-use Rattle.cave_regions.specs.Restricting.{IsLighting}
-use Rattle.cave_regions.proofs.entire.lighting.Given as goal
-
-abbrev pub invariant-loop-place : goal.invariant-loop-place
-invariant-loop-place l = ListsBelow (IsLighting l.instance) l.place l.placed.items

@@ -1,7 +1,0 @@
-use Rattle.std.proofs.Common.{length}
-use Rattle.cave_regions.specs.Grouping.{IsCellOf}
-use Rattle.cave_regions.proofs.BucketLemmas.{Grouping}
-use Rattle.cave_regions.proofs.grouping.cells_by.Given as goal
-
-abbrev pub invariant-loop-cell : goal.invariant-loop-cell
-invariant-loop-cell l = Grouping (IsCellOf l.labels) (length l.labels) l.cell l.buckets

@@ -1,7 +1,0 @@
-use Rattle.std.proofs.Common.{length}
-use Rattle.cave_regions.specs.Grouping.{IsPlaceOfLabel}
-use Rattle.cave_regions.proofs.BucketLemmas.{Grouping}
-use Rattle.cave_regions.proofs.grouping.places_by.Given as goal
-
-abbrev pub invariant-loop-place : goal.invariant-loop-place
-invariant-loop-place l = Grouping (IsPlaceOfLabel l.instance l.labels) (length l.labels) l.place l.buckets

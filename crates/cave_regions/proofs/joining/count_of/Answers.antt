@@ -1,5 +1,0 @@
-use Rattle.cave_regions.proofs.RestrictLemmas.{few_fit}
-use Rattle.cave_regions.proofs.joining.count_of.Goals as goal
-
-pub returns-clause-few : goal.returns-clause-few
-returns-clause-few c = few_fit c.args.cells.now c.requires.ascending (λ k. (c.type_inv.cells k).fits)

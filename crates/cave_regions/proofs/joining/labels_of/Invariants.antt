@@ -1,5 +1,0 @@
-use Rattle.cave_regions.proofs.TreeLemmas.{Joined}
-use Rattle.cave_regions.proofs.joining.labels_of.Given as goal
-
-abbrev pub invariant-loop-place : goal.invariant-loop-place
-invariant-loop-place l = Joined l.instance l.place l.parents

@@ -1,5 +1,0 @@
-use Rattle.cave_regions.proofs.SplitLemmas.{Splitting}
-use Rattle.cave_regions.proofs.splitting.parts_of.Given as goal
-
-abbrev pub invariant-loop-label : goal.invariant-loop-label
-invariant-loop-label l = Splitting l.instance l.labels.items l.label l.regions.items

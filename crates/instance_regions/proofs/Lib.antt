@@ -1,0 +1,10 @@
+pub mod FlatLemmas
+pub mod CopyLemmas
+pub mod ColumnLemmas
+pub mod RestrictLemmas
+pub mod PartLemmas
+pub mod WholeLemmas
+pub mod TreeLemmas
+pub mod BucketLemmas
+pub mod LabelLemmas
+pub mod SplitLemmas

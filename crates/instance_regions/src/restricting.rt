@@ -1,0 +1,63 @@
+//! A part of an instance as a region of its own.
+ghost use Rattle.std.specs.Prelude.{◌≡◌, ◌<◌, length, map, slice_index, All, IfOk};
+ghost use Rattle.instance_regions.specs.Restricting.{AreCopied, AreRanks, IsSelfContained, IsRestriction};
+ghost use Rattle.set_cover.specs.Instance.{words_for};
+
+use crate::copying::copy_rows;
+use crate::region::Region;
+use cave_base::Cell;
+use cave_model::OutOfMemory;
+use set_cover::{Instance, empty, number};
+use std::alloc::Global;
+
+/// The items with these indices.
+fn chosen(alloc: Global, items: &[Cell], indices: &[u32]) -> Result<Vec<Cell>, OutOfMemory>
+    requires inside { All (λ index. index < length items.now) indices.now }
+    ensures { IfOk result (λ v. v.items ≡ map (slice_index items.now) indices.now) }
+{
+    let mut these = Vec::with_capacity(alloc, indices.len())?;
+    for index in indices {
+        these.push(items[*index as usize])?;
+    }
+    Ok(these)
+}
+
+/// The rows of the places with these indices, for the cells with those.
+fn rows_of(
+    alloc: Global,
+    instance: &Instance,
+    ranks: &[u32],
+    own: &[u32],
+    placed: &[u32],
+) -> Result<Vec<u64>, OutOfMemory>
+    requires closed { IsSelfContained instance.now own.now placed.now }
+    requires ranks { AreRanks instance.now own.now ranks.now }
+    ensures { IfOk result (λ v.
+        AreCopied instance.now own.now placed.now (words_for (length own.now)) (length placed.now) v.items) }
+{
+    let mut words = empty(alloc, placed.len() * own.len().div_ceil(64))?;
+    copy_rows(words.as_mut_slice(), instance, ranks, own, placed);
+    Ok(words)
+}
+
+/// The part with these cells and places, by their indices, as a region. `ranks` is memory for a number a cell.
+pub fn restrict(
+    alloc: Global,
+    instance: &Instance,
+    ranks: &mut [u32],
+    own: &[u32],
+    placed: &[u32],
+) -> Result<Region, OutOfMemory>
+    requires closed { IsSelfContained instance.now own.now placed.now }
+    requires ranks { length ranks.old ≡ length instance.now.cells }
+    ensures { IfOk result (λ r. IsRestriction instance.now own.now placed.now r) }
+{
+    let cells = instance.cells();
+    number(ranks, own);
+    let words = rows_of(alloc, instance, ranks, own, placed)?;
+    let own_cells = chosen(alloc, cells, own)?;
+    let own_places = chosen(alloc, instance.places(), placed)?;
+    let width = own.len().div_ceil(64);
+    let region = Region::new(alloc, Instance::new(own_cells, own_places, width, words))?;
+    Ok(region)
+}
