@@ -3,11 +3,7 @@
 //! judges accept or refuse.
 #![tactic(auto)]
 
-mod bits;
-mod coverage;
 mod cyclic_core;
-mod dominance;
-mod lists;
 mod node_places;
 mod node_rows;
 mod numbered_places;
@@ -17,17 +13,10 @@ mod region_instance;
 mod rows_left;
 mod stand_ins;
 
-pub use bits::{
-    Bits, bit_count, bits_of, clear_all, clear_bit, common_count, drop_all, has_each, is_set,
-    join_into, keep_all, row_in, set_bit, words_around,
-};
-pub use coverage::Coverage;
 pub use cyclic_core::CyclicCore;
-pub use dominance::{Dominance, first_dominating, is_dominated, undominated};
-pub use lists::{NumberLists, small};
 pub use node_places::NodePlaces;
 pub use numbered_places::NumberedPlaces;
 pub use reduced_instance::{InRegion, ReducedInstance, undominated_places};
 pub use reduced_node::ReducedNode;
 pub use region_instance::RegionInstance;
-pub use rows_left::{RowsLeft, count_each};
+pub use rows_left::RowsLeft;

@@ -1,6 +1,6 @@
 //! Rows of what a node leaves of the reduced instance.
 
-use crate::bits::{clear_all, is_set, set_bit};
+use number_lists::{clear_all, is_set, set_bit};
 use crate::reduced_instance::ReducedInstance;
 use pack_bound::Node;
 

@@ -1,6 +1,6 @@
 //! A region beside its reduced instance: what its places light, of the cells that are asked for.
 
-use crate::bits::{has_each, is_set, set_bit};
+use number_lists::{has_each, is_set, set_bit};
 use crate::reduced_instance::{InRegion, ReducedInstance};
 use instance_regions::Region;
 use std::alloc::{AllocError, Global};

@@ -3,7 +3,7 @@
 //! all that stands before a number (this project's own; such sums are known as prefix sums).
 
 use crate::fixed_point::at;
-use instance_reduction::NumberLists;
+use number_lists::NumberLists;
 use std::alloc::{AllocError, Global};
 
 /// For each list the ends of its runs: the first number of each, and the one behind its last.

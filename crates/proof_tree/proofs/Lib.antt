@@ -1,3 +1,4 @@
 pub mod OrderLemmas
 pub mod SieveLemmas
 pub mod KidLemmas
+pub mod BarLemmas

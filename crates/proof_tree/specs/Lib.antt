@@ -4,6 +4,7 @@ pub mod Piece
 pub mod Opened
 pub mod Weights
 pub mod Order
+pub mod Bars
 -- private
 pub mod Codes
 pub mod Falls

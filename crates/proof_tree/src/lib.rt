@@ -1,6 +1,7 @@
 //! Proof trees in memory, and the pieces that they close.
 #![tactic(auto)]
 
+mod bars;
 mod closed;
 mod kids;
 mod name;
@@ -9,6 +10,7 @@ mod opening;
 mod piece;
 mod proof;
 
+pub use bars::{Bar, wrap};
 pub use closed::{Closed, floor_of};
 pub use name::Name;
 pub use opened::Opened;

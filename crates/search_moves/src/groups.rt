@@ -1,7 +1,8 @@
 //! The groups of a weighted leaf: copies, by the indices of cells, and the places that have to be left out above them.
 
 use cave_base::Sequence;
-use instance_reduction::{InRegion, ReducedInstance, set_bit, small};
+use instance_reduction::{InRegion, ReducedInstance};
+use number_lists::{set_bit, small};
 use proof_rules::{Group, Share};
 use std::alloc::{AllocError, Global};
 

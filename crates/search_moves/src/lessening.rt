@@ -5,12 +5,10 @@ use crate::needless_kids::{FinishedBranch, Needless, NodeRows, Told};
 use crate::pruning::{bars_above, copied};
 use crate::spoken::Spoken;
 use cave_base::Sequence;
-use instance_reduction::{
-    InRegion, NodePlaces, RegionInstance, bits_of, clear_bit, drop_all, is_set, set_bit,
-};
-use proof_tree::{Below, Kids, Proof};
+use instance_reduction::{InRegion, NodePlaces, RegionInstance};
+use number_lists::{bits_of, clear_bit, drop_all, is_set, set_bit};
+use proof_tree::{Bar, Below, Kids, Proof, wrap};
 use std::alloc::{AllocError, Global};
-use tree_judges::{Bar, wrap};
 
 /// A copy of the tree of a node without the kids that its branches can do without.
 pub(crate) fn without_needless_kids(

@@ -5,10 +5,10 @@
 //! which know no cells that are left out, can say it.
 
 use crate::spoken::Spoken;
-use instance_reduction::{RegionInstance, keep_all, set_bit};
-use proof_tree::Proof;
+use instance_reduction::RegionInstance;
+use number_lists::{keep_all, set_bit};
+use proof_tree::{Bar, Proof};
 use std::alloc::{AllocError, Global};
-use tree_judges::Bar;
 
 /// Rows of the cells that are unlit at a node and not left out, of the places that are barred there, and of those that
 /// are, though the tree doesn't know it.

@@ -1,7 +1,7 @@
 //! What a finished tree speaks of, by the indices of cells and places in the region.
 
 use instance_regions::Region;
-use instance_reduction::{is_set, join_into, set_bit};
+use number_lists::{is_set, join_into, set_bit};
 use proof_rules::Group;
 use std::alloc::{AllocError, Global};
 

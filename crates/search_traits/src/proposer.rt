@@ -4,9 +4,8 @@ ghost use Rattle.pack_bound.specs.Nodes.{IsStateOf};
 use cave_base::Cell;
 use instance_regions::Region;
 use pack_bound::Node;
-use proof_tree::Proof;
+use proof_tree::{Bar, Proof};
 use std::alloc::{AllocError, Global};
-use tree_judges::Bar;
 
 /// What is asked of a proposer: a node of a region, and the floor of the tree that is wanted for it. With no floor it
 /// is the node where the search begins.

@@ -5,9 +5,9 @@ use Rattle.proof_tree.specs.declared.proof.Proof.{Proof}
 use Rattle.proof_tree.specs.Shape.{tree_of, forest_of, tree_size, forest_size}
 use Rattle.set_cover.specs.Instance.{Instance}
 use Rattle.pack_bound.specs.Indices.{place_number}
-use Rattle.tree_judges.specs.Bars.{wrapped}
-use Rattle.tree_judges.specs.declared.bars.Bar.{Bar}
-use Rattle.tree_judges.proofs.BarLemmas.{wrapped_push}
+use Rattle.proof_tree.specs.Bars.{wrapped}
+use Rattle.proof_tree.specs.declared.bars.Bar.{Bar}
+use Rattle.proof_tree.proofs.BarLemmas.{wrapped_push}
 use Rattle.pack_bound.specs.Naming.{numbered, all_numbered}
 
 abbrev pub joined : List Proof → Forest → Forest

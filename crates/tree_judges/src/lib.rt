@@ -10,7 +10,7 @@ mod thinning;
 mod tree_judge;
 mod weighted_leaf;
 
-pub use bars::{Bar, take_bars, wrap};
+pub use bars::take_bars;
 pub use numbering::with_numbers;
 pub use thinning::thin;
 pub use tree_judge::is_good;

@@ -4,12 +4,11 @@ ghost use Rattle.pack_bound.specs.Naming.{cell_numbers, numbered_group, numbered
 ghost use Rattle.proof_rules.specs.Tree.{leaf, weighted};
 ghost use Rattle.proof_tree.specs.Shape.{tree_of, forest_of};
 
-use crate::bars::{Bar, wrap};
 use cave_base::{Cell, Sequence};
 use instance_regions::Region;
 use pack_bound::{number_at, numbers_of_cells};
 use proof_rules::{Group, Share};
-use proof_tree::{Below, Kids, Proof};
+use proof_tree::{Bar, Below, Kids, Proof, wrap};
 use std::alloc::{AllocError, Global};
 use std::mem;
 

@@ -1,7 +1,8 @@
 //! Groups of a weighted leaf, of whole weights.
 
 use cave_base::Sequence;
-use instance_reduction::{RowsLeft, is_set};
+use instance_reduction::RowsLeft;
+use number_lists::is_set;
 use linear_relaxation::WholeWeights;
 use proof_rules::{Group, Share};
 use std::alloc::{AllocError, Global};

@@ -1,6 +1,6 @@
 use Rattle.std.proofs.Common.{List, subst, sym, slice_index_or}
 use Rattle.tree_judges.specs.Bars.{TakesBars}
-use Rattle.tree_judges.specs.declared.bars.Bar.{Bar}
+use Rattle.proof_tree.specs.declared.bars.Bar.{Bar}
 use Rattle.tree_judges.proofs.BarLemmas.{takes_more, still_state}
 use Rattle.tree_judges.proofs.bars.take_bars.Goals as goal
 

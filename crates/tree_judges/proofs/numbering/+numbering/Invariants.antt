@@ -1,7 +1,7 @@
 use Rattle.std.proofs.Common.{◌≡◌, ◌≤◌}
 use Rattle.proof_tree.specs.Shape.{tree_of, forest_of, tree_size, forest_size}
 use Rattle.pack_bound.specs.Naming.{numbered}
-use Rattle.tree_judges.specs.Bars.{wrapped}
+use Rattle.proof_tree.specs.Bars.{wrapped}
 use Rattle.tree_judges.proofs.NumberingLemmas.{NumberedSoFar}
 use Rattle.tree_judges.proofs.numbering.+numbering.Given as goal
 

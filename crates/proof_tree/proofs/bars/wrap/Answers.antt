@@ -1,10 +1,10 @@
 use Rattle.std.proofs.Common.{List, [], ◌∷◌, ◌++◌, ◌≡◌, ap, sym, ◌∙◌}
 use Rattle.proof_rules.specs.Tree.{Tree}
 use Rattle.proof_tree.specs.Shape.{tree_of}
-use Rattle.tree_judges.specs.Bars.{wrapped}
-use Rattle.tree_judges.specs.declared.bars.Bar.{Bar}
-use Rattle.tree_judges.proofs.BarLemmas.{wrapped_push}
-use Rattle.tree_judges.proofs.bars.wrap.Goals as goal
+use Rattle.proof_tree.specs.Bars.{wrapped}
+use Rattle.proof_tree.specs.declared.bars.Bar.{Bar}
+use Rattle.proof_tree.proofs.BarLemmas.{wrapped_push}
+use Rattle.proof_tree.proofs.bars.wrap.Goals as goal
 
 pub loop-bar-preserved : goal.loop-bar-preserved
 loop-bar-preserved c =

@@ -1,7 +1,7 @@
 use Rattle.std.proofs.Common.{◌≡◌, vec_len}
 use Rattle.proof_tree.specs.Shape.{tree_of}
-use Rattle.tree_judges.specs.Bars.{wrapped}
-use Rattle.tree_judges.proofs.bars.wrap.Given as goal
+use Rattle.proof_tree.specs.Bars.{wrapped}
+use Rattle.proof_tree.proofs.bars.wrap.Given as goal
 
 abbrev pub invariant-loop-bar : goal.invariant-loop-bar
 invariant-loop-bar l = wrapped l.bars.items (tree_of l.whole) ≡ wrapped l.fn.bars.items (tree_of l.fn.proof)
