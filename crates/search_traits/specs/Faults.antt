@@ -2,11 +2,14 @@
 use Rattle.std.specs.Prelude.{◌<◌, ℕ, Option}
 use Rattle.set_cover.specs.Instance.{Instance}
 use Rattle.search_traits.specs.Planned.{IsStopped}
+use Rattle.search_traits.specs.Turns.{IsShareSpent}
 use Rattle.search_traits.specs.declared.region_fault.RegionFault.{RegionFault}
 use Rattle.search_traits.specs.declared.region_fault.RegionFault.TheVariants as region
 
--- what so many workers tell where they have no plan: threads are wanted only by more than one
+-- what so many workers tell where they have no plan: turns are spent where the share of one of them is, and threads are
+-- wanted only by more than one
 abbrev pub StopsRegion : ℕ → Instance → Option ℕ → RegionFault → Type 0
-StopsRegion workers instance turns (region.Stopped cover floor) = IsStopped instance turns cover floor
+StopsRegion workers instance turns (region.Stopped cover floor granted) =
+    IsStopped instance turns cover floor × IsShareSpent workers turns granted
 StopsRegion workers instance turns region.NoThread = 1 < workers
 StopsRegion workers instance turns region.OutOfMemory = Unit {0}

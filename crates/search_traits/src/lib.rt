@@ -1,14 +1,22 @@
-//! The roles of a search, and what they tell each other: who proposes, where a size to beat is shown, who is told how
-//! it gets on, and who plans a region, whether by one thread or by many. Those who search and those who ask for a plan
-//! stand on these alone, and not on each other.
+//! The roles of a search, and what they tell each other: who proposes, who closes pieces, where a size to beat is shown,
+//! who is told how it gets on, and who plans a region, whether by one thread or by many. Those who search and those who
+//! ask for a plan stand on these alone, and not on each other.
 #![tactic(auto)]
 
+mod alone;
+mod beginning;
+mod close_fault;
+mod closer;
 mod desk;
 mod observer;
 mod planner;
 mod proposer;
 mod region_fault;
 
+pub use alone::AloneDesk;
+pub use beginning::Beginning;
+pub use close_fault::CloseFault;
+pub use closer::Closer;
 pub use desk::Desk;
 pub use observer::{Observer, Unobserved};
 pub use planner::{BestPlan, Planner};

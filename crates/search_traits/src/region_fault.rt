@@ -13,8 +13,12 @@ pub type RegionPlan = Result<BestPlan, RegionFault>;
 /// Why a region has no plan.
 #[derive(Drop)]
 pub enum RegionFault {
-    /// The turns were spent: the best cover so far, and a size that no cover is below.
-    Stopped { cover: Cover, floor: u64 },
+    /// The turns were spent: the best cover so far, a size that no cover is below, and how many turns were granted.
+    Stopped {
+        cover: Cover,
+        floor: u64,
+        turns: u64,
+    },
     /// No worker could be started.
     NoThread,
     OutOfMemory,

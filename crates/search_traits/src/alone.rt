@@ -1,12 +1,13 @@
-//! The desk of a search alone.
+//! The desk of a search in one thread.
 ghost use Rattle.std.specs.Prelude.{◌≡◌, length};
-ghost use Rattle.search_core.specs.Alone.{IsKept};
+ghost use Rattle.search_traits.specs.Alone.{IsKept, state_of};
 ghost use Rattle.search_traits.specs.Turns.{IsWithin};
 
+use crate::desk::Desk;
+use crate::planner::BestPlan;
 use cave_model::OutOfMemory;
 use instance_regions::Cover;
 use proof_tree::Proof;
-use search_traits::{BestPlan, Desk};
 use std::marker::Model;
 
 /// It keeps the smallest cover that it was offered, and counts turns.
@@ -21,7 +22,7 @@ pub struct AloneDesk {
 }
 
 impl Model for AloneDesk {
-    ghost use Rattle.search_core.specs.Alone.{Alone, alone_coded, IsKept};
+    ghost use Rattle.search_traits.specs.Alone.{Alone, alone_coded, IsKept};
 
     ghost Value = { Alone };
 
@@ -77,14 +78,14 @@ impl AloneDesk {
     }
 
     /// The size of the smallest cover.
-    pub(crate) fn size(&self) -> u64
+    pub fn size(&self) -> u64
         ensures { result ≡ length self.now.cover.places }
     {
         self.cover.size()
     }
 
     /// The smallest cover with this tree, and how many turns were granted.
-    pub(crate) fn into_plan(self, proof: Proof) -> BestPlan
+    pub fn into_plan(self, proof: Proof) -> BestPlan
         ensures plan { (result.cover ≡ self.cover) × (result.proof ≡ proof) × (result.turns ≡ self.granted) }
         ensures kept { IsKept self }
     {
@@ -107,15 +108,7 @@ impl AloneDesk {
 }
 
 impl Desk for AloneDesk {
-    ghost shown = { λ d. d.shown };
-
-    ghost accepted = { λ d. d.accepted };
-
-    ghost granted = { λ d. d.granted };
-
-    ghost limit = { λ d. d.limit };
-
-    ghost region = { λ d. d.cover.region };
+    ghost state = { λ d. state_of d };
 
     fn look(&mut self) -> u64 {
         self.shown = self.cover.size();

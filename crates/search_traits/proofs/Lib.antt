@@ -1,0 +1,2 @@
+pub mod DeskLemmas
+pub mod PlannedLemmas

@@ -1,0 +1,34 @@
+//! Who searches: closes pieces, and says where a region or a piece is opened.
+ghost use Rattle.std.specs.Arc.{arc_value};
+ghost use Rattle.std.specs.Prelude.{◌≡◌, Contains, IfErr, IfOk, IfSome};
+ghost use Rattle.search_traits.specs.Desks.{Continues, Works};
+ghost use Rattle.search_traits.specs.Pieces.{IsBeginning, IsClosing, IsHandedBack};
+
+use crate::beginning::Beginning;
+use crate::close_fault::CloseFault;
+use crate::desk::Desk;
+use cave_base::Cell;
+use cave_model::OutOfMemory;
+use instance_regions::Region;
+use proof_tree::{Closed, Piece};
+use std::alloc::Global;
+use std::sync::Arc;
+
+/// A search that may be shared out by pieces. Workers stand on this alone, and know nothing of how it is done.
+pub trait Closer {
+    /// What a search of a whole region begins with.
+    fn begin(alloc: Global, region: &Arc<Region>) -> Result<Beginning, OutOfMemory>
+        ensures { IfOk result (IsBeginning (arc_value region.now)) };
+
+    /// The cell on which a piece is opened, or None where that is not worth while at this size.
+    fn cell_to_open(alloc: Global, piece: &Piece, size: u64) -> Result<Option<Cell>, OutOfMemory>
+        ensures { IfOk result (λ found. IfSome found (Contains piece.now.region.cells)) };
+
+    /// The piece with a tree that is good at the size that the desk showed last.
+    fn close_piece<D: Desk>(alloc: Global, piece: Piece, desk: &mut D) -> Result<Closed, CloseFault>
+        requires { piece.region ≡ (D.state desk.old).region }
+        ensures closed { IfOk result (λ closed. IsClosing piece (D.state desk.new).shown closed) }
+        ensures fault { IfErr result (IsHandedBack piece (D.state desk.new)) }
+        ensures worked { IfOk result (λ _. Works (D.state desk.old) (D.state desk.new)) }
+        ensures onward { Continues (D.state desk.old) (D.state desk.new) };
+}
