@@ -1,3 +1,2 @@
 pub mod AloneLemmas
 pub mod PieceLemmas
-pub mod TurnLemmas

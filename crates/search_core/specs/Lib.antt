@@ -1,6 +1,4 @@
 -- public clauses cite
-pub mod Stops
-pub mod Pieces
--- private
 pub mod Alone
-pub mod Desks
+-- private
+pub mod Aimed

@@ -1,12 +1,12 @@
-//! The desk of a search alone that is after a size below that of its cover: what is proved then is a floor.
+//! The desk of a search in one thread that is after a size below that of its cover: what is proved then is a floor.
 ghost use Rattle.std.specs.Prelude.{◌≡◌, ◌≤◌, IsTrue, length, min};
+ghost use Rattle.search_core.specs.Aimed.{aimed_state};
 
-use crate::alone::AloneDesk;
 use cave_model::OutOfMemory;
 use instance_regions::Cover;
-use search_traits::Desk;
+use search_traits::{AloneDesk, Desk};
 
-/// A desk of a search alone, which shows no more than the size that the search is after.
+/// The desk of a search in one thread, which shows no more than the size that the search is after.
 #[derive(Drop)]
 pub(crate) struct AimedDesk {
     desk: AloneDesk,
@@ -64,15 +64,7 @@ impl AimedDesk {
 }
 
 impl Desk for AimedDesk {
-    ghost shown = { λ d. d.shown };
-
-    ghost accepted = { λ d. d.desk.accepted };
-
-    ghost granted = { λ d. d.desk.granted };
-
-    ghost limit = { λ d. d.desk.limit };
-
-    ghost region = { λ d. d.desk.cover.region };
+    ghost state = { λ d. aimed_state d.shown d.desk };
 
     fn look(&mut self) -> u64 {
         let size = self.desk.look();

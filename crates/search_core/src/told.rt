@@ -1,20 +1,20 @@
-//! A proposer whose nodes are told to an observer.
+//! A proposer whose nodes an observer is told of.
 
 use search_traits::{Observer, Proposal, Proposer, Task};
 use std::alloc::{AllocError, Global};
 
 /// It proposes what the inner one does, and tells of each node.
 #[derive(Drop)]
-pub(crate) struct Observed<'o, P, O> {
+pub(crate) struct Told<'o, P, O> {
     inner: P,
     observer: &'o O,
     /// The size of the smallest cover as the round began.
     size: u64,
 }
 
-impl<'o, P: Proposer, O: Observer> Observed<'o, P, O> {
-    pub(crate) fn new(inner: P, observer: &'o O) -> Observed<'o, P, O> {
-        Observed {
+impl<'o, P: Proposer, O: Observer> Told<'o, P, O> {
+    pub(crate) fn new(inner: P, observer: &'o O) -> Told<'o, P, O> {
+        Told {
             inner,
             observer,
             size: 0,
@@ -31,7 +31,7 @@ impl<'o, P: Proposer, O: Observer> Observed<'o, P, O> {
     }
 }
 
-impl<P: Proposer, O: Observer> Proposer for Observed<'_, P, O> {
+impl<P: Proposer, O: Observer> Proposer for Told<'_, P, O> {
     fn propose(&mut self, alloc: Global, task: Task<'_>) -> Result<Proposal, AllocError> {
         self.observer.turn(self.size, task.floor.unwrap_or(0));
         self.inner.propose(alloc, task)
