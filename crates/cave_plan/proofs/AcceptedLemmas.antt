@@ -53,6 +53,7 @@ part_of plan = record {
   torches = in_order plan.torches;
   floor = length plan.torches;
   spent = false;
+  granted = 0;
 }
 
 -- the best plan of a region bounds it from both sides

@@ -1,12 +1,14 @@
 -- Regions planned one after another.
 use Rattle.std.proofs.Common.{◌≡◌, ℕ, ◌+◌, ◌≤◌, Bool, true, false, List, [], ◌∷◌, ◌++◌, length, map, All, Contains}
-use Rattle.std.proofs.Common.{refl, sym, ap, subst, ◌∙◌, arith, Option, append_assoc, length-append}
+use Rattle.std.proofs.Common.{refl, sym, ap, subst, ◌∙◌, arith, Option, Some, None, ◌*◌, ◌<◌, append_assoc, length-append}
+use Rattle.std.specs.Prelude.{max}
 use Rattle.std.specs.Prelude.{flat_map, IsSome, if◌then◌else◌}
 use Rattle.std.proofs.lemmas.Bool.{true≢false}
 use Rattle.std.proofs.lemmas.List.{map-append, append-nil}
 use Rattle.std.proofs.lemmas.List.Elements.{All-append, All-cons, All-nil, All-head, All-tail, Contains-append_left}
 use Rattle.std.proofs.lemmas.List.Elements.{Contains-push}
 use Rattle.std.proofs.lemmas.Grind.{flat_map-append}
+use Rattle.std.proofs.Math.Nat.{mul-le-mul_right}
 use Rattle.set_cover.specs.Instance.{Instance, of_instance}
 use Rattle.cave_model.specs.Coverage.{IsPlaceOf}
 use Rattle.proof_rules.specs.Tree.{Tree}
@@ -16,7 +18,9 @@ use Rattle.proof_rules.proofs.BoundLemmas.{bounds, piece_serves}
 use Rattle.instance_regions.specs.Cover.{Covering, IsCover, IsCoverOfRegion}
 use Rattle.certificate_text.specs.Planned.{Plan}
 use Rattle.search_traits.specs.Planned.{IsBest, IsStopped}
-use Rattle.cave_plan.specs.Bounded.{Bounded, all_torches, finished, total_floor}
+use Rattle.search_traits.specs.Turns.{IsShareSpent, IsWithin}
+use Rattle.search_traits.specs.declared.planner.Allowance.{Allowance}
+use Rattle.cave_plan.specs.Bounded.{Bounded, AreTurnsOf, IsGrantedBy, all_torches, finished, total_floor}
 use Rattle.cave_plan.specs.Course.{Course, course, IsBounded, IsProved, AreFinished, AreProvedPlans, IsCourse, GoesOn}
 
 -- what holds of a value holds of all of a list of it alone
@@ -114,16 +118,17 @@ spent_last parts part is = subst (λ (l : List Bool). Contains l true)
 -- ---- one region more
 
 -- a part more, where a plan is added with it or the turns were spent
-pub part_more : (regions : List Instance) (turns : Option ℕ) (old : Course) (part : Bounded) (floor : ℕ)
-    (stopped : Bool) (more : List Plan)
-    → (c : IsCourse regions turns old) → IsBounded part
+pub part_more : (regions : List Instance) (allowance : Allowance) (old : Course) (part : Bounded) (floor : ℕ)
+    (stopped : Bool) (turns : ℕ) (more : List Plan)
+    → (c : IsCourse regions allowance old) → IsBounded part → IsGrantedBy allowance part
+    → AreTurnsOf allowance stopped turns
     → (old.floor + part.floor ≤ length (old.torches ++ part.torches) → floor ≡ old.floor + part.floor)
     → (stopped ≡ false → AreProvedPlans (regions ++ part.region ∷ []) (old.torches ++ part.torches) (old.plans ++ more))
-    → (stopped ≡ true → IsSome turns)
+    → (stopped ≡ true → IsSome allowance.turns)
     → AreFinished (part ∷ []) more → (stopped ≡ true → HasSpent (c.parts ++ part ∷ []))
-    → IsCourse (regions ++ part.region ∷ []) turns
-    (course (old.torches ++ part.torches) floor stopped (old.plans ++ more))
-part_more regions turns old part floor stopped more c is sum proved limited finished_is spent =
+    → IsCourse (regions ++ part.region ∷ []) allowance
+    (course (old.torches ++ part.torches) floor stopped turns (old.plans ++ more))
+part_more regions allowance old part floor stopped turns more c is granted most sum proved limited finished_is spent =
     let parts = c.parts ++ part ∷ [] in
     let all : All IsBounded parts = All-append IsBounded c.parts (part ∷ []) c.each (one IsBounded part is) in
     let torches : all_torches parts ≡ old.torches ++ part.torches =
@@ -140,6 +145,8 @@ part_more regions turns old part floor stopped more c is sum proved limited fini
       of_them = map-append (λ (p : Bounded). p.region) c.parts (part ∷ []) ∙ ap (λ (l : List Instance). l
           ++ part.region ∷ []) c.of_them;
       each = all;
+      granted = All-append (IsGrantedBy allowance) c.parts (part ∷ []) c.granted (one (IsGrantedBy allowance) part granted);
+      most = most;
       whole = torches;
       total = total ∙ sym (sum within);
       proved = proved;
@@ -153,14 +160,14 @@ abbrev pub AddsUp : List ℕ → ℕ → ℕ → ℕ → Type 0
 AddsUp torches a b sum = a + b ≤ length torches → sum ≡ a + b
 
 -- a region that was planned to the end
-abbrev best_part : Instance → Covering → Bounded
-best_part region cover =
-    record { region = region; torches = cover.places; floor = length cover.places; spent = false }
+abbrev best_part : Instance → Covering → ℕ → Bounded
+best_part region cover granted =
+    record { region = region; torches = cover.places; floor = length cover.places; spent = false; granted = granted }
 
 -- a best cover's size is a floor
-pub best_bounded : (region : Instance) (cover : Covering) (tree : Tree) → IsBest region cover tree → IsCover cover
-    → IsBounded (best_part region cover)
-best_bounded region cover tree best kept = record {
+pub best_bounded : (region : Instance) (cover : Covering) (granted : ℕ) (tree : Tree) → IsBest region cover tree
+    → IsCover cover → IsBounded (best_part region cover granted)
+best_bounded region cover granted tree best kept = record {
   whole = λ e. refl;
   some = λ e. absurd (true≢false (sym e));
   cover = subst (λ (r : Instance). IsCoverOfRegion r cover.places) best.of_it kept;
@@ -182,18 +189,65 @@ proved_more regions torches plans plan are is = record {
       ∙ ap (λ (l : List ℕ). l ++ plan.torches) are.whole;
 }
 
+-- ---- turns
+
+-- a limit bounds the greater of two numbers where it bounds both
+within_most : (limit : Option ℕ) (a b : ℕ) → IsWithin limit a → IsWithin limit b → IsWithin limit (max a b)
+within_most None a b one other = tt
+within_most (Some most) a b one other = omega (arith, one, other)
+
+-- a share is spent by as many turns and more
+share_more : (workers : ℕ) (limit : Option ℕ) (less more : ℕ) → IsShareSpent workers limit less → less ≤ more
+    → IsWithin limit more → IsShareSpent workers limit more
+share_more workers None less more spent le within = absurd spent
+share_more workers (Some most) less more spent le within =
+    let step : less + 1 ≤ more + 1 = omega (arith, le) in
+    let scaled : (less + 1) * workers ≤ (more + 1) * workers = mul-le-mul_right workers step in
+    (within, omega (arith, spent.1, scaled))
+
+-- the most of the turns before and of those of a region that was planned to the end
+pub most_best : (allowance : Allowance) (stopped : Bool) (turns granted : ℕ) → AreTurnsOf allowance stopped turns
+    → IsWithin allowance.turns granted → AreTurnsOf allowance stopped (max turns granted)
+most_best allowance stopped turns granted are within =
+    let both = within_most allowance.turns turns granted are.within within in record {
+      within = both;
+      used = λ e. share_more allowance.workers allowance.turns turns (max turns granted) (are.used e)
+          (omega arith) both;
+    }
+
+-- a share that is spent is within the limit
+share_within : (workers : ℕ) (limit : Option ℕ) (granted : ℕ) → IsShareSpent workers limit granted
+    → IsWithin limit granted
+share_within workers None granted spent = tt
+share_within workers (Some most) granted spent = spent.0
+
+-- the most of the turns before and of those of a region whose turns were spent
+pub most_stopped : (allowance : Allowance) (stopped : Bool) (turns granted : ℕ) → AreTurnsOf allowance stopped turns
+    → IsShareSpent allowance.workers allowance.turns granted → AreTurnsOf allowance true (max turns granted)
+most_stopped allowance stopped turns granted are used =
+    let within = share_within allowance.workers allowance.turns granted used in
+    let both = within_most allowance.turns turns granted are.within within in record {
+      within = both;
+      used = λ e. share_more allowance.workers allowance.turns granted (max turns granted) used (omega arith) both;
+    }
+
+-- ---- a region more, with its plan
+
 -- one more region, with a best cover
-pub best_more : (turns : Option ℕ) (region : Instance) (cover : Covering) (tree : Tree) (old : Course) (floor : ℕ)
-    → IsBest region cover tree → IsCover cover
+pub best_more : (allowance : Allowance) (region : Instance) (cover : Covering) (granted : ℕ) (tree : Tree)
+    (old : Course) (floor : ℕ)
+    → IsBest region cover tree → IsCover cover → IsWithin allowance.turns granted
     → AddsUp (old.torches ++ cover.places) old.floor (length cover.places) floor
-    → GoesOn turns region old (course (old.torches ++ cover.places) floor old.stopped
+    → GoesOn allowance region old (course (old.torches ++ cover.places) floor old.stopped (max old.turns granted)
     (old.plans ++ record { region = region; torches = cover.places; tree = tree } ∷ []))
-best_more turns region cover tree old floor best kept sum =
-    let part : Bounded = best_part region cover in
+best_more allowance region cover granted tree old floor best kept within sum =
+    let part : Bounded = best_part region cover granted in
     let plan : Plan = record { region = region; torches = cover.places; tree = tree } in
-    let bounded : IsBounded part = best_bounded region cover tree best kept in
+    let bounded : IsBounded part = best_bounded region cover granted tree best kept in
     record {
-      each = λ regions c. part_more regions turns old part floor old.stopped (plan ∷ []) c bounded sum
+      each = λ regions c. part_more regions allowance old part floor old.stopped (max old.turns granted) (plan ∷ []) c
+          bounded (record { within = within; used = λ e. absurd (true≢false (sym e)) })
+          (most_best allowance old.stopped old.turns granted c.most within) sum
           (λ e. proved_more regions old.torches old.plans plan (c.proved e)
           (record { cover = bounded.cover; good = best.proved })) c.limited
           (record { regions = refl; torches = refl })
@@ -201,69 +255,85 @@ best_more turns region cover tree old floor best kept sum =
     }
 
 -- one more region, whose turns were spent
-pub stopped_more : (turns : Option ℕ) (cover : Covering) (least : ℕ) (old : Course) (floor : ℕ)
-    → IsStopped cover.region turns cover least → IsCover cover
+pub stopped_more : (allowance : Allowance) (cover : Covering) (least granted : ℕ) (old : Course) (floor : ℕ)
+    → IsStopped cover.region allowance.turns cover least
+    → IsShareSpent allowance.workers allowance.turns granted → IsCover cover
     → AddsUp (old.torches ++ cover.places) old.floor least floor
-    → GoesOn turns cover.region old (course (old.torches ++ cover.places) floor true old.plans)
-stopped_more turns cover least old floor stops kept sum =
-    let part : Bounded = record { region = cover.region; torches = cover.places; floor = least; spent = true } in
+    → GoesOn allowance cover.region old
+    (course (old.torches ++ cover.places) floor true (max old.turns granted) old.plans)
+stopped_more allowance cover least granted old floor stops used kept sum =
+    let part : Bounded = record {
+      region = cover.region;
+      torches = cover.places;
+      floor = least;
+      spent = true;
+      granted = granted;
+    } in
     record {
-      each = λ regions c. subst (λ (l : List Plan). IsCourse (regions ++ cover.region ∷ []) turns
-          (course (old.torches ++ cover.places) floor true l)) (append-nil old.plans)
-          (part_more regions turns old part floor true [] c
+      each = λ regions c. subst (λ (l : List Plan). IsCourse (regions ++ cover.region ∷ []) allowance
+          (course (old.torches ++ cover.places) floor true (max old.turns granted) l)) (append-nil old.plans)
+          (part_more regions allowance old part floor true (max old.turns granted) [] c
           (record {
             cover = kept;
             none_below = stops.none_below;
             whole = λ e. absurd (true≢false e);
             some = λ e. stops.some;
-          }) sum
+          })
+          (record {
+            within = share_within allowance.workers allowance.turns granted used;
+            used = λ e. used;
+          })
+          (most_stopped allowance old.stopped old.turns granted c.most used) sum
           (λ e. absurd (true≢false e)) (λ e. stops.limited)
           (record { regions = refl; torches = refl }) (λ e. spent_last c.parts part refl));
     }
 
+-- no turns are within each limit
+within_none : (limit : Option ℕ) → IsWithin limit 0
+within_none None = tt
+within_none (Some most) = omega arith
+
 -- before the first region nothing is planned
-pub none_planned : (turns : Option ℕ) (c : Course) → c.torches ≡ [] → c.floor ≡ 0 → c.stopped ≡ false → c.plans ≡ []
-    → IsCourse [] turns c
-none_planned turns c t f s p = record {
+pub none_planned : (allowance : Allowance) → IsCourse [] allowance (course [] 0 false 0 [])
+none_planned allowance = record {
   parts = [];
   of_them = refl;
   each = All-nil IsBounded;
-  whole = sym t;
-  total = sym f;
-  proved = λ e. record {
-    of_them = ap (map (λ (plan : Plan). plan.region)) p;
-    each = subst (All IsProved) (sym p) (All-nil IsProved);
-    whole = ap (flat_map (λ (plan : Plan). plan.torches)) p ∙ sym t;
-  };
-  limited = λ e. absurd (true≢false (sym e ∙ s));
-  finished_are = record {
-    regions = ap (map (λ (plan : Plan). plan.region)) (sym p);
-    torches = ap (map (λ (plan : Plan). plan.torches)) (sym p);
-  };
-  spent = λ e. absurd (true≢false (sym e ∙ s));
+  granted = All-nil (IsGrantedBy allowance);
+  most = record { within = within_none allowance.turns; used = λ e. absurd (true≢false (sym e)) };
+  whole = refl;
+  total = refl;
+  proved = λ e. record { of_them = refl; each = All-nil IsProved; whole = refl };
+  limited = λ e. absurd (true≢false (sym e));
+  finished_are = record { regions = refl; torches = refl };
+  spent = λ e. absurd (true≢false (sym e));
 }
 
 -- ---- the same of what the code has
 
 -- a region with a best cover, as the code adds it
-pub best_added : (turns : Option ℕ) (region : Instance) (cover : Covering) (tree : Tree) (old : Course)
-    (torches : List ℕ) (floor : ℕ) (plans : List Plan) → IsBest region cover tree → IsCover cover
+pub best_added : (allowance : Allowance) (region : Instance) (cover : Covering) (granted : ℕ) (tree : Tree)
+    (old : Course) (torches : List ℕ) (floor turns : ℕ) (plans : List Plan) → IsBest region cover tree → IsCover cover
+    → IsWithin allowance.turns granted
     → torches ≡ old.torches ++ cover.places → AddsUp torches old.floor (length cover.places) floor
+    → turns ≡ max old.turns granted
     → plans ≡ old.plans ++ record { region = region; torches = cover.places; tree = tree } ∷ []
-    → GoesOn turns region old (course torches floor old.stopped plans)
-best_added turns region cover tree old torches floor plans best kept grown sum added =
-    subst (λ (ts : List ℕ). GoesOn turns region old (course ts floor old.stopped plans)) (sym grown)
-    (subst (λ (ps : List Plan). GoesOn turns region old (course (old.torches
-    ++ cover.places) floor old.stopped ps)) (sym added)
-    (best_more turns region cover tree old floor best kept
-    (subst (λ (ts : List ℕ). AddsUp ts old.floor (length cover.places) floor) grown sum)))
+    → GoesOn allowance region old (course torches floor old.stopped turns plans)
+best_added allowance region cover granted tree old torches floor turns plans best kept within grown sum most added =
+    subst (λ (v : List ℕ × (ℕ × List Plan)). GoesOn allowance region old (course v.0 floor old.stopped v.1.0 v.1.1))
+    (λ i. (sym grown i, (sym most i, sym added i)))
+    (best_more allowance region cover granted tree old floor best kept within
+    (subst (λ (ts : List ℕ). AddsUp ts old.floor (length cover.places) floor) grown sum))
 
 -- a region whose turns were spent, as the code adds it
-pub stopped_added : (turns : Option ℕ) (cover : Covering) (least : ℕ) (old : Course) (torches : List ℕ) (floor : ℕ)
-    → IsStopped cover.region turns cover least → IsCover cover
-    → torches ≡ old.torches ++ cover.places → AddsUp torches old.floor least floor
-    → GoesOn turns cover.region old (course torches floor true old.plans)
-stopped_added turns cover least old torches floor stops kept grown sum =
-    subst (λ (ts : List ℕ). GoesOn turns cover.region old (course ts floor true old.plans)) (sym grown)
-    (stopped_more turns cover least old floor stops kept
+pub stopped_added : (allowance : Allowance) (cover : Covering) (least granted : ℕ) (old : Course) (torches : List ℕ)
+    (floor turns : ℕ)
+    → IsStopped cover.region allowance.turns cover least
+    → IsShareSpent allowance.workers allowance.turns granted → IsCover cover
+    → torches ≡ old.torches ++ cover.places → AddsUp torches old.floor least floor → turns ≡ max old.turns granted
+    → GoesOn allowance cover.region old (course torches floor true turns old.plans)
+stopped_added allowance cover least granted old torches floor turns stops used kept grown sum most =
+    subst (λ (v : List ℕ × ℕ). GoesOn allowance cover.region old (course v.0 floor true v.1 old.plans))
+    (λ i. (sym grown i, sym most i))
+    (stopped_more allowance cover least granted old floor stops used kept
     (subst (λ (ts : List ℕ). AddsUp ts old.floor least floor) grown sum))

@@ -10,4 +10,3 @@ pub mod UpToLemmas
 pub mod CourseLemmas
 pub mod OutlineLemmas
 pub mod FaultLemmas
-pub mod WithinLemmas

@@ -24,11 +24,12 @@ use Rattle.certificate_text.specs.Planned.{Plan, section_of, IsBestOf, AreBestOf
 use Rattle.proof_tree.proofs.OrderLemmas.{has_ordered, ordered_has}
 use Rattle.cave_plan.specs.Best.{AreTorchesOf}
 use Rattle.cave_plan.specs.Bounded.{Bounded, IsBoundedIn, AreBoundedIn, AreInOrder, IsPlanWithin, IsEnded, IsSumOf}
+use Rattle.search_traits.specs.declared.planner.Allowance.{Allowance}
 use Rattle.cave_plan.specs.Bounded.{total_floor}
 use Rattle.cave_plan.proofs.PartLemmas.{torches_are, are_apart, plan_within, legal_places}
 use Rattle.cave_plan.proofs.AcceptedLemmas.{fewest, place_inside}
 use Rattle.cave_plan.specs.Course.{Course, IsBounded, IsProved, IsCourse, floor_if}
-use Rattle.cave_plan.specs.Outline.{AreRegionsIn, IsPlanned, IsStoppedAt, IsOutlineOf, Prints}
+use Rattle.cave_plan.specs.Outline.{AreRegionsIn, IsPlanned, IsStoppedAt, Shows, Prints}
 
 abbrev AgreesIn : Cave → Instance → Type 0
 AgreesIn cave region = Agrees (of_instance region) (of_cave cave) region.cells
@@ -158,8 +159,8 @@ of_plans plans torches cells e order = record {
 
 -- ---- the plan
 
-module _ (cave : Cave) (turns : Option ℕ) (regions : List Instance) (c : Course) (world : IsWorld cave)
-    (are : AreRegionsIn cave regions) (is : IsCourse regions turns c)
+module _ (cave : Cave) (allowance : Allowance) (regions : List Instance) (c : Course) (world : IsWorld cave)
+    (are : AreRegionsIn cave regions) (is : IsCourse regions allowance c)
     (cells : List ℕ) (order : ListsAll (Contains c.torches) cells) where
   bounded : AreBoundedIn cave is.parts
   bounded = record {
@@ -176,7 +177,7 @@ module _ (cave : Cave) (turns : Option ℕ) (regions : List Instance) (c : Cours
       all_members (λ cell. cell < cell_count cave.size) cells
       (λ p h. place_inside cave p world.sound (torches.legal p ((in_parts.exact p).0 h)))
 
-  summed : c.stopped ≡ true → IsSumOf cave is.parts cells c.floor
+  summed : c.stopped ≡ true → IsSumOf cave allowance is.parts cells c.floor
   summed e =
       let all = each_ended is.parts is.each (subst (All IsRegion) (sym is.of_them) are.each) in
       record {
@@ -184,6 +185,7 @@ module _ (cave : Cave) (turns : Option ℕ) (regions : List Instance) (c : Cours
         ordered = ordered_by regions (λ (part : Bounded). part.region) is.parts is.of_them are.ordered;
         of_them = in_parts;
         ended = all;
+        granted = is.granted;
         sum = sym is.total;
         some = subst (λ (n : ℕ). 1 ≤ n) is.total (some_sum is.parts all (is.spent e));
         spent = is.spent e;
@@ -193,7 +195,7 @@ module _ (cave : Cave) (turns : Option ℕ) (regions : List Instance) (c : Cours
   within = plan_within cave is.parts cells world.sound bounded in_parts
 
   stopped_at : (text : List ℕ) → c.stopped ≡ true → Prints cave cells (Some c.floor) text
-      → IsStoppedAt cave turns text c.plans
+      → IsStoppedAt cave allowance text c.plans
   stopped_at text e prints = record {
     limited = is.limited e;
     torches = cells;
@@ -226,7 +228,7 @@ module _ (cave : Cave) (turns : Option ℕ) (regions : List Instance) (c : Cours
       }
 
   pub outlines : (stopped : Bool) (text : List ℕ) → c.stopped ≡ stopped
-      → Prints cave cells (floor_if stopped c.floor) text → IsOutlineOf cave turns text stopped c.plans
+      → Prints cave cells (floor_if stopped c.floor) text → Shows cave allowance text stopped c.plans
   outlines true text e prints = stopped_at text e prints
   outlines false text e prints = planned_to_end text e prints
 

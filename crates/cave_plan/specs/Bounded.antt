@@ -11,14 +11,17 @@ use Rattle.set_cover.specs.Instance.{Instance, of_instance}
 use Rattle.proof_rules.specs.Good.{IsCoverOfPiece}
 use Rattle.instance_regions.specs.Cover.{IsCoverOfRegion}
 use Rattle.instance_regions.specs.Splitting.{least_cell}
+use Rattle.search_traits.specs.Turns.{IsShareSpent, IsWithin}
+use Rattle.search_traits.specs.declared.planner.Allowance.{Allowance}
 
--- a region, torches that are to cover it, a number that none of its covers is to be below, and whether the turns of its
--- search were spent
+-- a region, torches that are to cover it, a number that none of its covers is to be below, whether the turns of its
+-- search were spent, and how many were granted
 pub record Bounded : Type 0 where
   pub region : Instance
   pub torches : List ℕ
   pub floor : ℕ
   pub spent : Bool
+  pub granted : ℕ
 
 -- the region agrees with the cave, the torches cover it, and no cover of it has fewer than the floor
 pub record IsBoundedIn (cave : Cave) (part : Bounded) : Type 0 where
@@ -60,13 +63,24 @@ pub record IsEnded (part : Bounded) : Type 0 where
   pub some : 1 ≤ part.floor
   pub whole : part.spent ≡ false → part.floor ≡ length part.torches
 
+-- no more turns were granted than the limit; and where they were spent at least the share of one worker
+pub record AreTurnsOf (allowance : Allowance) (spent : Bool) (granted : ℕ) : Type 0 where
+  pub within : IsWithin allowance.turns granted
+  pub used : spent ≡ true → IsShareSpent allowance.workers allowance.turns granted
+
+-- such turns were granted to the part
+abbrev pub IsGrantedBy : Allowance → Bounded → Type 0
+IsGrantedBy allowance part = AreTurnsOf allowance part.spent part.granted
+
 -- parts for the cave's regions, by their least cells, with just these torches, in order; the number is at least 1 and
 -- the sum of their floors; and the turns of some were spent
-pub record IsSumOf (cave : Cave) (parts : List Bounded) (cells : List ℕ) (number : ℕ) : Type 0 where
+pub record IsSumOf (cave : Cave) (allowance : Allowance) (parts : List Bounded) (cells : List ℕ) (number : ℕ)
+    : Type 0 where
   pub bounded : AreBoundedIn cave parts
   pub ordered : IsStrictlyIncreasing (map (λ part. least_cell part.region) parts)
   pub of_them : AreInOrder parts cells
   pub ended : All IsEnded parts
+  pub granted : All (IsGrantedBy allowance) parts
   pub sum : number ≡ total_floor parts
   pub some : 1 ≤ number
   pub spent : Contains (map (λ part. part.spent) parts) true

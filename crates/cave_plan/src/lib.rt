@@ -10,4 +10,6 @@ mod outline;
 pub use drawing::plan_text;
 pub use fault::PlanFault;
 pub use outline::{Outline, plan_cave};
-pub use search_traits::{BestPlan, Observer, Planner, RegionFault, RegionPlan, Unobserved};
+pub use search_traits::{
+    Allowance, BestPlan, Observer, Planner, RegionFault, RegionPlan, Unobserved,
+};

@@ -1,14 +1,12 @@
 //! The plan of a cave.
 ghost use Rattle.std.specs.Arc.{arc_value};
-ghost use Rattle.std.specs.Prelude.{◌≡◌, ◌≢◌, ◌<◌, IfOk, IfErr, string_bytes};
+ghost use Rattle.std.specs.Prelude.{◌≡◌, ◌≢◌, ◌<◌, IfOk, IfErr};
 ghost use Rattle.cave_model.specs.Cave.{IsWorld};
-ghost use Rattle.cave_plan.specs.Course.{course, floor_if};
+ghost use Rattle.cave_plan.specs.Course.{floor_if, known};
 ghost use Rattle.cave_plan.specs.Faults.{IsRefusedPlan, NamesUnlightable};
 ghost use Rattle.cave_plan.specs.Outline.{AreRegionsIn, CountsDark, IsCourseIn, IsOutlineOf};
 ghost use Rattle.cave_plan.specs.declared.fault.PlanFault.{PlanFault};
-ghost use Rattle.certificate_text.specs.PlanOf.{plans_of};
 ghost use Rattle.search_traits.specs.Planning.{PlansRegions};
-ghost use Rattle.search_traits.specs.Turns.{IsWithin};
 
 use crate::course::{Course, in_order, plan_regions};
 use crate::drawing::plan_text;
@@ -18,7 +16,7 @@ use cave_regions::split;
 use instance_regions::Region;
 use certificate_text::Planned;
 use cover_rows::Problem;
-use search_traits::{Observer, Planner, RegionPlan};
+use search_traits::{Allowance, Observer, Planner, RegionPlan};
 use std::alloc::{AllocError, Global};
 use std::sync::Arc;
 
@@ -31,7 +29,7 @@ pub struct Outline {
     pub parts: Vec<Planned>,
     /// Whether the turns of some region were spent.
     pub stopped: bool,
-    /// The most turns that were granted to one of the regions that were planned to the end.
+    /// The most turns that were granted to a region.
     pub turns: u64,
 }
 
@@ -56,14 +54,11 @@ fn outline_from(
     world: &World,
     plans: Course,
     dark: usize,
-    turns: Option<u64>,
+    _allowance: Allowance,
 ) -> Result<Outline, AllocError>
-    requires plans { IsCourseIn world.now turns
-        (course plans.torches.items plans.floor plans.stopped (plans_of plans.parts.items)) }
+    requires plans { IsCourseIn world.now _allowance (known plans) }
     requires dark { CountsDark world.now dark }
-    ensures is { IfOk result (λ o.
-        IsOutlineOf world.now turns (string_bytes o.text) o.stopped (plans_of o.parts.items)) }
-    ensures turns { IfOk result (λ o. o.turns ≡ plans.turns) }
+    ensures { IfOk result (IsOutlineOf world.now _allowance) }
 {
     let _ = rule_kept(world);
     let Course {
@@ -71,7 +66,7 @@ fn outline_from(
         torches,
         floor,
         stopped,
-        turns: granted,
+        turns,
     } = plans;
     let torches = in_order(torches);
     let text = plan_text(alloc, world, &torches, dark, least_if(stopped, floor))?;
@@ -79,7 +74,7 @@ fn outline_from(
         text,
         parts,
         stopped,
-        turns: granted,
+        turns,
     })
 }
 
@@ -108,23 +103,21 @@ pub fn plan_cave<F: Fn(&Arc<Region>) -> RegionPlan, O: Observer>(
     observer: &O,
 ) -> Result<Outline, PlanFault>
     requires callable { F.IsAlwaysCallable planner.now.plan }
-    requires plans { PlansRegions (λ region. arc_value region.now) planner.now.workers planner.now.turns
+    requires plans { PlansRegions (λ region. arc_value region.now) planner.now.allowance
         (F.post planner.now.plan) }
-    // Best torches, or, where turns were limited, safe ones and a number that none are fewer than.
-    ensures found { IfOk result (λ o.
-        IsOutlineOf world.now planner.now.turns (string_bytes o.text) o.stopped (plans_of o.parts.items)) }
-    // No region that was planned to the end took more turns than the limit.
-    ensures within { IfOk result (λ o. IsWithin planner.now.turns o.turns) }
+    // Best torches, or, where turns were limited, safe ones and a number that none are fewer than. No region took more
+    // turns than the limit.
+    ensures found { IfOk result (IsOutlineOf world.now planner.now.allowance) }
     // A fault but want of threads names the least dark cell that no place lights.
     ensures fault { IfErr result (λ e. e ≢ PlanFault.OutOfMemory → e ≢ PlanFault.NoThread
         → NamesUnlightable world.now e) }
     // Threads are asked for only where more workers than one are.
-    ensures threads { IfErr result (λ e. e ≡ PlanFault.NoThread → 1 < planner.now.workers) }
+    ensures threads { IfErr result (λ e. e ≡ PlanFault.NoThread → 1 < planner.now.allowance.workers) }
     // Such a fault is answered, before any worker is asked for.
     ensures refused { (e : PlanFault) → NamesUnlightable world.now e → IsRefusedPlan result e }
 {
     let (regions, dark) = regions_of(alloc, world)?;
     let plans = plan_regions(alloc, regions, planner, observer)?;
-    let outline = outline_from(alloc, world, plans, dark, planner.turns)?;
+    let outline = outline_from(alloc, world, plans, dark, planner.allowance)?;
     Ok(outline)
 }

@@ -4,7 +4,6 @@ use Rattle.std.proofs.Common.{subst, ◌∙◌, ◌⊎◌, inl, inr, arith}
 use Rattle.std.specs.Prelude.{IfSome, MatchResult}
 use Rattle.std.proofs.KnownBytes.{Consumes-nil}
 use Rattle.cave_model.specs.Cave.{Cave, IsSound}
-use Rattle.cave_model.specs.Plan.{IsFewest}
 use Rattle.cave_model.specs.Rule.{Rule, IsRule}
 use Rattle.cave_reading.specs.Bytes.{IsCaveOfBytes}
 use Rattle.cave_reading.proofs.ToldLemmas.{told_sound}
@@ -20,6 +19,7 @@ use Rattle.proof_check.specs.declared.fault.CheckFault.TheVariants as check
 use Rattle.proof_check.specs.declared.verdict.Verdict.{Verdict}
 use Rattle.proof_check.specs.declared.verdict.Verdict.TheVariants.{Accepted}
 use Rattle.cave_runs.specs.CheckRuns.{IsExcuse, IsSaid, SaysIt, IsNoVerdict, IsTrusted, IsUnread, IsWhole}
+use Rattle.cave_runs.specs.CheckRuns.{ShowsFewest}
 use Rattle.cave_runs.specs.Faults.{run_fault_of, of_check}
 use Rattle.cave_runs.specs.Limits.{structure_limit, proof_limit}
 use Rattle.cave_runs.specs.Runs.{IsFaultOfBytes, IsOfInput}
@@ -127,12 +127,19 @@ none_due bytes table clean due (inner, is, same) = clean (check_faults.check_fau
 
 -- ---- what an accepted certificate tells
 
--- the torches of a certificate that was accepted are the fewest
-accepted_fewest : (world : Cave) (text : List ℕ) (verdict : Verdict) (torches : ℕ) → IsSound world
-    → verdict ≡ Accepted torches → IsVerdictOf world text verdict → IsFewest world torches
-accepted_fewest world text verdict torches sound is of_it =
-    let told = subst (IsVerdictOf world text) is of_it in
-    subst (IsFewest world) told.2 (best_plan world text told.0 sound told.1).fewest
+-- the torches of a certificate that was accepted are safe and the fewest
+accepted_best : (bytes : List ℕ) (table : Option (List ℕ)) (rule : Rule) (text : List ℕ) (world : Cave)
+    (verdict : Verdict) (torches : ℕ) → IsSound world → IsCaveOfBytes bytes table rule world
+    → verdict ≡ Accepted torches → IsVerdictOf world text verdict → ShowsFewest bytes table rule text torches
+accepted_best bytes table rule text world verdict torches sound told is of_it =
+    let judged = subst (IsVerdictOf world text) is of_it in record {
+      cave = world;
+      told = told;
+      certificate = judged.0;
+      accepted = judged.1;
+      number = judged.2;
+      best = best_plan world text judged.0 sound judged.1;
+    }
 
 -- and so are those of one of what both readers had
 pub trusted : (structure : Option (List ℕ)) (bytes : List ℕ) (table : Option (List ℕ)) (rule : Rule)
@@ -141,12 +148,10 @@ pub trusted : (structure : Option (List ℕ)) (bytes : List ℕ) (table : Option
     → IsTrusted structure table rule certificate verdict
 trusted None bytes table rule certificate verdict rules same judged = tt
 trusted (Some b) bytes table rule None verdict rules same judged = tt
-trusted (Some b) bytes table rule (Some text) verdict rules same judged = λ torches is. (
-  judged.cave,
-  subst (λ (x : List ℕ). IsCaveOfBytes x table rule judged.cave) same judged.told,
-  accepted_fewest judged.cave text verdict torches (told_sound bytes table rule judged.cave rules judged.told).sound is
-      judged.verdict,
-)
+trusted (Some b) bytes table rule (Some text) verdict rules same judged = λ torches is.
+    accepted_best b table rule text judged.cave verdict torches
+    (told_sound bytes table rule judged.cave rules judged.told).sound
+    (subst (λ (x : List ℕ). IsCaveOfBytes x table rule judged.cave) same judged.told) is judged.verdict
 
 -- ---- limits
 

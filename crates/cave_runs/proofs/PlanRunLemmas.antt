@@ -27,6 +27,7 @@ use Rattle.cave_plan.specs.Faults.{NamesUnlightable}
 use Rattle.cave_plan.specs.Outline.{IsPlanned, IsStoppedAt, Prints}
 use Rattle.cave_plan.specs.declared.fault.PlanFault.{PlanFault}
 use Rattle.cave_plan.specs.declared.fault.PlanFault.TheVariants as plan
+use Rattle.search_traits.specs.declared.planner.Allowance.{Allowance}
 use Rattle.cave_runs.specs.Faults.{run_fault_of, of_write}
 use Rattle.cave_runs.specs.Limits.{structure_limit}
 use Rattle.cave_runs.specs.PlanRuns.{WritesBest, EndsIn, Plans, BeginsTexts, BeginsPlan, Leaves}
@@ -82,10 +83,10 @@ pub certificate_failed : (fault : WriteFault) (cave : Cave) (text : List ℕ) (p
     → AppendsPart proof_old proof_new (certificate_text cave plans)
     → LeavesProved (of_write fault) cave same same proof_old proof_new
 certificate_failed fault cave text plans same proof_old proof_new is part = record
-    { each = λ turns. by fault (begun turns) }
+    { each = λ allowance. by fault (begun allowance) }
   where
-    begun : (turns : Option ℕ) → BeginsTexts cave turns same same proof_old proof_new
-    begun turns = record {
+    begun : (allowance : Allowance) → BeginsTexts cave allowance same same proof_old proof_new
+    begun allowance = record {
       text = text;
       proof = certificate_text cave plans;
       are = inl (plans, is, refl);
@@ -93,8 +94,8 @@ certificate_failed fault cave text plans same proof_old proof_new is part = reco
       proved = part;
     }
 
-    by : (fault : WriteFault) {turns : Option ℕ} → BeginsTexts cave turns same same proof_old proof_new
-        → LeavesIn (of_write fault) cave turns same same proof_old proof_new
+    by : (fault : WriteFault) {allowance : Allowance} → BeginsTexts cave allowance same same proof_old proof_new
+        → LeavesIn (of_write fault) cave allowance same same proof_old proof_new
     by writing.WriteFailed b = b
     by writing.OutOfMemory b = (Keeps-refl same, b)
 
@@ -104,7 +105,7 @@ pub text_failed : (fault : RunFault) (cave : Cave) (text : List ℕ) (plans : Li
     → AppendsFront old new text → Appends proof_old proof_new (certificate_text cave plans)
     → LeavesProved fault cave old new proof_old proof_new
 text_failed fault cave text plans old new proof_old proof_new failed is front proved = record {
-  each = λ turns. subst (λ (f : RunFault). LeavesIn f cave turns old new proof_old proof_new) (sym failed)
+  each = λ allowance. subst (λ (f : RunFault). LeavesIn f cave allowance old new proof_old proof_new) (sym failed)
       (record {
         text = text;
         proof = certificate_text cave plans;
@@ -115,11 +116,11 @@ text_failed fault cave text plans old new proof_old proof_new failed is front pr
       });
 }
 
-pub stop_failed : (fault : RunFault) (cave : Cave) (turns : Option ℕ) (text : List ℕ) (plans : List Plan)
-    (old new proof : Option (List ℕ)) → fault ≡ faults.WriteFailed → IsStoppedAt cave turns text plans
-    → AppendsFront old new text → LeavesIn fault cave turns old new proof proof
-stop_failed fault cave turns text plans old new proof failed is front =
-    subst (λ (f : RunFault). LeavesIn f cave turns old new proof proof) (sym failed)
+pub stop_failed : (fault : RunFault) (cave : Cave) (allowance : Allowance) (text : List ℕ) (plans : List Plan)
+    (old new proof : Option (List ℕ)) → fault ≡ faults.WriteFailed → IsStoppedAt cave allowance text plans
+    → AppendsFront old new text → LeavesIn fault cave allowance old new proof proof
+stop_failed fault cave allowance text plans old new proof failed is front =
+    subst (λ (f : RunFault). LeavesIn f cave allowance old new proof proof) (sym failed)
     (record {
       text = text;
       proof = [];
@@ -132,14 +133,14 @@ stop_failed fault cave turns text plans old new proof failed is front =
 -- ---- the whole run
 
 pub leaves : (fault : RunFault) (known : Option (List ℕ)) (bytes : List ℕ) (table : Option (List ℕ)) (rule : Rule)
-    (turns : Option ℕ) (cave : Cave) (old new proof_old proof_new : Option (List ℕ))
+    (allowance : Allowance) (cave : Cave) (old new proof_old proof_new : Option (List ℕ))
     → IfSome known (λ b. bytes ≡ b) → IsCaveOfBytes bytes table rule cave
-    → LeavesIn fault cave turns old new proof_old proof_new
-    → Leaves fault known table rule turns old new proof_old proof_new
-leaves fault known bytes table rule turns cave old new proof_old proof_new same told left = by fault left
+    → LeavesIn fault cave allowance old new proof_old proof_new
+    → Leaves fault known table rule allowance old new proof_old proof_new
+leaves fault known bytes table rule allowance cave old new proof_old proof_new same told left = by fault left
   where
-    begins : (k : Option (List ℕ)) → IfSome k (λ b. bytes ≡ b) → BeginsTexts cave turns old new proof_old proof_new
-        → IfSome k (λ b. BeginsPlan b table rule turns old new proof_old proof_new)
+    begins : (k : Option (List ℕ)) → IfSome k (λ b. bytes ≡ b) → BeginsTexts cave allowance old new proof_old proof_new
+        → IfSome k (λ b. BeginsPlan b table rule allowance old new proof_old proof_new)
     begins None e b = tt
     begins (Some k) e b = record {
       cave = cave;
@@ -148,8 +149,8 @@ leaves fault known bytes table rule turns cave old new proof_old proof_new same 
       begins = b;
     }
 
-    by : (f : RunFault) → LeavesIn f cave turns old new proof_old proof_new
-        → Leaves f known table rule turns old new proof_old proof_new
+    by : (f : RunFault) → LeavesIn f cave allowance old new proof_old proof_new
+        → Leaves f known table rule allowance old new proof_old proof_new
     by faults.WriteFailed b = begins known same b
     by faults.OutOfMemory b = (b.0, inr (begins known same b.1))
     by faults.ReadFailed b = absurd b
@@ -160,13 +161,13 @@ leaves fault known bytes table rule turns cave old new proof_old proof_new same 
     by (faults.Unlightable x y z) b = absurd b
     by faults.NoThread b = absurd b
 
-pub plans : (known : Option (List ℕ)) (bytes : List ℕ) (table : Option (List ℕ)) (rule : Rule) (turns : Option ℕ)
+pub plans : (known : Option (List ℕ)) (bytes : List ℕ) (table : Option (List ℕ)) (rule : Rule) (allowance : Allowance)
     (cave : Cave) (outcome : Outcome) (old new proof_old proof_new : Option (List ℕ))
     → IfSome known (λ b. bytes ≡ b) → IsCaveOfBytes bytes table rule cave
-    → EndsIn outcome cave turns old new proof_old proof_new
-    → IfSome known (λ b. Plans b table rule turns outcome old new proof_old proof_new)
-plans None bytes table rule turns cave outcome old new proof_old proof_new same told ends = tt
-plans (Some b) bytes table rule turns cave outcome old new proof_old proof_new same told ends =
+    → EndsIn outcome cave allowance old new proof_old proof_new
+    → IfSome known (λ b. Plans b table rule allowance outcome old new proof_old proof_new)
+plans None bytes table rule allowance cave outcome old new proof_old proof_new same told ends = tt
+plans (Some b) bytes table rule allowance cave outcome old new proof_old proof_new same told ends =
     record { cave = cave; told = subst (λ (x : List ℕ). IsCaveOfBytes x table rule cave) same told; ends = ends }
 
 -- ---- why there is no plan

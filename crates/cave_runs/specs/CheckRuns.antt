@@ -2,10 +2,11 @@
 use Rattle.std.specs.Prelude.{◌≡◌, ◌<◌, ◌⊎◌, ◌++◌, ℕ, List, length, codes, Option, Result, MatchResult, IfSome}
 use Rattle.std.specs.Io.KnownBytes.{Appends, Keeps}
 use Rattle.cave_model.specs.Cave.{Cave}
-use Rattle.cave_model.specs.Plan.{IsFewest}
 use Rattle.cave_model.specs.Rule.{Rule}
 use Rattle.cave_reading.specs.Bytes.{IsCaveOfBytes}
 use Rattle.certificate_text.specs.Writing.{AppendsFront}
+use Rattle.proof_rules.specs.Certificate.{Certificate, torches_of}
+use Rattle.proof_check.specs.Accepted.{Accepts, IsBestPlan}
 use Rattle.proof_check.specs.Texts.{verdict_text}
 use Rattle.proof_check.specs.Verdict.{IsJudged}
 use Rattle.proof_check.specs.Reading.{GivesAtMost}
@@ -33,14 +34,20 @@ pub record WritesVerdict (structure table : Option (List ℕ)) (rule : Rule) (ce
   pub judges : Judges structure table rule certificate verdict
   pub written : Appends old new (verdict_line verdict)
 
--- so many torches are enough for the cave that the bytes tell, and no fewer
-abbrev pub AreFewestOfBytes : List ℕ → Option (List ℕ) → Rule → ℕ → Type 0
-AreFewestOfBytes bytes table rule torches = (cave : Cave) × IsCaveOfBytes bytes table rule cave × IsFewest cave torches
+-- the text is a certificate of the cave that the bytes tell, and its own torches, so many, are safe and the fewest
+pub record ShowsFewest (bytes : List ℕ) (table : Option (List ℕ)) (rule : Rule) (text : List ℕ) (torches : ℕ)
+    : Type 0 where
+  pub cave : Cave
+  pub told : IsCaveOfBytes bytes table rule cave
+  pub certificate : Certificate
+  pub accepted : Accepts cave text certificate
+  pub number : length (torches_of certificate.sections) ≡ torches
+  pub best : IsBestPlan cave (torches_of certificate.sections)
 
--- where the certificate is accepted, its torches are the fewest of the cave that the structure tells
+-- where the certificate is accepted, it shows that
 abbrev pub IsTrusted : Option (List ℕ) → Option (List ℕ) → Rule → Option (List ℕ) → Verdict → Type 0
 IsTrusted structure table rule certificate verdict = IfSome structure (λ bytes. IfSome certificate (λ text.
-    (torches : ℕ) → verdict ≡ Accepted torches → AreFewestOfBytes bytes table rule torches))
+    (torches : ℕ) → verdict ≡ Accepted torches → ShowsFewest bytes table rule text torches))
 
 -- a failed write leaves a beginning of the line, any other fault nothing
 abbrev pub LeavesLine : RunFault → Option (List ℕ) → Option (List ℕ) → Rule → Option (List ℕ) → Option (List ℕ)

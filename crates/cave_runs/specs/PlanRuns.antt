@@ -12,10 +12,12 @@ use Rattle.proof_rules.specs.Certificate.{Certificate, torches_of}
 use Rattle.certificate_text.specs.Planned.{Plan, certificate_text}
 use Rattle.certificate_text.specs.Writing.{AppendsFront, AppendsPart}
 use Rattle.proof_check.specs.Accepted.{Accepts, IsBestPlan}
-use Rattle.search_traits.specs.Turns.{IsWithin}
+use Rattle.search_traits.specs.Turns.{IsShareSpent, IsWithin}
+use Rattle.search_traits.specs.declared.planner.Allowance.{Allowance}
 use Rattle.cave_plan.specs.Best.{AreByLeastCell, IsInLeastVersion}
 use Rattle.cave_plan.specs.Bounded.{Bounded, IsPlanWithin, IsSumOf}
 use Rattle.cave_plan.specs.Outline.{Prints, IsPlanned, IsStoppedAt, IsOutlineOf}
+use Rattle.cave_plan.specs.declared.outline.Outline.{Outline}
 use Rattle.cave_runs.specs.Limits.{structure_limit}
 use Rattle.cave_runs.specs.Runs.{IsFaultOfBytes}
 use Rattle.cave_runs.specs.declared.fault.Input.TheVariants.{StructureInput}
@@ -46,78 +48,79 @@ pub record WritesBest (cave : Cave) (old new proof_old proof_new : Option (List 
 
 -- turns were limited: safe torches were printed, with a number that no safe ones are fewer than, the sum of what parts
 -- for the cave's regions have, and no certificate
-pub record WritesFloor (cave : Cave) (turns : Option ℕ) (old new proof_old proof_new : Option (List ℕ)) : Type 0 where
-  pub limited : IsSome turns
+pub record WritesFloor (cave : Cave) (allowance : Allowance) (old new proof_old proof_new : Option (List ℕ)) : Type 0 where
+  pub limited : IsSome allowance.turns
   pub torches : List ℕ
   pub floor : ℕ
   pub within : IsPlanWithin cave torches floor
   pub parts : List Bounded
-  pub summed : IsSumOf cave parts torches floor
+  pub summed : IsSumOf cave allowance parts torches floor
   pub text : List ℕ
   pub prints : Prints cave torches (Some floor) text
   pub written : Appends old new text
   pub unproved : Keeps proof_old proof_new
 
 -- what was written of the cave: where the plan is done the fewest torches and a certificate, and no region took more
--- turns than the limit; else safe torches alone
-abbrev pub EndsIn : Outcome → Cave → Option ℕ → Option (List ℕ) → Option (List ℕ) → Option (List ℕ)
+-- turns than the limit; else safe torches alone, and some region took at least the share of one worker
+abbrev pub EndsIn : Outcome → Cave → Allowance → Option (List ℕ) → Option (List ℕ) → Option (List ℕ)
     → Option (List ℕ) → Type 0
-EndsIn (Done granted) cave turns old new proof_old proof_new =
-    IsWithin turns granted × WritesBest cave old new proof_old proof_new
-EndsIn Stopped cave turns old new proof_old proof_new = WritesFloor cave turns old new proof_old proof_new
+EndsIn (Done granted) cave allowance old new proof_old proof_new =
+    IsWithin allowance.turns granted × WritesBest cave old new proof_old proof_new
+EndsIn (Stopped granted) cave allowance old new proof_old proof_new =
+    IsShareSpent allowance.workers allowance.turns granted × WritesFloor cave allowance old new proof_old proof_new
 
 -- this was written of the cave that the bytes tell
-pub record Plans (bytes : List ℕ) (table : Option (List ℕ)) (rule : Rule) (turns : Option ℕ) (outcome : Outcome)
+pub record Plans (bytes : List ℕ) (table : Option (List ℕ)) (rule : Rule) (allowance : Allowance) (outcome : Outcome)
     (old new proof_old proof_new : Option (List ℕ)) : Type 0 where
   pub cave : Cave
   pub told : IsCaveOfBytes bytes table rule cave
-  pub ends : EndsIn outcome cave turns old new proof_old proof_new
+  pub ends : EndsIn outcome cave allowance old new proof_old proof_new
 
 -- ---- what a fault leaves
 
 -- the text of a plan, and of its certificate
-abbrev pub AreTextsOf : Cave → Option ℕ → List ℕ → List ℕ → Type 0
-AreTextsOf cave turns text proof = ((plans : List Plan) × IsPlanned cave text plans
+abbrev pub AreTextsOf : Cave → Allowance → List ℕ → List ℕ → Type 0
+AreTextsOf cave allowance text proof = ((plans : List Plan) × IsPlanned cave text plans
     × (proof ≡ certificate_text cave plans))
-    ⊎ ((plans : List Plan) × IsStoppedAt cave turns text plans × (proof ≡ []))
+    ⊎ ((plans : List Plan) × IsStoppedAt cave allowance text plans × (proof ≡ []))
 
 -- a beginning of the text was written, and not all, and one of the certificate, or all of it
-pub record BeginsTexts (cave : Cave) (turns : Option ℕ) (old new proof_old proof_new : Option (List ℕ)) : Type 0 where
+pub record BeginsTexts (cave : Cave) (allowance : Allowance) (old new proof_old proof_new : Option (List ℕ)) : Type 0 where
   pub text : List ℕ
   pub proof : List ℕ
-  pub are : AreTextsOf cave turns text proof
+  pub are : AreTextsOf cave allowance text proof
   pub written : AppendsFront old new text
   pub proved : AppendsPart proof_old proof_new proof
 
 -- the same of the cave that the bytes tell
-pub record BeginsPlan (bytes : List ℕ) (table : Option (List ℕ)) (rule : Rule) (turns : Option ℕ)
+pub record BeginsPlan (bytes : List ℕ) (table : Option (List ℕ)) (rule : Rule) (allowance : Allowance)
     (old new proof_old proof_new : Option (List ℕ)) : Type 0 where
   pub cave : Cave
   pub told : IsCaveOfBytes bytes table rule cave
-  pub begins : BeginsTexts cave turns old new proof_old proof_new
+  pub begins : BeginsTexts cave allowance old new proof_old proof_new
 
 -- a failed write leaves a beginning of each; refused memory one of the certificate alone; any other fault nothing
-abbrev pub Leaves : RunFault → Option (List ℕ) → Option (List ℕ) → Rule → Option ℕ → Option (List ℕ)
+abbrev pub Leaves : RunFault → Option (List ℕ) → Option (List ℕ) → Rule → Allowance → Option (List ℕ)
     → Option (List ℕ) → Option (List ℕ) → Option (List ℕ) → Type 0
-Leaves faults.WriteFailed known table rule turns old new proof_old proof_new =
-    IfSome known (λ bytes. BeginsPlan bytes table rule turns old new proof_old proof_new)
-Leaves faults.OutOfMemory known table rule turns old new proof_old proof_new =
+Leaves faults.WriteFailed known table rule allowance old new proof_old proof_new =
+    IfSome known (λ bytes. BeginsPlan bytes table rule allowance old new proof_old proof_new)
+Leaves faults.OutOfMemory known table rule allowance old new proof_old proof_new =
     Keeps old new
     × (Keeps proof_old proof_new
-    ⊎ IfSome known (λ bytes. BeginsPlan bytes table rule turns old new proof_old proof_new))
-Leaves other known table rule turns old new proof_old proof_new = Keeps old new × Keeps proof_old proof_new
+    ⊎ IfSome known (λ bytes. BeginsPlan bytes table rule allowance old new proof_old proof_new))
+Leaves other known table rule allowance old new proof_old proof_new = Keeps old new × Keeps proof_old proof_new
 
 -- what a fault of writing leaves of this cave's plan
-abbrev pub LeavesIn : RunFault → Cave → Option ℕ → Option (List ℕ) → Option (List ℕ) → Option (List ℕ)
+abbrev pub LeavesIn : RunFault → Cave → Allowance → Option (List ℕ) → Option (List ℕ) → Option (List ℕ)
     → Option (List ℕ) → Type 0
-LeavesIn faults.WriteFailed cave turns old new proof_old proof_new = BeginsTexts cave turns old new proof_old proof_new
-LeavesIn faults.OutOfMemory cave turns old new proof_old proof_new = Keeps old new
-    × BeginsTexts cave turns old new proof_old proof_new
-LeavesIn other cave turns old new proof_old proof_new = ⊥
+LeavesIn faults.WriteFailed cave allowance old new proof_old proof_new = BeginsTexts cave allowance old new proof_old proof_new
+LeavesIn faults.OutOfMemory cave allowance old new proof_old proof_new = Keeps old new
+    × BeginsTexts cave allowance old new proof_old proof_new
+LeavesIn other cave allowance old new proof_old proof_new = ⊥
 
 -- the same whatever the turns are
 pub record LeavesProved (fault : RunFault) (cave : Cave) (old new proof_old proof_new : Option (List ℕ)) : Type 0 where
-  pub each : (turns : Option ℕ) → LeavesIn fault cave turns old new proof_old proof_new
+  pub each : (allowance : Allowance) → LeavesIn fault cave allowance old new proof_old proof_new
 
 -- ---- why there is no plan
 
@@ -140,6 +143,6 @@ IsNoPlanOfInput bytes table rule fault = ((structure_limit < length bytes) × (f
     ⊎ ((length bytes ≤ structure_limit) × IsNoPlan bytes table rule fault)
 
 -- the cave of the bytes, with its outline
-abbrev pub TellsPlans : List ℕ → Option (List ℕ) → Rule → Option ℕ → Cave → List ℕ → Bool → List Plan → Type 0
-TellsPlans bytes table rule turns cave text stopped plans = IsCaveOfBytes bytes table rule cave
-    × IsOutlineOf cave turns text stopped plans
+abbrev pub TellsPlans : List ℕ → Option (List ℕ) → Rule → Allowance → Cave → Outline → Type 0
+TellsPlans bytes table rule allowance cave outline = IsCaveOfBytes bytes table rule cave
+    × IsOutlineOf cave allowance outline

@@ -39,7 +39,7 @@ pub fn run_check<R: Read, C: Read, W: Write>(
     // Such a verdict is answered, unless a stream failed.
     ensures only { SaysIt (R.remaining reader.old) (option_copied table.entry) (rule_of rule)
         (C.remaining certificate.old) result }
-    // An accepted certificate has the fewest torches of the cave that the structure tells.
+    // The torches of an accepted certificate are safe in the cave that the structure tells, and the fewest.
     ensures fewest { IfOk result (IsTrusted (R.remaining reader.old) (option_copied table.entry) (rule_of rule)
         (C.remaining certificate.old)) }
     // Of a certificate above the limit no verdict is answered.

@@ -13,11 +13,11 @@ mod unkept;
 mod watcher;
 mod writing;
 
-pub use cave_plan::{Observer, Planner, Unobserved};
+pub use cave_plan::{Allowance, Observer, Planner, Unobserved};
 pub use check::run_check;
 pub use dark::run_dark;
 pub use fault::{Input, RunFault};
-pub use plan::{Outcome, run_plan};
+pub use plan::{Outcome, run_planner};
 pub use proof_check::Verdict;
 pub use proof_tree::Name;
 pub use reading::read_table;

@@ -5,15 +5,13 @@ ghost use Rattle.cave_base.specs.Answer.{IsRefusal};
 ghost use Rattle.cave_model.specs.RuleOf.{rule_of};
 ghost use Rattle.cave_plan.specs.Outline.{IsOutlineOf, IsPlanned};
 ghost use Rattle.cave_runs.specs.Limits.{structure_limit};
-ghost use Rattle.cave_runs.specs.PlanRuns.{EndsIn, IsNoPlan, IsNoPlanOfInput, NamesUnlit, Leaves};
-ghost use Rattle.cave_runs.specs.PlanRuns.{LeavesIn, LeavesProved, Plans, TellsPlans, WritesBest};
-ghost use Rattle.cave_runs.specs.RunOfPlan.{IsRunOfPlan};
+ghost use Rattle.cave_runs.specs.PlanRuns.{EndsIn, IsNoPlan, IsNoPlanOfInput, Leaves, LeavesIn, LeavesProved, NamesUnlit};
+ghost use Rattle.cave_runs.specs.PlanRuns.{Plans, TellsPlans, WritesBest};
 ghost use Rattle.cave_runs.specs.Runs.{IsOfInput, IsRefusedRun};
 ghost use Rattle.cave_runs.specs.declared.fault.RunFault.{RunFault};
 ghost use Rattle.certificate_text.specs.PlanOf.{plans_of};
 ghost use Rattle.proof_check.specs.Reading.{GivesAtMost};
 ghost use Rattle.search_traits.specs.Planning.{PlansRegions};
-ghost use Rattle.search_traits.specs.Turns.{IsWithin};
 
 use crate::fault::{Input, RunFault};
 use crate::limits::STRUCTURE_LIMIT;
@@ -22,7 +20,7 @@ use crate::watcher::{Watcher, tell_sides};
 use crate::writing::put_all;
 use cave_base::coordinates;
 use cave_model::{Rule, World};
-use cave_plan::{Outline, PlanFault, Planner, RegionPlan, plan_cave};
+use cave_plan::{Allowance, Outline, PlanFault, Planner, RegionPlan, plan_cave};
 use cave_reading::read_cave;
 use instance_regions::Region;
 use certificate_text::write_certificate;
@@ -35,8 +33,8 @@ use std::sync::Arc;
 pub enum Outcome {
     /// The torches are the fewest, and the most turns that were granted to a region.
     Done { turns: u64 },
-    /// The turns of a region were spent before.
-    Stopped,
+    /// The turns of a region were spent before, and the most turns that were granted to a region.
+    Stopped { turns: u64 },
 }
 
 /// The plan of a world; a dark cell that no place lights is told by its coordinates.
@@ -47,13 +45,11 @@ fn outline_world<F: Fn(&Arc<Region>) -> RegionPlan, O: Watcher>(
     observer: &O,
 ) -> Result<Outline, RunFault>
     requires callable { F.IsAlwaysCallable planner.now.plan }
-    requires plans { PlansRegions (λ region. arc_value region.now) planner.now.workers planner.now.turns
+    requires plans { PlansRegions (λ region. arc_value region.now) planner.now.allowance
         (F.post planner.now.plan) }
-    ensures found { IfOk result (λ o.
-        IsOutlineOf world.now planner.now.turns (string_bytes o.text) o.stopped (plans_of o.parts.items)) }
-    ensures within { IfOk result (λ o. IsWithin planner.now.turns o.turns) }
+    ensures found { IfOk result (IsOutlineOf world.now planner.now.allowance) }
     ensures fault { IfErr result (λ e. e ≢ RunFault.OutOfMemory → e ≢ RunFault.NoThread → NamesUnlit world.now e) }
-    ensures threads { IfErr result (λ e. e ≡ RunFault.NoThread → 1 < planner.now.workers) }
+    ensures threads { IfErr result (λ e. e ≡ RunFault.NoThread → 1 < planner.now.allowance.workers) }
     ensures refused { (e : RunFault) → NamesUnlit world.now e → IsRefusal RunFault.OutOfMemory result e }
 {
     match plan_cave(alloc, world, planner, observer) {
@@ -77,14 +73,13 @@ fn plan_bytes<F: Fn(&Arc<Region>) -> RegionPlan, O: Watcher>(
     observer: &O,
 ) -> Result<(World, Outline), RunFault>
     requires callable { F.IsAlwaysCallable planner.now.plan }
-    requires plans { PlansRegions (λ region. arc_value region.now) planner.now.workers planner.now.turns
+    requires plans { PlansRegions (λ region. arc_value region.now) planner.now.allowance
         (F.post planner.now.plan) }
     ensures found { IfOk result (λ p. TellsPlans bytes.now (option_copied table.entry) (rule_of rule)
-        planner.now.turns p.0 (string_bytes p.1.text) p.1.stopped (plans_of p.1.parts.items)) }
-    ensures within { IfOk result (λ p. IsWithin planner.now.turns p.1.turns) }
+        planner.now.allowance p.0 p.1) }
     ensures fault { IfErr result (λ e. e ≢ RunFault.OutOfMemory → e ≢ RunFault.NoThread
         → IsNoPlan bytes.now (option_copied table.entry) (rule_of rule) e) }
-    ensures threads { IfErr result (λ e. e ≡ RunFault.NoThread → 1 < planner.now.workers) }
+    ensures threads { IfErr result (λ e. e ≡ RunFault.NoThread → 1 < planner.now.allowance.workers) }
     ensures refused { (e : RunFault) → IsNoPlan bytes.now (option_copied table.entry) (rule_of rule) e
         → IsRefusal RunFault.OutOfMemory result e }
 {
@@ -117,59 +112,26 @@ fn put_plan<W: Write, V: Write>(
     alloc: Global,
     world: &World,
     outline: &Outline,
-    turns: Option<u64>,
+    _allowance: Allowance,
     writer: &mut W,
     proof: &mut V,
 ) -> Result<Outcome, RunFault>
-    requires is { IsOutlineOf world.now turns (string_bytes outline.now.text) outline.now.stopped
-        (plans_of outline.now.parts.items) }
-    requires within { IsWithin turns outline.now.turns }
-    ensures done { IfOk result (λ outcome. EndsIn outcome world.now turns
+    requires { IsOutlineOf world.now _allowance outline.now }
+    ensures done { IfOk result (λ outcome. EndsIn outcome world.now _allowance
         (W.contents writer.old) (W.contents writer.new) (V.contents proof.old) (V.contents proof.new)) }
-    ensures left { IfErr result (λ e. LeavesIn e world.now turns
+    ensures left { IfErr result (λ e. LeavesIn e world.now _allowance
         (W.contents writer.old) (W.contents writer.new) (V.contents proof.old) (V.contents proof.new)) }
 {
     if outline.stopped {
         put_all(writer, outline.text.as_bytes())?;
-        return Ok(Outcome::Stopped);
+        return Ok(Outcome::Stopped {
+            turns: outline.turns,
+        });
     }
     put_proved(alloc, world, outline, writer, proof)?;
     Ok(Outcome::Done {
         turns: outline.turns,
     })
-}
-
-/// The run of a plan, clause by clause.
-fn run_by<F: Fn(&Arc<Region>) -> RegionPlan, R: Read, W: Write, V: Write, O: Watcher>(
-    alloc: Global,
-    reader: &mut R,
-    table: Option<&[u8]>,
-    rule: Rule,
-    planner: &Planner<F>,
-    observer: &O,
-    writer: &mut W,
-    proof: &mut V,
-) -> Result<Outcome, RunFault>
-    requires callable { F.IsAlwaysCallable planner.now.plan }
-    requires plans { PlansRegions (λ region. arc_value region.now) planner.now.workers planner.now.turns
-        (F.post planner.now.plan) }
-    ensures done { IfOk result (λ outcome. IfSome (R.remaining reader.old) (λ bytes.
-        Plans bytes (option_copied table.entry) (rule_of rule) planner.now.turns outcome
-        (W.contents writer.old) (W.contents writer.new) (V.contents proof.old) (V.contents proof.new))) }
-    ensures left { IfErr result (λ e. Leaves e (R.remaining reader.old) (option_copied table.entry)
-        (rule_of rule) planner.now.turns
-        (W.contents writer.old) (W.contents writer.new) (V.contents proof.old) (V.contents proof.new)) }
-    ensures fault { IfErr result (λ e. IsOfInput e → e ≢ RunFault.NoThread → IfSome (R.remaining reader.old)
-        (λ bytes. IsNoPlanOfInput bytes (option_copied table.entry) (rule_of rule) e)) }
-    ensures refused { IfSome (R.remaining reader.old) (λ bytes. (e : RunFault)
-        → IsNoPlanOfInput bytes (option_copied table.entry) (rule_of rule) e → IsRefusedRun result e) }
-    ensures threads { IfErr result (λ e. e ≡ RunFault.NoThread → 1 < planner.now.workers) }
-    ensures before { IfErr result (λ e. e ≡ RunFault.ReadFailed
-        → GivesAtMost structure_limit (R.remaining reader.old) (R.remaining reader.new)) }
-{
-    let bytes = read_all(alloc, reader, STRUCTURE_LIMIT, Input::StructureInput)?;
-    let (world, outline) = plan_bytes(alloc, &bytes, table, rule, planner, observer)?;
-    put_plan(alloc, &world, &outline, planner.turns, writer, proof)
 }
 
 /// Reads a structure to the end of the reader, plans the fewest torches that leave none of its cells dark, and writes
@@ -179,7 +141,7 @@ fn run_by<F: Fn(&Arc<Region>) -> RegionPlan, R: Read, W: Write, V: Write, O: Wat
 /// text says how few torches there might be, and no certificate is written. Before the search the observer is told
 /// where free cells lie at a side of the box. Who plans the regions changes no promise: where that waits for nobody,
 /// this is proved to return.
-pub fn run_plan<F: Fn(&Arc<Region>) -> RegionPlan, R: Read, W: Write, V: Write, O: Watcher>(
+pub fn run_planner<F: Fn(&Arc<Region>) -> RegionPlan, R: Read, W: Write, V: Write, O: Watcher>(
     alloc: Global,
     reader: &mut R,
     table: Option<&[u8]>,
@@ -190,11 +152,23 @@ pub fn run_plan<F: Fn(&Arc<Region>) -> RegionPlan, R: Read, W: Write, V: Write, 
     proof: &mut V,
 ) -> Result<Outcome, RunFault>
     requires callable { F.IsAlwaysCallable planner.now.plan }
-    requires plans { PlansRegions (λ region. arc_value region.now) planner.now.workers planner.now.turns
+    requires plans { PlansRegions (λ region. arc_value region.now) planner.now.allowance
         (F.post planner.now.plan) }
-    ensures { IsRunOfPlan (R.remaining reader.old) (R.remaining reader.new) (option_copied table.entry)
-        (rule_of rule) planner.now.turns planner.now.workers result
-        (W.contents writer.old) (W.contents writer.new) (V.contents proof.old) (V.contents proof.new) }
+    ensures done { IfOk result (λ outcome. IfSome (R.remaining reader.old) (λ bytes.
+        Plans bytes (option_copied table.entry) (rule_of rule) planner.now.allowance outcome
+        (W.contents writer.old) (W.contents writer.new) (V.contents proof.old) (V.contents proof.new))) }
+    ensures left { IfErr result (λ e. Leaves e (R.remaining reader.old) (option_copied table.entry)
+        (rule_of rule) planner.now.allowance
+        (W.contents writer.old) (W.contents writer.new) (V.contents proof.old) (V.contents proof.new)) }
+    ensures fault { IfErr result (λ e. IsOfInput e → e ≢ RunFault.NoThread → IfSome (R.remaining reader.old)
+        (λ bytes. IsNoPlanOfInput bytes (option_copied table.entry) (rule_of rule) e)) }
+    ensures refused { IfSome (R.remaining reader.old) (λ bytes. (e : RunFault)
+        → IsNoPlanOfInput bytes (option_copied table.entry) (rule_of rule) e → IsRefusedRun result e) }
+    ensures threads { IfErr result (λ e. e ≡ RunFault.NoThread → 1 < planner.now.allowance.workers) }
+    ensures before { IfErr result (λ e. e ≡ RunFault.ReadFailed
+        → GivesAtMost structure_limit (R.remaining reader.old) (R.remaining reader.new)) }
 {
-    run_by(alloc, reader, table, rule, planner, observer, writer, proof)
+    let bytes = read_all(alloc, reader, STRUCTURE_LIMIT, Input::StructureInput)?;
+    let (world, outline) = plan_bytes(alloc, &bytes, table, rule, planner, observer)?;
+    put_plan(alloc, &world, &outline, planner.allowance, writer, proof)
 }

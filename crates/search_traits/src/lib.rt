@@ -19,6 +19,6 @@ pub use close_fault::CloseFault;
 pub use closer::Closer;
 pub use desk::Desk;
 pub use observer::{Observer, Unobserved};
-pub use planner::{BestPlan, Planner};
+pub use planner::{Allowance, BestPlan, Planner};
 pub use proposer::{Proposal, Proposer, Strategy, Task};
 pub use region_fault::{RegionFault, RegionPlan};

@@ -11,12 +11,17 @@ pub struct BestPlan {
     pub turns: u64,
 }
 
-/// One worker or many, and how many turns each region has, or any number of them: what is promised of a plan doesn't
-/// tell who made it. `plan` plans one region, as `PlansRegions` says. Who makes it holds the handles for threads, if it
-/// starts some; so what is planned by one that starts none is proved to return.
-#[derive(Drop)]
-pub struct Planner<F> {
+/// How many workers plan, and how many turns each region has, or any number of them.
+#[derive(Clone, Copy, Debug, PartialEq, Eq)]
+pub struct Allowance {
     pub workers: u32,
     pub turns: Option<u64>,
+}
+
+/// What is promised of a plan doesn't tell who made it. `plan` plans one region, as `PlansRegions` says. Who makes it
+/// holds the handles for threads, if it starts some; so what is planned by one that starts none is proved to return.
+#[derive(Drop)]
+pub struct Planner<F> {
+    pub allowance: Allowance,
     pub plan: F,
 }

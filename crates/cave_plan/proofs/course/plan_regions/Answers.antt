@@ -1,19 +1,15 @@
-use Rattle.std.proofs.Common.{ap, arith, length}
-use Rattle.certificate_text.specs.PlanOf.{plans_of}
-use Rattle.cave_plan.specs.Course.{course}
+use Rattle.std.proofs.Common.{[], ap, arith, length, subst, sym}
+use Rattle.cave_plan.specs.Course.{Course, IsCourse}
 use Rattle.cave_plan.proofs.CourseLemmas.{none_planned}
-use Rattle.cave_plan.proofs.WithinLemmas.{within_none}
 use Rattle.cave_plan.proofs.course.plan_regions.Goals as goal
 
 pub loop-region-init : goal.loop-region-init
 loop-region-init g c =
-    let start = c.new-course.result in let is = c.new-course.ensures in
+    let allowance = c.args.planner.now.allowance in
     let all = ap length c.into_iter-region-iterator.ensures.into_iter_gives.0 in
     record {
-      planned = none_planned c.args.planner.now.turns
-          (course start.torches.items start.floor start.stopped (plans_of start.parts.items))
-          is.torches is.floor is.stopped is.parts;
-      within = within_none c.args.planner.now.turns start.turns is.turns;
+      planned = subst (λ (start : Course). IsCourse [] allowance start) (sym c.new-course.ensures)
+          (none_planned allowance);
       counted = omega (arith, all, c.len-count.ensures);
     }
 

@@ -4,7 +4,7 @@ use Rattle.cave_model.specs.RuleOf.{rule_of}
 use Rattle.cave_runs.specs.Runs.{IsRefusedRun}
 use Rattle.cave_runs.proofs.RunLemmas.{widened}
 use Rattle.cave_runs.proofs.PlanRunLemmas.{no_plan_input, no_plan_refused}
-use Rattle.cave_runs.proofs.plan.run_by.Goals as goal
+use Rattle.cave_runs.proofs.plan.run_planner.Goals as goal
 
 pub returns-in_err-world-clause-fault : goal.returns-in_err-world-clause-fault
 returns-in_err-world-clause-fault g c =
