@@ -1,9 +1,10 @@
-//! A worker's desk.
+//! The desk of one of many workers: `Desked` of specs/Results.antt. It plays the role of search_traits' `Desk` over the
+//! beacon that all share.
 ghost use Rattle.std.specs.Arc.{arc_value};
 ghost use Rattle.std.specs.Prelude.{◌≡◌, None, false, true, IfSome};
 ghost use Rattle.schedule_law.specs.Worked.{IsCoverFor};
 ghost use Rattle.search_traits.specs.Turns.{AreSpent, IsWithin};
-ghost use Rattle.worker_results.specs.Results.{IsNewSeatAt, IsSeatAt, KeepsTold};
+ghost use Rattle.worker_results.specs.Results.{IsNewSeatAt, IsSeatAt, KeepsTold, state_of};
 ghost use Rattle.worker_results.specs.Spendings.{IsSpending};
 
 use crate::naming::Naming;
@@ -11,7 +12,7 @@ use crate::spending::Spending;
 use beacon::{Beacon, Seat};
 use cave_model::OutOfMemory;
 use instance_regions::{Cover, Region};
-use search_core::Desk;
+use search_traits::Desk;
 use std::marker::{Model, PhantomData};
 use std::sync::Arc;
 
@@ -52,7 +53,7 @@ impl<'a, B: Naming> Model for PoolDesk<'a, B> {
 }
 
 impl<'a, B: Naming> PoolDesk<'a, B> {
-    /// A desk that grants so many turns, or any number of them.
+    /// A desk that grants turns up to this limit, or any number of them.
     pub fn new(
         beacon: &'a Beacon,
         region: &'a Arc<Region>,
@@ -139,15 +140,7 @@ impl<'a, B: Naming> PoolDesk<'a, B> {
 }
 
 impl<'a, B: Naming> Desk for PoolDesk<'a, B> {
-    ghost shown = { λ d. d.knows.seen };
-
-    ghost accepted = { λ d. d.knows.told };
-
-    ghost granted = { λ d. d.granted };
-
-    ghost limit = { λ d. d.turns };
-
-    ghost region = { λ d. d.region };
+    ghost state = { λ d. state_of d };
 
     fn look(&mut self) -> u64 {
         self.beacon.look(&mut self.seat)
