@@ -1,5 +1,5 @@
 use Rattle.std.proofs.Common.{◌≡◌}
-use Rattle.worker_results.specs.Shares.{AreClosedFrom}
+use Rattle.worker_results.specs.Holdings.{AreClosedFrom}
 use Rattle.search_pool.proofs.worker.work_one.Given as goal
 
 -- these are this worker's holdings and budget, and each floor reaches what the desk showed last
