@@ -18,13 +18,7 @@ use search_traits::{AloneDesk, CloseFault, Closer};
 use std::alloc::{AllocError, Global};
 
 /// The caller's thread closes each piece that waits: their names.
-#[tactic(
-    auto,
-    using(
-        search_traits::proofs::DeskLemmas::continues_same,
-        search_traits::proofs::DeskLemmas::continues_then,
-    ),
-)]
+#[tactic(auto, using(crate::proofs::DeskRules::desk_states))]
 pub(crate) fn glean<C: Closer>(
     alloc: Global,
     core: &mut Core,

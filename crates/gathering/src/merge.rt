@@ -49,11 +49,11 @@ pub fn gather<C: Closer>(
     requires root { Contains (arc_value region.now).cells root }
     ensures gathered { IfOk result (λ g.
         IsGathered (arc_value region.now) first.places root works.items (record {
-      cover = g.cover;
-      tree = tree_of g.proof;
-      closed_by = g.closed_by.items;
-      gleaned = g.gleaned.items;
-    })) }
+          cover = g.cover;
+          tree = tree_of g.proof;
+          closed_by = g.closed_by.items;
+          gleaned = g.gleaned.items;
+        })) }
     ensures best { IfOk result (λ g. IsBest (arc_value region.now) g.cover (tree_of g.proof)) }
     ensures granted { IfOk result (λ g. IsWithin turns g.turns) }
     ensures worked { IfOk result (λ g. EachTook turns (length g.gleaned.items) 0 g.turns) }

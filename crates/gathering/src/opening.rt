@@ -7,8 +7,8 @@ ghost use Rattle.gathering.specs.Playing.{tries, tries_as_long, tries_before_clo
 ghost use Rattle.schedule_law.specs.Listing.{looks, offer_of, offers};
 
 use cave_base::Cell;
-use instance_regions::Cover;
 use event_core::{Core, Event};
+use instance_regions::Cover;
 use proof_tree::{Name, Opened};
 use schedule_law::Work;
 use std::alloc::{AllocError, Global};

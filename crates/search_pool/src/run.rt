@@ -143,7 +143,11 @@ pub(crate) fn run_scope<
             ensures row { IfOk result (λ all. AreFrom 0 own each all.items) }
             ensures len { IfOk result (λ all. length all.items ≡ length slots.entry.now) }
         {
-            let team = Team { first: 0, own, each };
+            let team = Team {
+                first: 0,
+                own,
+                each,
+            };
             run_from::<B, C, R, O>(scope, rt, common, slots, observer, team)
         },
     )?;

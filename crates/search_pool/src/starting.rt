@@ -34,29 +34,6 @@ pub(crate) fn run_opened<C: Closer + Send + Sync, R: Threads + Wait + Sync, O: O
 {
     let Stock { owners, thieves } = stock_for(run.alloc, run.root, run.workers)?;
     let (beacon, first) = Beacon::open(run.alloc, run.best.size())?;
-    start::<C, R, O>(run, beacon, first, owners, &thieves)
-}
-
-/// Names the beacon and the deques, and runs the workers.
-fn start<C: Closer + Send + Sync, R: Threads + Wait + Sync, O: Observer>(
-    run: Run<'_, R, O>,
-    beacon: Beacon,
-    first: Seat,
-    owners: Vec<Owner>,
-    thieves: &[Thief],
-) -> Result<Ran, Unrun>
-    requires root { IsRootSplit (arc_value run.region.now) run.root.now }
-    requires seat { (first.beacon ≡ beacon)
-        × (first.knows ≡ at_first (length run.best.now.places)) }
-    requires each { length owners.items ≡ run.workers.number }
-    requires owners { AreOwners (deque_at owners.items) (pushed_at owners.items) 0 owners.items }
-    requires thieves { AreThieves (deque_at owners.items) 0 thieves.now }
-    requires start { StartWith (pushed_at owners.items) run.workers.number (kids_of run.root.now) }
-    ensures run { IfOk result (λ ran. IsRun (arc_value run.entry.region.now)
-        run.entry.best.now.places run.entry.root.now run.entry.workers.number
-        ran.joined.works.items ran.joined.left.items) }
-    ensures turns { IfOk result (λ ran.
-        AreGranted run.entry.workers.number run.entry.turns ran.turns ran.is_spent) }
-{
-    run_named::<Brand, C, R, O>(run, beacon, first, owners, thieves)
+    // The names are those of this beacon and these deques.
+    run_named::<Brand, C, R, O>(run, beacon, first, owners, &thieves)
 }

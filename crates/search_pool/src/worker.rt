@@ -122,8 +122,7 @@ pub(crate) fn work_one<B: Naming, C: Closer, R: Wait, O: Observer>(
         return None;
     }
     let (seat, mut holdings) = berth.into_parts();
-    let mut desk: PoolDesk<'_, B> =
-        PoolDesk::new(common.beacon, common.region, seat, post.budget);
+    let mut desk: PoolDesk<'_, B> = PoolDesk::new(common.beacon, common.region, seat, post.budget);
     for _ in 0..u64::MAX {
         if !next(&mut holdings, common.thieves) {
             break;

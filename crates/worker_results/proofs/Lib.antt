@@ -4,3 +4,4 @@ pub mod HoldingLemmas
 pub mod PartLemmas
 pub mod TakeLemmas
 pub mod JoinLemmas
+pub mod DeskRules

@@ -6,8 +6,8 @@ ghost use Rattle.worker_results.specs.Holdings.{IsFresh};
 ghost use Rattle.worker_results.specs.Spendings.{unspent};
 
 use crate::done::Done;
-use crate::naming::Naming;
 use crate::holdings::Holdings;
+use crate::naming::Naming;
 use crate::spending::Spending;
 use beacon::Seat;
 use std::marker::Model;

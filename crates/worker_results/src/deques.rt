@@ -6,9 +6,9 @@ ghost use Rattle.worker_results.specs.Joining.{numbers_of};
 ghost use Rattle.worker_results.specs.Naming.{numbers_from};
 ghost use Rattle.worker_results.specs.Taking.{AreDrained, TakeRows, take_back_row};
 
-use crate::pass_row::PassRow;
 use crate::naming::Naming;
 use crate::own::Own;
+use crate::pass_row::PassRow;
 use cave_model::OutOfMemory;
 use proof_tree::Piece;
 use std::alloc::Global;

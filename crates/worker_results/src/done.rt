@@ -8,10 +8,10 @@ ghost use Rattle.worker_results.specs.Results.{IsHandedIn, IsSeatAt, KeepsTold};
 ghost use Rattle.worker_results.specs.Holdings.{AreClosedFrom, work_of};
 ghost use Rattle.worker_results.specs.Spendings.{IsSpending};
 
-use crate::pass_row::PassRow;
+use crate::holdings::Holdings;
 use crate::naming::Naming;
 use crate::own::Own;
-use crate::holdings::Holdings;
+use crate::pass_row::PassRow;
 use crate::spending::Spending;
 use beacon::Seat;
 use instance_regions::Cover;

@@ -5,9 +5,9 @@ ghost use Rattle.worker_results.specs.Naming.{numbers_from};
 ghost use Rattle.worker_results.specs.Passes.{all_taken, deques};
 ghost use Rattle.worker_results.specs.Holdings.{IsFresh, HeldSoundly, work_of};
 
-use crate::pass_row::PassRow;
 use crate::naming::Naming;
 use crate::own::Own;
+use crate::pass_row::PassRow;
 use instance_regions::Cover;
 use proof_tree::{Closed, Name, Opened, Piece};
 use schedule_law::Work;

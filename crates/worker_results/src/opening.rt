@@ -54,16 +54,7 @@ impl<B: Naming> Holdings<B> {
 }
 
 /// The piece opened, with its kids, once there is room for keeping them back and a turn was granted.
-#[tactic(
-    auto,
-    using(
-        search_traits::proofs::DeskLemmas::continues_look,
-        search_traits::proofs::DeskLemmas::continues_enter,
-        search_traits::proofs::DeskLemmas::continues_then,
-        search_traits::proofs::DeskLemmas::works_enter,
-        search_traits::proofs::DeskLemmas::works_after,
-    ),
-)]
+#[tactic(auto, using(crate::proofs::DeskRules::desk_calls))]
 fn ready<C: Closer, D: Desk>(
     alloc: Global,
     region: &Region,

@@ -5,10 +5,10 @@ ghost use Rattle.beacon.specs.Marks.{together};
 ghost use Rattle.worker_results.specs.Apart.{AreApart, AreResultParts, IsOneMore};
 ghost use Rattle.worker_results.specs.Joining.{numbers_of, workers_of, works_of};
 
-use crate::pass_row::PassRow;
 use crate::done::{Done, Parts};
 use crate::naming::Naming;
 use crate::own::Own;
+use crate::pass_row::PassRow;
 use beacon::{Beacon, Seat};
 use cave_model::OutOfMemory;
 use schedule_law::Work;

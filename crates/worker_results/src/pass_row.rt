@@ -5,8 +5,8 @@ ghost use Rattle.worker_results.specs.Naming.{numbers_from, AreThieves};
 ghost use Rattle.worker_results.specs.Passes.{deques};
 ghost use Rattle.worker_results.specs.Tries.{TriedOne};
 
-use crate::pass_at::PassAt;
 use crate::naming::Naming;
+use crate::pass_at::PassAt;
 use piece_deque::{Take, Thief};
 use std::marker::Model;
 

@@ -4,8 +4,8 @@ ghost use Rattle.std.specs.Prelude.{◌≡◌, ◌<◌, length};
 ghost use Rattle.worker_results.specs.Naming.{AreThieves};
 ghost use Rattle.worker_results.specs.Steps.{HoldsMore};
 
-use crate::naming::Naming;
 use crate::holdings::Holdings;
+use crate::naming::Naming;
 use crate::step::Tried;
 use piece_deque::{Take, Thief};
 

@@ -7,7 +7,6 @@ use Rattle.search_pool.proofs.TurnLemmas.{granted_of}
 use Rattle.worker_results.specs.Naming.{numbers_from}
 use Rattle.worker_results.specs.Results.{Handed}
 use Rattle.worker_results.specs.Holdings.{work_of}
-use Rattle.worker_results.specs.Joining.{workers_of}
 use Rattle.search_pool.proofs.pool.run_named.Goals as goal
 
 pub run_scope-requires-clause-some : goal.run_scope-requires-clause-some
@@ -67,7 +66,7 @@ returns-clause-turns g c =
     let asked = c.spent_by-turns.ensures.spent ∙ ap is_spent now in
     let long = owned_long c.in_ok-passes.passes.owned.items g.B.Naming.workers c.in_ok-passes.ensures.numbers in
     let count : length results ≡ workers = (let l = c.in_ok-results.ensures.1 in
-        let each = c.in_ok-slots.ensures.each in let same = c.requires.few.0 in
-        let slice = c.as_slice.ensures.len in omega (arith, l, long, each, same, slice)) in
+    let each = c.in_ok-slots.ensures.each in let same = c.requires.few.0 in
+    let slice = c.as_slice.ensures.len in omega (arith, l, long, each, same, slice)) in
     subst (λ (n : ℕ × Bool). AreGranted workers turns n.0 n.1) (λ i. (sym sum i, sym asked i))
     (granted_of workers turns results c.in_ok-results.ensures.0 each count)

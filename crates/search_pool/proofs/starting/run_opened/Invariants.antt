@@ -1,6 +1,6 @@
 use Rattle.std.specs.Arc.{arc_value}
 use Rattle.search_pool.specs.Deques.{deque_at, pushed_at}
-use Rattle.search_pool.proofs.starting.start.Given as goal
+use Rattle.search_pool.proofs.starting.run_opened.Given as goal
 
 -- the names are those of this beacon, these deques and this region
 abbrev pub ghosts-run_named : goal.ghosts-run_named
