@@ -32,9 +32,9 @@ abbrev pub IsNewSeatAt : TableId → Seated → Type 0
 IsNewSeatAt beacon seat = IsSeatAt beacon seat × (seat.knows.told ≡ None)
 
 -- it granted no more turns than its limit, and all of them where it refused one
-pub record CountsTurns (turns : Option ℕ) (granted : ℕ) (refused : Bool) : Type 0 where
-  pub within : IsWithin turns granted
-  pub all : refused ≡ true → AreSpent turns granted
+pub record CountsTurns (limit : Option ℕ) (granted : ℕ) (is_spent : Bool) : Type 0 where
+  pub within : IsWithin limit granted
+  pub all : is_spent ≡ true → AreSpent limit granted
 
 -- a worker's desk
 pub record Desked : Type 0 where
@@ -42,25 +42,25 @@ pub record Desked : Type 0 where
   -- what its seat knows
   pub knows : Known
   pub cover : Option Covering
-  -- the limit, if there is one
-  pub turns : Option ℕ
+  -- how many turns it grants at most, if they are limited
+  pub limit : Option ℕ
   pub granted : ℕ
   -- whether it refused the last turn that was asked for
-  pub refused : Bool
+  pub is_spent : Bool
 
 -- the code by which desks are told apart, made of those of their parts
 abbrev pub desked_coded : Coded Desked
 desked_coded = code_by (Instance × (Known × (Option Covering × (Option ℕ × (ℕ × Bool)))))
     (coded× instance_coded (coded× known_coded (coded× (coded_option covering_coded)
     (coded× (coded_option coded_ℕ) (coded× coded_ℕ coded_bool)))))
-    (λ d. (d.region, (d.knows, (d.cover, (d.turns, (d.granted, d.refused))))))
+    (λ d. (d.region, (d.knows, (d.cover, (d.limit, (d.granted, d.is_spent))))))
     (λ p. record {
       region = p.0;
       knows = p.1.0;
       cover = p.1.1.0;
-      turns = p.1.1.1.0;
+      limit = p.1.1.1.0;
       granted = p.1.1.1.1.0;
-      refused = p.1.1.1.1.1;
+      is_spent = p.1.1.1.1.1;
     })
     (λ _. refl)
 
@@ -70,7 +70,7 @@ state_of desk = record {
   shown = desk.knows.seen;
   accepted = desk.knows.told;
   granted = desk.granted;
-  limit = desk.turns;
+  limit = desk.limit;
   region = desk.region;
 }
 

@@ -7,6 +7,6 @@ abbrev pub invariant-loop : goal.invariant-loop
 invariant-loop g l = record {
   worker : l.holdings.worker ≡ l.fn.post.worker;
   region : l.desk.region ≡ g.B.Naming.region;
-  limit : l.desk.turns ≡ l.fn.post.budget;
+  limit : l.desk.limit ≡ l.fn.post.budget;
   floors : AreClosedFrom g.B.Naming.region l.desk.knows.seen l.holdings.closed;
 }
