@@ -6,7 +6,7 @@ use Rattle.event_core.specs.State.{State}
 use Rattle.schedule_law.specs.Worked.{Worked}
 use Rattle.gathering.specs.Playing.{one_if, TriesClose, TriesCloses, TriesAllCloses}
 
--- whatever the rest of the pieces does completes them all, so many being closed so far
+-- whatever the rest of the pieces does completes them all, where this count was closed so far
 pub record CountsOn (old : State) (worker : ℕ) (all : List Fathomed) (count : ℕ) (now : State)
     (rest : List Fathomed) : Type 0 where
   pub go : (others : ℕ) (new : State) → TriesCloses now worker rest others new
@@ -42,7 +42,7 @@ counts_end old worker all count now rest l e =
     (refl, refl) in
     subst (λ (n : ℕ). TriesCloses old worker all n now) (omega arith) (l.go 0 now none)
 
--- the same for all workers
+-- whatever the rest of the workers does completes them all, where these counts were closed so far
 pub record AllCountOn (old : State) (all : List Worked) (counts : List ℕ) (now : State) (worker : ℕ)
     (rest : List Worked) : Type 0 where
   pub go : (others : List ℕ) (new : State) → TriesAllCloses now worker rest others new

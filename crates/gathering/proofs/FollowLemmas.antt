@@ -45,7 +45,7 @@ pub record IsOpened (old : State) (split : Split) (new : State) : Type 0 where
   pub takes : Turns old split.piece.name (held worker) taken
   pub opens : Opens taken split.piece.name split.cell new
 
--- the same for pieces in turn
+-- workers take pieces in turn and open them
 abbrev pub AllOpened : State → List Split → State → Type 0
 AllOpened old [] new = new ≡ old
 AllOpened old (s ∷ ss) new = (next : State) × IsOpened old s next × AllOpened next ss new
@@ -109,7 +109,7 @@ follow_if true w s others events tried rest old new go e p =
     }
 follow_if false w s others events tried rest old new go e p = go old e p
 
--- the same for all pieces whose names are so long
+-- where all pieces whose names have a length may be opened, trying them opens them
 follow_as_long : (size w : ℕ) (ss : List Split) (rest : List Event) (old new : State)
     → AllEnabled old (opens_as_long size w ss ++ rest) → Plays old (tries_as_long size w ss) new
     → IsOpenedTo old (as_long size ss) new rest
@@ -121,7 +121,7 @@ follow_as_long size w (s ∷ ss) rest old new e p =
     follow_if (eqb (length s.piece.name) size) w s (as_long size ss) (opens_as_long size w ss)
     (tries_as_long size w ss) rest old new (λ now f q. follow_as_long size w ss rest now new f q) e p
 
--- the same for all workers
+-- so does trying those of all workers
 pub follow_tries : (size w : ℕ) (works : List Worked) (rest : List Event) (old new : State)
     → AllEnabled old (opens size w works ++ rest) → Plays old (tries size w works) new
     → IsOpenedTo old (all_as_long size works) new rest
@@ -223,14 +223,14 @@ follow_close w k rest old done new e t =
       enabled = subst (λ (x : State). AllEnabled x rest) (sym is) (e1.1 t.tried closes.1);
     }
 
--- so many were closed, and what comes after is enabled
+-- all of the pieces were closed and counted, and what comes after is enabled
 record AreClosedTo (old : State) (pieces : List Fathomed) (count : ℕ) (new : State) (rest : List Event)
     : Type 0 where
   pub all : count ≡ length pieces
   pub are_gone : AllGone old (length pieces) new
   pub enabled : AllEnabled new rest
 
--- the same for all pieces that a worker closed
+-- where all pieces that a worker closed may be closed, trying them closes them
 follow_closes : (w : ℕ) (ks : List Fathomed) (rest : List Event) (old : State) (count : ℕ) (new : State)
     → AllEnabled old (closes_of w ks ++ rest) → TriesCloses old w ks count new → AreClosedTo old ks count new rest
 follow_closes w [] rest old count new e t = record {
@@ -252,7 +252,7 @@ pub record AreAllClosed (old : State) (works : List Worked) (counts : List ℕ) 
   pub all : counts ≡ map (λ work. length work.closed) works
   pub are_gone : AllGone old (length (all_closed works)) new
 
--- the same for all workers
+-- so does trying those of all workers
 pub follow_all_closes : (w : ℕ) (works : List Worked) (old : State) (counts : List ℕ) (new : State)
     → AllEnabled old (closes w works) → TriesAllCloses old w works counts new → AreAllClosed old works counts new
 follow_all_closes w [] old counts new e t = record { all = t.0; are_gone = t.1 }
@@ -290,7 +290,7 @@ gleaned_gone old caller name new g =
           ∙ g.takes.1.others m ne;
     }
 
--- the same for all that it closes
+-- each piece that the caller's thread closes is gone
 pub gleans_gone : (caller : ℕ) (names : List (List ℕ)) (old new : State) → Gleans old caller names new
     → AllGone old (length names) new
 gleans_gone caller [] old new g = g

@@ -14,7 +14,7 @@ use Rattle.event_core.specs.Kept.{Kept, state_of, IsAssembly}
 use Rattle.event_core.specs.Plays.{Plays}
 use Rattle.schedule_law.specs.Worked.{Worked}
 use Rattle.search_traits.specs.Planned.{IsBest, NoneBelow}
-use Rattle.search_core.proofs.AloneLemmas.{none_below_tree}
+use Rattle.search_traits.proofs.PlannedLemmas.{none_below_tree}
 use Rattle.gathering.specs.Playing.{tries_before_closes, TriesAllCloses}
 use Rattle.gathering.specs.Gathered.{IsGathered, Gleans}
 use Rattle.gathering.specs.Gleaning.{NoneHeld}

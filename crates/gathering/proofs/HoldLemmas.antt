@@ -106,7 +106,7 @@ before_only w name old new before only = record {
   known = λ m c b v h. subst (λ (n : ℕ). w < n) (sym before.seen) (only.known m c b v (before.back m c b v h));
 }
 
--- the same state holds the same
+-- a state that stays holds what it held
 before_same : (old new : State) → new ≡ old → IsHeldBefore old new
 before_same old new e = subst (IsHeldBefore old) (sym e) (record { back = λ m c b w h. h; seen = refl })
 
@@ -162,13 +162,13 @@ free_open w split old new none p =
     let still = before_only w name p.1 q.1 (opened_before name split.cell p.1 q.1 q.0 q.2) only in
     subst NoneHeld (sym r.3) (left_free w name q.1 r.1 r.0 still r.2)
 
--- the same where it tries this only for some names
+-- no piece is held after a worker tried to open one, or didn't since its name has another length
 free_if : (long : Bool) (w : ℕ) (split : Split) (old new : State) → NoneHeld old
     → Plays old (if long then tries_open w split else []) new → NoneHeld new
 free_if true w split old new none p = free_open w split old new none p
 free_if false w split old new none p = subst NoneHeld (sym p) none
 
--- the same for pieces in turn
+-- nor after it tried to open pieces in turn
 free_as_long : (size w : ℕ) (splits : List Split) (old new : State) → NoneHeld old
     → Plays old (tries_as_long size w splits) new → NoneHeld new
 free_as_long size w [] old new none p = subst NoneHeld (sym p) none
@@ -176,7 +176,7 @@ free_as_long size w (split ∷ splits) old new none p =
     let q = plays_split old (tries_one size w split) (tries_as_long size w splits) new p in
     free_as_long size w splits q.0 new (free_if (eqb (length split.piece.name) size) w split old q.0 none q.1.0) q.1.1
 
--- the same for all workers
+-- nor after all workers did
 free_tries : (size w : ℕ) (works : List Worked) (old new : State) → NoneHeld old → Plays old (tries size w works) new
     → NoneHeld new
 free_tries size w [] old new none p = subst NoneHeld (sym p) none
@@ -242,14 +242,14 @@ free_close w k done old new none t =
     let still = before_only w name t.taken t.tried (closed_before w k t.taken t.tried done t.closes) only in
     left_free w name t.tried new t.left still t.leaves
 
--- the same for pieces in turn
+-- nor after it tried to close pieces in turn
 free_closes : (w : ℕ) (pieces : List Fathomed) (count : ℕ) (old new : State) → NoneHeld old
     → TriesCloses old w pieces count new → NoneHeld new
 free_closes w [] count old new none t = subst NoneHeld (sym t.1) none
 free_closes w (k ∷ ks) count old new none (done, next, one, others, sum, rest) = free_closes w ks others next new
     (free_close w k done old next none one) rest
 
--- the same for all workers
+-- nor after all workers did
 pub free_all_closes : (w : ℕ) (works : List Worked) (counts : List ℕ) (old new : State) → NoneHeld old
     → TriesAllCloses old w works counts new → NoneHeld new
 free_all_closes w [] counts old new none t = subst NoneHeld (sym t.1) none

@@ -179,12 +179,12 @@ module _ (region : Instance) (first : List ℕ) (cell : ℕ) (places : List ℕ)
 
     -- ---- the whole play
 
-    -- the same events, grouped to the right
+    -- events of five lists, grouped to the right
     regroup : (a b c d e : List Event) → (((a ++ b) ++ c) ++ d) ++ e ≡ a ++ (b ++ (c ++ (d ++ e)))
     regroup a b c d e = append_assoc ((a ++ b) ++ c) d e ∙ append_assoc (a ++ b) c (d ++ e)
         ∙ append_assoc a b (c ++ (d ++ e))
 
-    -- once workers opened their pieces, so many wait, and each that they closed may be closed
+    -- once workers opened their pieces, as many wait as the works say, and each that they closed may be closed
     record IsPlayed (state : State) : Type 0 where
       pub now : List Subproblem
       pub wait : AreWaiting state now

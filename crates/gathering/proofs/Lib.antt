@@ -9,3 +9,4 @@ pub mod WaitLemmas
 pub mod FollowLemmas
 pub mod OpenedLemmas
 pub mod LawLemmas
+pub mod DeskRules

@@ -175,7 +175,7 @@ module _ (region : Instance) (came : List Subproblem) (single : (x : List ℕ) �
         );
       }
 
-  -- the same for pieces in turn
+  -- pieces are opened in turn
   pub opened_all : (ss : List Split) (old new : State) (ps : List Subproblem) → old.region ≡ region
       → AreWaiting old ps → All (IsOpenedIn region) ss → ((p : Subproblem) → IsAmong p (pieces_opened ss)
       → IsAmong p came)

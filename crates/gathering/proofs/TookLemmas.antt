@@ -1,7 +1,7 @@
 -- How many turns gleaning takes.
 use Rattle.std.proofs.Common.{ℕ, ◌+◌, ◌≤◌, List, [], ◌∷◌, ◌++◌, length, Option, Some, None, arith}
 use Rattle.std.proofs.Common.{◌≡◌}
-use Rattle.search_traits.specs.Turns.{Works}
+use Rattle.search_traits.specs.Turns.{TookOne}
 use Rattle.gathering.specs.Gathered.{EachTook}
 
 -- no piece takes no turn
@@ -22,6 +22,7 @@ length-push (y ∷ ys) x = omega (arith, length-push ys x)
 
 -- a piece more takes a turn at least
 pub took_next : (limit : Option ℕ) (names : List (List ℕ)) (name : List ℕ) (old mid new : ℕ)
-    → EachTook limit (length names) old mid → Works limit mid new → EachTook limit (length (names ++ name ∷ [])) old new
+    → EachTook limit (length names) old mid → TookOne limit mid new
+    → EachTook limit (length (names ++ name ∷ [])) old new
 took_next None names name old mid new took works = omega (arith, took, works)
 took_next (Some most) names name old mid new took works = omega (arith, took, works, length-push names name)

@@ -100,7 +100,7 @@ pub record AreWaiting (state : State) (ps : List Subproblem) : Type 0 where
   pub only : (name chosen barred : List ℕ) → HasPart state name chosen barred waiting → 1 ≤ weigh (named name) ps
   pub once : (name : List ℕ) → weigh (named name) ps ≤ 1
 
--- the same pieces wait where no piece changed
+-- where no piece changed, pieces that waited still wait
 pub same_waiting : (old new : State) (ps : List Subproblem) → new.part_at ≡ old.part_at → AreWaiting old ps
     → AreWaiting new ps
 same_waiting old new ps e a = record {
@@ -130,7 +130,7 @@ gone_waiting old name new ps a g = record {
   once = λ x. (let less = weigh-without (named x) name ps in let one = a.once x in omega arith);
 }
 
--- so many pieces are gone, one after another
+-- this count of pieces is gone, one after another
 abbrev pub AllGone : State → ℕ → State → Type 0
 AllGone old zero new = new ≡ old
 AllGone old (suc count) new = (name : List ℕ) × (next : State) × IsGone old name next × AllGone next count new
@@ -144,13 +144,13 @@ all_gone-append a (suc m) n b c (name, next, one, rest) q =
     let e : suc (m + n) ≡ suc m + n = omega arith in
     subst (λ (k : ℕ). AllGone a k c) e (name, next, one, all_gone-append next m n b c rest q)
 
--- pieces wait, and with those that are gone they were so many
+-- pieces wait, and with those that are gone they are as many as before
 pub record AreWaitingStill (state : State) (gone before : ℕ) : Type 0 where
   pub rest : List Subproblem
   pub wait : AreWaiting state rest
   pub count : many rest + gone ≡ before
 
--- where pieces are gone, so many fewer wait
+-- where pieces are gone, fewer wait by their number
 pub all_gone_waiting : (count : ℕ) (old new : State) (ps : List Subproblem) → AreWaiting old ps
     → AllGone old count new → AreWaitingStill new count (many ps)
 all_gone_waiting zero old new ps a g = record {

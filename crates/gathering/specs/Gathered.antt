@@ -28,7 +28,7 @@ pub record GleansOne (old : State) (caller : ℕ) (name : List ℕ) (new : State
   pub looks : Steps offered (Look caller) true seen
   pub closes : Steps seen (Close caller closed) true new
 
--- the same for these names in turn
+-- it closes the waiting pieces of these names in turn
 abbrev pub Gleans : State → ℕ → List (List ℕ) → State → Type 0
 Gleans old caller [] new = new ≡ old
 Gleans old caller (name ∷ names) new = (next : State) × GleansOne old caller name next × Gleans next caller names new
@@ -58,7 +58,7 @@ pub record IsGathered (region : Instance) (first : List ℕ) (root : ℕ) (works
   pub best : gathered.cover ≡ record { region = region; places = final.best }
   pub assembled : IsAssembled final [] gathered.tree
 
--- where turns are limited, each of so many pieces took one of them at least
+-- where turns are limited, at least as many were granted in between as pieces were closed
 abbrev pub EachTook : Option ℕ → ℕ → ℕ → ℕ → Type 0
 EachTook None pieces old new = old ≤ new
 EachTook (Some limit) pieces old new = old + pieces ≤ new

@@ -16,16 +16,16 @@ abbrev pub tries_open : ℕ → Split → List Event
 tries_open worker split =
     Take worker split.piece.name ∷ Open split.piece.name split.cell ∷ Leave worker split.piece.name ∷ []
 
--- the same if its name is so long
+-- it does so if the piece's name has this length
 abbrev pub tries_one : ℕ → ℕ → Split → List Event
 tries_one size worker split = if eqb (length split.piece.name) size then tries_open worker split else []
 
--- the same for pieces in turn
+-- it does so for pieces in turn
 abbrev pub tries_as_long : ℕ → ℕ → List Split → List Event
 tries_as_long size worker [] = []
 tries_as_long size worker (split ∷ splits) = tries_one size worker split ++ tries_as_long size worker splits
 
--- the same for all workers from this number on
+-- all workers from this number on open their pieces
 abbrev pub tries : ℕ → ℕ → List Worked → List Event
 tries size worker [] = []
 tries size worker (work ∷ works) = tries_as_long size worker work.opened ++ tries size (worker + 1) works
@@ -49,14 +49,14 @@ abbrev pub one_if : Bool → ℕ
 one_if true = 1
 one_if false = 0
 
--- the same for pieces in turn, of which so many were closed
+-- a worker tries to close pieces in turn, of which this count were closed
 abbrev pub TriesCloses : State → ℕ → List Fathomed → ℕ → State → Type 0
 TriesCloses old worker [] count new = (count ≡ 0) × (new ≡ old)
 TriesCloses old worker (closed ∷ rest) count new =
     (done : Bool) × (next : State) × TriesClose old worker closed done next
     × (others : ℕ) × (count ≡ one_if done + others) × TriesCloses next worker rest others new
 
--- the same for all workers from this number on, with how many of each were closed
+-- all workers from this number on try to close theirs, with how many of each were closed
 abbrev pub TriesAllCloses : State → ℕ → List Worked → List ℕ → State → Type 0
 TriesAllCloses old worker [] counts new = (counts ≡ []) × (new ≡ old)
 TriesAllCloses old worker (work ∷ works) counts new =

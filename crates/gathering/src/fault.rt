@@ -1,4 +1,5 @@
-//! Why no fewest places were found.
+//! Why workers found no fewest places. When each case comes, specs/Gathered.antt says of `gather`, and search_pool of
+//! the whole.
 ghost use Rattle.std.specs.Prelude.{◌≡◌};
 
 use instance_regions::Cover;

@@ -1,21 +1,25 @@
-//! Closing what is left.
+//! The caller's thread closes the pieces that are left waiting on the event core: `Gleans` of specs/Gathered.antt. It
+//! offers its best cover and looks before each close.
 ghost use Rattle.std.specs.Prelude.{◌≡◌, ◌≤◌, length, IsTrue, IfErr, IfOk};
 ghost use Rattle.event_core.specs.Events.{IsWorker};
 ghost use Rattle.event_core.specs.Kept.{state_of};
 ghost use Rattle.event_core.specs.State.{IsDone};
 ghost use Rattle.gathering.specs.Gathered.{EachTook, Gleans};
 ghost use Rattle.gathering.specs.Gleaning.{Finishes, GleansWhere, MayFinish, NoneHeld};
-ghost use Rattle.search_core.specs.declared.halt.Halt.TheVariants.{TurnsSpent};
-ghost use Rattle.search_traits.specs.Turns.{AreSpent, Works};
+ghost use Rattle.gathering.specs.declared.halt.Halt.TheVariants.{TurnsSpent};
+ghost use Rattle.search_traits.specs.Alone.{state_of as desk_of};
+ghost use Rattle.search_traits.specs.Desks.{Continues, IsSpent, Works};
 
-use instance_regions::Cover;
+use crate::halt::Halt;
 use event_core::{Core, Event};
+use instance_regions::Cover;
 use proof_tree::{Closed, Name, floor_of};
-use search_core::{AloneDesk, CloseFault, Halt, Strategy, close_piece};
+use search_traits::{AloneDesk, CloseFault, Closer};
 use std::alloc::{AllocError, Global};
 
 /// The caller's thread closes each piece that waits: their names.
-pub(crate) fn glean<S: Strategy>(
+#[tactic(auto, using(crate::proofs::DeskRules::desk_states))]
+pub(crate) fn glean<C: Closer>(
     alloc: Global,
     core: &mut Core,
     caller: u32,
@@ -24,16 +28,17 @@ pub(crate) fn glean<S: Strategy>(
     requires known { IsWorker (state_of core.old) caller }
     requires none_held { NoneHeld (state_of core.old) }
     requires of_it { desk.old.cover.region ≡ core.old.region }
-    ensures gleans { IfOk result (λ names. Gleans (state_of core.old) caller names.items (state_of core.new)) }
+    ensures gleans { IfOk result (λ names.
+        Gleans (state_of core.old) caller names.items (state_of core.new)) }
     ensures done { IfOk result (λ _. IsDone (state_of core.new)) }
-    ensures spent { IfErr result (λ halt. halt ≡ TurnsSpent → AreSpent desk.new.limit desk.new.granted) }
-    ensures worked { IfOk result (λ names. EachTook desk.old.limit (length names.items) desk.old.granted
-        desk.new.granted) }
-    ensures same { (desk.new.cover.region ≡ desk.old.cover.region) × (desk.new.limit ≡ desk.old.limit) }
+    ensures spent { IfErr result (λ halt. halt ≡ TurnsSpent → IsSpent (desk_of desk.new)) }
+    ensures worked { IfOk result (λ names.
+        EachTook desk.old.limit (length names.items) desk.old.granted desk.new.granted) }
+    ensures onward { Continues (desk_of desk.old) (desk_of desk.new) }
 {
     let mut gleaned = Vec::new(alloc);
     for name in core.waiting_names()? {
-        if glean_one::<S>(alloc, core, caller, &name, desk)? {
+        if glean_one::<C>(alloc, core, caller, &name, desk)? {
             gleaned.push(name)?;
         }
     }
@@ -41,7 +46,8 @@ pub(crate) fn glean<S: Strategy>(
 }
 
 /// The caller's thread closes the piece of this name, where it waits: whether it did.
-fn glean_one<S: Strategy>(
+#[tactic(auto, using(search_traits::proofs::DeskLemmas::continues_same))]
+fn glean_one<C: Closer>(
     alloc: Global,
     core: &mut Core,
     caller: u32,
@@ -50,18 +56,18 @@ fn glean_one<S: Strategy>(
 ) -> Result<bool, Halt>
     requires known { IsWorker (state_of core.old) caller }
     requires of_it { desk.old.cover.region ≡ core.old.region }
-    ensures gleans { IfOk result (GleansWhere (state_of core.old) caller name.now (state_of core.new)) }
-    ensures spent { IfErr result (λ halt. halt ≡ TurnsSpent → AreSpent desk.new.limit desk.new.granted) }
+    ensures gleans { IfOk result (
+        GleansWhere (state_of core.old) caller name.now (state_of core.new)) }
+    ensures spent { IfErr result (λ halt. halt ≡ TurnsSpent → IsSpent (desk_of desk.new)) }
     ensures worked { IfOk result (λ is_closed. IsTrue is_closed
-        → Works desk.old.limit desk.old.granted desk.new.granted) }
-    ensures more { desk.old.granted ≤ desk.new.granted }
-    ensures same { (desk.new.cover.region ≡ desk.old.cover.region) × (desk.new.limit ≡ desk.old.limit) }
+        → Works (desk_of desk.old) (desk_of desk.new)) }
+    ensures onward { Continues (desk_of desk.old) (desk_of desk.new) }
 {
     let Some(piece) = core.waiting_piece(name)? else {
         return Ok(false);
     };
     core.step(Event::Take(caller, name.try_clone()?))?;
-    match close_piece::<S, AloneDesk>(alloc, piece, desk) {
+    match C::close_piece(alloc, piece, desk) {
         Ok(closed) => {
             let cover = desk.cover().try_clone()?;
             finish(core, caller, closed, cover)?;
@@ -75,7 +81,8 @@ fn glean_one<S: Strategy>(
 /// The caller's thread offers the best cover that it knows, looks, and closes the piece.
 fn finish(core: &mut Core, caller: u32, closed: Closed, cover: Cover) -> Result<(), AllocError>
     requires { MayFinish (state_of core.old) caller closed cover }
-    ensures { IfOk result (λ _. Finishes (state_of core.old) caller closed cover (state_of core.new)) }
+    ensures { IfOk result (λ _.
+        Finishes (state_of core.old) caller closed cover (state_of core.new)) }
 {
     let size = cover.size();
     let floor = floor_of(&closed);

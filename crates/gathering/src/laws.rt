@@ -1,4 +1,5 @@
-//! Laws over the definitions alone.
+//! Laws over the definitions alone: what each worker is counted for, and the caller's thread, is `AreCounted` of
+//! specs/Counted.antt.
 ghost use Rattle.std.specs.Prelude.{ℕ, List};
 ghost use Rattle.gathering.specs.Counted.{AreCounted};
 ghost use Rattle.gathering.specs.Gathered.{Gathering, IsGathered};
@@ -10,7 +11,8 @@ ghost use Rattle.set_cover.specs.Instance.{Instance};
 /// Where the works are those of joined results, each piece that a worker closed counts as its own, and the caller's
 /// thread closed as many pieces as were handed back or left.
 pub fn all_are_counted()
-    ensures { (region : Instance) (first : List ℕ) (cell : ℕ) (places : List ℕ) (works : List Worked)
-        (left : List Subproblem) (gathered : Gathering) → AreJoined region first cell places works left
+    ensures { (region : Instance) (first : List ℕ) (cell : ℕ) (places : List ℕ)
+        (works : List Worked) (left : List Subproblem) (gathered : Gathering)
+        → AreJoined region first cell places works left
         → IsGathered region first cell works gathered → AreCounted works left gathered }
 {}

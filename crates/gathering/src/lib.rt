@@ -1,8 +1,10 @@
-//! The results of workers, merged: played on the event core, and finished where pieces are left.
+//! The results of workers, merged: played on the event core, and finished by a search where pieces are left. What comes
+//! of it is `IsGathered` of specs/Gathered.antt.
 #![tactic(auto)]
 
 mod fault;
 mod gleaning;
+mod halt;
 pub mod laws;
 mod merge;
 mod opening;

@@ -1,4 +1,5 @@
-//! Gathering the results of workers.
+//! The results of workers are gathered into a best plan, with its tree: `IsGathered` of specs/Gathered.antt. Where the
+//! turns don't do, it says what is known by then.
 ghost use Rattle.std.specs.Arc.{arc_value};
 ghost use Rattle.std.specs.Prelude.{◌≡◌, ◌<◌, ◌+◌, ◌^◌, length, Contains, IfErr, IfOk, IfSome};
 ghost use Rattle.gathering.specs.Gathered.{EachTook, IsGathered, StopsGathering};
@@ -8,15 +9,16 @@ ghost use Rattle.search_traits.specs.Turns.{AreSpent, IsWithin};
 
 use crate::fault::PoolFault;
 use crate::gleaning::glean;
+use crate::halt::Halt;
 use crate::opening::try_before_closes;
 use crate::trying::close_all;
 use cave_base::Cell;
-use instance_regions::{Cover, Region};
 use event_core::Core;
+use instance_regions::{Cover, Region};
 use pack_bound::scattered;
 use proof_tree::{Name, Piece, Proof};
 use schedule_law::Work;
-use search_core::{AloneDesk, Halt, Strategy};
+use search_traits::{AloneDesk, Closer};
 use std::alloc::{AllocError, Global};
 use std::sync::Arc;
 
@@ -33,9 +35,9 @@ pub struct Gathered {
     pub turns: u64,
 }
 
-/// Plays the works on an event core, passes over what isn't enabled, closes each piece that then has no tree, with so
-/// many turns or any number of them, and assembles. More works than 32 bits count are refused as memory is.
-pub fn gather<S: Strategy>(
+/// Plays the works on an event core, passes over what isn't enabled, closes each piece that then has no tree, within
+/// the turns if these are limited, and assembles. More works than 32 bits count are refused as memory is.
+pub fn gather<C: Closer>(
     alloc: Global,
     region: &Arc<Region>,
     first: Cover,
@@ -45,12 +47,13 @@ pub fn gather<S: Strategy>(
 ) -> Result<Gathered, PoolFault>
     requires of_it { first.region ≡ arc_value region.now }
     requires root { Contains (arc_value region.now).cells root }
-    ensures gathered { IfOk result (λ g. IsGathered (arc_value region.now) first.places root works.items (record {
-      cover = g.cover;
-      tree = tree_of g.proof;
-      closed_by = g.closed_by.items;
-      gleaned = g.gleaned.items;
-    })) }
+    ensures gathered { IfOk result (λ g.
+        IsGathered (arc_value region.now) first.places root works.items (record {
+          cover = g.cover;
+          tree = tree_of g.proof;
+          closed_by = g.closed_by.items;
+          gleaned = g.gleaned.items;
+        })) }
     ensures best { IfOk result (λ g. IsBest (arc_value region.now) g.cover (tree_of g.proof)) }
     ensures granted { IfOk result (λ g. IsWithin turns g.turns) }
     ensures worked { IfOk result (λ g. EachTook turns (length g.gleaned.items) 0 g.turns) }
@@ -63,7 +66,7 @@ pub fn gather<S: Strategy>(
     try_before_closes(alloc, &mut core, root, &works)?;
     let closed_by = close_all(alloc, &mut core, works)?;
     let mut desk = AloneDesk::new(core.best().try_clone()?, turns);
-    match glean::<S>(alloc, &mut core, caller, &mut desk) {
+    match glean::<C>(alloc, &mut core, caller, &mut desk) {
         Ok(gleaned) => match core.assemble() {
             Ok((cover, proof)) => Ok(Gathered {
                 cover,

@@ -1,4 +1,5 @@
-//! Playing what comes before all closing. An event that isn't enabled is passed over.
+//! What workers did before any of them closed a piece, played on the event core: `tries_before_closes` of
+//! specs/Playing.antt. An event that isn't enabled is passed over.
 ghost use Rattle.std.specs.Prelude.{◌<◌, ◌^◌, length, IfOk};
 ghost use Rattle.event_core.specs.Kept.{state_of};
 ghost use Rattle.event_core.specs.Plays.{Plays};
@@ -6,8 +7,8 @@ ghost use Rattle.gathering.specs.Playing.{tries, tries_as_long, tries_before_clo
 ghost use Rattle.schedule_law.specs.Listing.{looks, offer_of, offers};
 
 use cave_base::Cell;
-use instance_regions::Cover;
 use event_core::{Core, Event};
+use instance_regions::Cover;
 use proof_tree::{Name, Opened};
 use schedule_law::Work;
 use std::alloc::{AllocError, Global};
@@ -20,7 +21,8 @@ pub(crate) fn try_before_closes(
     works: &[Work],
 ) -> Result<(), AllocError>
     requires few { length works.now < 2 ^ 32 }
-    ensures { IfOk result (λ _. Plays (state_of core.old) (tries_before_closes root works.now) (state_of core.new)) }
+    ensures { IfOk result (λ _.
+        Plays (state_of core.old) (tries_before_closes root works.now) (state_of core.new)) }
 {
     core.step(Event::Open(Name::root(alloc), root))?;
     open_all(core, 1, works)?;
@@ -30,10 +32,11 @@ pub(crate) fn try_before_closes(
     Ok(())
 }
 
-/// Each worker opens its pieces whose names are so long.
+/// Each worker opens its pieces whose names have this length.
 fn open_all(core: &mut Core, size: usize, works: &[Work]) -> Result<(), AllocError>
     requires few { length works.now < 2 ^ 32 }
-    ensures { IfOk result (λ _. Plays (state_of core.old) (tries size 0 works.now) (state_of core.new)) }
+    ensures { IfOk result (λ _.
+        Plays (state_of core.old) (tries size 0 works.now) (state_of core.new)) }
 {
     let mut worker = 0u32;
     for work in works {
@@ -43,9 +46,10 @@ fn open_all(core: &mut Core, size: usize, works: &[Work]) -> Result<(), AllocErr
     Ok(())
 }
 
-/// A worker opens those of the pieces whose names are so long.
+/// A worker opens those of the pieces whose names have this length.
 fn open_each(core: &mut Core, size: usize, worker: u32, splits: &[Opened]) -> Result<(), AllocError>
-    ensures { IfOk result (λ _. Plays (state_of core.old) (tries_as_long size worker splits.now) (state_of core.new)) }
+    ensures { IfOk result (λ _.
+        Plays (state_of core.old) (tries_as_long size worker splits.now) (state_of core.new)) }
 {
     for split in splits {
         open_one(core, size, worker, split)?;
@@ -53,9 +57,10 @@ fn open_each(core: &mut Core, size: usize, worker: u32, splits: &[Opened]) -> Re
     Ok(())
 }
 
-/// A worker opens the piece if its name is so long.
+/// A worker opens the piece if its name has this length.
 fn open_one(core: &mut Core, size: usize, worker: u32, split: &Opened) -> Result<(), AllocError>
-    ensures { IfOk result (λ _. Plays (state_of core.old) (tries_one size worker split.now) (state_of core.new)) }
+    ensures { IfOk result (λ _.
+        Plays (state_of core.old) (tries_one size worker split.now) (state_of core.new)) }
 {
     if split.piece().name().as_slice().len() != size {
         return Ok(());
@@ -66,7 +71,8 @@ fn open_one(core: &mut Core, size: usize, worker: u32, split: &Opened) -> Result
 
 /// A worker takes a piece, opens it, and leaves it where it could not be opened.
 fn try_open(core: &mut Core, worker: u32, split: &Opened) -> Result<(), AllocError>
-    ensures { IfOk result (λ _. Plays (state_of core.old) (tries_open worker split.now) (state_of core.new)) }
+    ensures { IfOk result (λ _.
+        Plays (state_of core.old) (tries_open worker split.now) (state_of core.new)) }
 {
     let name = split.piece().name();
     core.step(Event::Take(worker, name.try_clone()?))?;
@@ -78,7 +84,8 @@ fn try_open(core: &mut Core, worker: u32, split: &Opened) -> Result<(), AllocErr
 /// Each worker offers its cover.
 fn offer_all(core: &mut Core, works: &[Work]) -> Result<(), AllocError>
     requires few { length works.now < 2 ^ 32 }
-    ensures { IfOk result (λ _. Plays (state_of core.old) (offers 0 works.now) (state_of core.new)) }
+    ensures { IfOk result (λ _.
+        Plays (state_of core.old) (offers 0 works.now) (state_of core.new)) }
 {
     let mut worker = 0u32;
     for work in works {
@@ -90,7 +97,8 @@ fn offer_all(core: &mut Core, works: &[Work]) -> Result<(), AllocError>
 
 /// A worker offers its cover, if it has one.
 fn offer_one(core: &mut Core, worker: u32, cover: &Option<Cover>) -> Result<(), AllocError>
-    ensures { IfOk result (λ _. Plays (state_of core.old) (offer_of worker cover.now) (state_of core.new)) }
+    ensures { IfOk result (λ _.
+        Plays (state_of core.old) (offer_of worker cover.now) (state_of core.new)) }
 {
     match cover {
         None => Ok(()),

@@ -1,4 +1,5 @@
-//! Playing what workers closed. A piece that isn't as the worker left it is passed over.
+//! What workers closed, played on the event core: `TriesAllCloses` of specs/Playing.antt. A piece that isn't as its
+//! worker left it is passed over.
 ghost use Rattle.std.specs.Prelude.{◌<◌, ◌^◌, length, IfOk};
 ghost use Rattle.event_core.specs.Kept.{state_of};
 ghost use Rattle.gathering.specs.Playing.{TriesAllCloses, TriesClose, TriesCloses};
@@ -30,7 +31,8 @@ pub(crate) fn close_all(
 
 /// A worker closes pieces: how many were closed.
 fn close_each(core: &mut Core, worker: u32, pieces: Vec<Closed>) -> Result<u64, AllocError>
-    ensures { IfOk result (λ count. TriesCloses (state_of core.old) worker pieces.items count (state_of core.new)) }
+    ensures { IfOk result (λ count.
+        TriesCloses (state_of core.old) worker pieces.items count (state_of core.new)) }
 {
     let mut count = 0u64;
     for closed in pieces {
@@ -43,7 +45,8 @@ fn close_each(core: &mut Core, worker: u32, pieces: Vec<Closed>) -> Result<u64, 
 
 /// A worker takes a piece and closes it, and leaves it where it could not be closed: whether it was closed.
 fn close_one(core: &mut Core, worker: u32, closed: Closed) -> Result<bool, AllocError>
-    ensures { IfOk result (λ done. TriesClose (state_of core.old) worker closed done (state_of core.new)) }
+    ensures { IfOk result (λ done.
+        TriesClose (state_of core.old) worker closed done (state_of core.new)) }
 {
     let name = closed.piece().name().try_clone()?;
     let again = name.try_clone()?;

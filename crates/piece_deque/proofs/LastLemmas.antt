@@ -9,7 +9,7 @@ use Rattle.piece_deque.specs.declared.answer.Take.TheVariants.{Got, Empty, Again
 use Rattle.piece_deque.specs.Rule.{passes_total, one_if_unspent, unspent, WasEmpty, AllTaken, IsAlone, Answers}
 use Rattle.piece_deque.proofs.TotalLemmas.{total_two, total_only, pushed_weight, taken_weight, false_of, true_of}
 use Rattle.piece_deque.proofs.StepLemmas.{counts}
-use Rattle.piece_deque.proofs.ShareLemmas.{not_first}
+use Rattle.piece_deque.proofs.LendLemmas.{not_first}
 
 -- a pass that is alone at an empty deque knows that all pushed was taken
 pub all_taken : (v : Dealt) → IsAlone v → WasEmpty v → AllTaken v

@@ -1,4 +1,4 @@
 pub mod TotalLemmas
 pub mod StepLemmas
-pub mod ShareLemmas
+pub mod LendLemmas
 pub mod LastLemmas

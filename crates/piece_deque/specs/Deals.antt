@@ -8,15 +8,15 @@ use Rattle.piece_deque.specs.declared.dealt.Dealt.{Dealt}
 abbrev pub owner_pass : Dealt
 owner_pass = record { first = true; spent = false; out = 0; pushed = []; taken = [] }
 
--- another thread's, when it is handed out
+-- another thread's, when it is lent
 abbrev pub thief_pass : Dealt
 thief_pass = record { first = false; spent = false; out = 0; pushed = []; taken = [] }
 
--- what is left of a pass that was handed in
+-- what is left of a pass that was taken back
 abbrev pub nobody : Dealt
 nobody = record { first = false; spent = true; out = 0; pushed = []; taken = [] }
 
--- after a pass was handed out
+-- after a pass was lent
 abbrev pub one_more_out : Dealt → Dealt
 one_more_out pass = record {
   first = pass.first;
@@ -46,7 +46,7 @@ took_too pass pieces = record {
   taken = pass.taken ++ pieces;
 }
 
--- after another pass was handed in
+-- after another pass was taken back
 abbrev pub together_with : Dealt → Dealt → Dealt
 together_with pass other = record {
   first = pass.first;

@@ -50,7 +50,7 @@ pub record WasEmpty (pass : Dealt) : Type 0 where
   pub rule : Balances [] passes
   pub there : get_elem? passes number ≡ some pass
 
--- each piece that was pushed was taken by this pass or one handed in to it
+-- each piece that was pushed was taken by this pass or one that it took back
 abbrev pub AllTaken : Dealt → Type 0
 AllTaken pass = (weight : Subproblem → ℕ) → weigh weight pass.pushed ≡ weigh weight pass.taken
 

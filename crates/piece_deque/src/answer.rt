@@ -1,3 +1,5 @@
+//! The answer of a take, by the owner or by a thief. `Answers` of specs/Rule.antt says what each case leaves of a
+//! pass.
 use proof_tree::Piece;
 
 /// What a take answers.

@@ -1,3 +1,5 @@
+//! What a pass has done: the view of a pass in contracts. specs/Deals.antt says how it begins and what each step
+//! changes.
 use proof_tree::Piece;
 use std::collections::LinkedList;
 
@@ -5,7 +7,7 @@ use std::collections::LinkedList;
 pub struct Dealt {
     /// Is it the owner's pass?
     pub first: bool,
-    /// Was it joined into the owner's?
+    /// Was it taken back?
     pub spent: bool,
     /// The number of other passes. The owner's counts them.
     pub out: u64,

@@ -1,4 +1,5 @@
-//! Emptying a deque once its owner is alone.
+//! Emptying a deque once its owner has taken back all passes: then empty means `AllTaken` of
+//! specs/Rule.antt.
 ghost use Rattle.std.specs.Prelude.{◌≡◌, ◌≢◌};
 ghost use Rattle.crossbeam_deque.specs.Handles.{SameWorker, worker_flavor, worker_view};
 ghost use Rattle.piece_deque.specs.Rule.{AllTaken, Answers, IsAlone};

@@ -1,4 +1,5 @@
-//! The rule of a deque of pieces, and what each kind of step changes.
+//! The rule of a deque of pieces, `Balances` of specs/Rule.antt, and what each kind of step changes in a pass, as
+//! specs/Deals.antt says it.
 use crate::dealt::Dealt;
 use crossbeam_deque::protocol::{Join, Outcome, Protocol, Split};
 use proof_tree::Piece;
@@ -40,10 +41,10 @@ impl Outcome<Piece, Dealt> for Takes {
     ghost empty = { WasEmpty };
 }
 
-/// A pass handed out, or in again.
-pub(crate) struct Hands;
+/// A pass lent, or taken back.
+pub(crate) struct Lends;
 
-impl Split<Dealt> for Hands {
+impl Split<Dealt> for Lends {
     ghost use Rattle.piece_deque.specs.Deals.{one_more_out, thief_pass};
 
     ghost left = { one_more_out };
@@ -51,7 +52,7 @@ impl Split<Dealt> for Hands {
     ghost right = { λ _. thief_pass };
 }
 
-impl Join<Dealt> for Hands {
+impl Join<Dealt> for Lends {
     ghost use Rattle.piece_deque.specs.Deals.{together_with, nobody};
 
     ghost both = { together_with };

@@ -2,7 +2,7 @@
 ghost use Rattle.crossbeam_deque.specs.Handles.{SameWorker};
 ghost use Rattle.search_cases.specs.Turns.{IsOwners, Reaches};
 
-use piece_deque::{Hand, Owner, Take, Thief, hand_in, hand_out, open, push, steal, take};
+use piece_deque::{Owner, Pass, Take, Thief, lend_pass, open, push, steal, take, take_back};
 use proof_tree::Piece;
 use std::alloc::{AllocError, Global};
 
@@ -35,11 +35,11 @@ fn taken(owner: &mut Owner) -> Option<u32>
 }
 
 /// What the thief takes.
-fn stolen(thief: &Thief, hand: &mut Hand) -> Option<u32>
-    requires { Reaches thief.now hand.old }
-    ensures { Reaches thief.now hand.new }
+fn stolen(thief: &Thief, pass: &mut Pass) -> Option<u32>
+    requires { Reaches thief.now pass.old }
+    ensures { Reaches thief.now pass.new }
 {
-    let answer = steal(thief, hand);
+    let answer = steal(thief, pass);
     number_of(answer)
 }
 
@@ -60,16 +60,16 @@ fn have_pushed(owner: &mut Owner, pieces: Vec<Piece>) -> bool
 /// What the owner and the thief take in turn, five times, once these pieces are pushed; nothing where they weren't.
 pub fn in_turn(alloc: Global, pieces: Vec<Piece>) -> Result<Vec<Option<u32>>, AllocError> {
     let mut owner = open(alloc, pieces.len())?;
-    let mut hand = hand_out(&mut owner);
+    let mut pass = lend_pass(&mut owner);
     let thief = owner.stealer()?;
     let mut answers = Vec::with_capacity(alloc, 5)?;
     if have_pushed(&mut owner, pieces) {
         answers.push(taken(&mut owner))?;
-        answers.push(stolen(&thief, &mut hand))?;
+        answers.push(stolen(&thief, &mut pass))?;
         answers.push(taken(&mut owner))?;
-        answers.push(stolen(&thief, &mut hand))?;
+        answers.push(stolen(&thief, &mut pass))?;
         answers.push(taken(&mut owner))?;
     }
-    hand_in(&mut owner, hand);
+    take_back(&mut owner, pass);
     Ok(answers)
 }

@@ -5,7 +5,7 @@ ghost use Rattle.worker_results.specs.Results.{IsNewSeatAt};
 
 use beacon::{Beacon, Seat};
 use instance_regions::Region;
-use search_core::Desk;
+use search_traits::Desk;
 use std::alloc::{AllocError, Global};
 use std::marker::Brand;
 use std::sync::Arc;

@@ -1,4 +1,4 @@
--- The ends of deques, after a pass at each was handed out.
+-- The ends of deques, after a pass at each was lent.
 use Rattle.std.proofs.Common.{◌≡◌, ℕ, zero, suc, ◌+◌, List, [], ◌∷◌, ◌++◌, length, All, Option, refl, sym, ap, ◌∙◌}
 use Rattle.std.proofs.Common.{arith}
 use Rattle.std.specs.Prelude.{map}
@@ -11,29 +11,29 @@ use Rattle.search_pool.specs.Deques.{AreStocked, HasPushed}
 use Rattle.proof_tree.specs.Piece.{Subproblem}
 use Rattle.piece_deque.specs.Deals.{one_more_out}
 use Rattle.worker_results.specs.Passes.{Owned, deques, all_taken}
-use Rattle.search_pool.specs.Slots.{IsReady, Owner, handed_out, numbers_of, pass_at}
+use Rattle.search_pool.specs.Slots.{IsReady, Owner, lent, numbers_of, lent_pass}
 
 -- the workers stay who they are
-pub numbers_out : (owned : List Owned) → numbers_of (map handed_out owned) ≡ numbers_of owned
+pub numbers_out : (owned : List Owned) → numbers_of (map lent owned) ≡ numbers_of owned
 numbers_out [] = refl
 numbers_out (own ∷ owned) = ap (own.worker ∷◌) (numbers_out owned)
 
 -- the passes are at their deques
-pub deques_out : (owned : List Owned) → deques (map pass_at owned) ≡ numbers_of owned
+pub deques_out : (owned : List Owned) → deques (map lent_pass owned) ≡ numbers_of owned
 deques_out [] = refl
 deques_out (own ∷ owned) = ap (own.worker ∷◌) (deques_out owned)
 
 -- and took nothing
-pub none_taken : (owned : List Owned) → all_taken (map pass_at owned) ≡ []
+pub none_taken : (owned : List Owned) → all_taken (map lent_pass owned) ≡ []
 none_taken [] = refl
 none_taken (own ∷ owned) = none_taken owned
 
 -- one pass more is out at each deque
 pub one_more : (start : ℕ → List Subproblem) (out : ℕ) (owned : List Owned) → All (IsReady start out) owned
-    → All (IsReady start (out + 1)) (map handed_out owned)
+    → All (IsReady start (out + 1)) (map lent owned)
 one_more start out [] all = λ k d lt. absurd (omega (arith, lt))
 one_more start out (own ∷ owned) all =
-    All-cons (IsReady start (out + 1)) (handed_out own) (map handed_out owned)
+    All-cons (IsReady start (out + 1)) (lent own) (map lent owned)
     (ap one_more_out (All-head (IsReady start out) own owned all))
     (one_more start out owned (All-tail (IsReady start out) own owned all))
 

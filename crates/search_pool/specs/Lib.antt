@@ -3,9 +3,8 @@ pub mod Reports
 pub mod Runs
 pub mod Tallies
 -- private
-pub mod Faults
-pub mod Rest
 pub mod Deques
+pub mod Rooted
 pub mod Rows
 pub mod Seats
 pub mod Slots

@@ -6,7 +6,7 @@ use Rattle.proof_tree.specs.Shape.{tree_of}
 use Rattle.proof_tree.specs.Opened.{Split}
 use Rattle.proof_tree.specs.Piece.{Subproblem}
 use Rattle.search_traits.specs.Planned.{IsLeaf, IsStopped}
-use Rattle.search_traits.specs.Turns.{IsWithin}
+use Rattle.search_traits.specs.Turns.{IsShareSpent}
 use Rattle.schedule_law.specs.Joined.{all_back, all_kids, all_opened}
 use Rattle.schedule_law.specs.Worked.{IsCoverFor, Worked}
 use Rattle.gathering.specs.Gathered.{IsGathered}
@@ -71,9 +71,10 @@ pub record IsMerged (region : Instance) (workers : ℕ) (report : Report) : Type
 abbrev pub IsReport : Instance → ℕ → Report → Type 0
 IsReport region workers report = IsOneLeaf workers report ⊎ IsMerged region workers report
 
--- turns ran out, of which at most those that were given were granted
-abbrev pub StopsPool : Instance → Option ℕ → PoolFault → Type 0
-StopsPool region turns (Stopped cover floor granted) =
-    IsStopped region turns cover floor × IsWithin turns granted
-StopsPool region turns NoThread = Unit {0}
-StopsPool region turns OutOfMemory = Unit {0}
+-- turns ran out: of those that were given the share of one of so many workers was granted at least, and no more than
+-- all
+abbrev pub StopsPool : Instance → Option ℕ → ℕ → PoolFault → Type 0
+StopsPool region turns workers (Stopped cover floor granted) =
+    IsStopped region turns cover floor × IsShareSpent workers turns granted
+StopsPool region turns workers NoThread = Unit {0}
+StopsPool region turns workers OutOfMemory = Unit {0}

@@ -1,29 +1,30 @@
--- The results of workers in a row, and the turns that they share. This is this project's own.
-use Rattle.std.specs.Prelude.{◌≡◌, ◌≤◌, ℕ, ◌+◌, ◌-◌, ◌*◌, ◌^◌, Bool, false, ◌||◌, min, List, [], ◌∷◌, length, All}
-use Rattle.std.specs.Prelude.{Option, Some, None}
+-- The results of workers in a row, and the budgets of turns that they have. This is this project's own.
+use Rattle.std.specs.Prelude.{◌≡◌, ◌≤◌, ◌<◌, ℕ, ◌+◌, ◌-◌, ◌*◌, ◌^◌, Bool, false, ◌||◌, min, List, [], ◌∷◌, length, All}
+use Rattle.std.specs.Prelude.{Option, Some, None, IfSome}
 use Rattle.worker_results.specs.Results.{Handed}
 use Rattle.worker_results.specs.Spendings.{IsSpending}
 
--- they are of the workers from this number on; the first one had these turns, each other one those
+-- they are of the workers from this number on; the first one had its own budget, each other one the other
 abbrev pub AreFrom : ℕ → Option ℕ → Option ℕ → List Handed → Type 0
 AreFrom first own each [] = Unit {0}
-AreFrom first own each (handed ∷ rest) = (handed.share.worker ≡ first) × (handed.turns.limit ≡ own)
+AreFrom first own each (handed ∷ rest) = (handed.holdings.worker ≡ first) × (handed.turns.limit ≡ own)
     × AreFrom (first + 1) each each rest
 
--- the turns of the first of so many workers and of each other one add up to all turns, as even as can be but for what
--- is left over, which the first one has
-abbrev pub AreShares : Option ℕ → ℕ → Option ℕ → Option ℕ → Type 0
-AreShares None workers own each = (own ≡ None) × (each ≡ None)
-AreShares (Some limit) workers None each = ⊥
-AreShares (Some limit) workers (Some own) None = ⊥
-AreShares (Some limit) workers (Some own) (Some each) = (own + (workers - 1) * each ≡ limit) × (each ≤ own)
+-- the budgets of the first of so many workers and of each other one add up to all turns; they are even but for what is
+-- left over, which the first one has
+abbrev pub AreBudgets : Option ℕ → ℕ → Option ℕ → Option ℕ → Type 0
+AreBudgets None workers own each = (own ≡ None) × (each ≡ None)
+AreBudgets (Some limit) workers None each = ⊥
+AreBudgets (Some limit) workers (Some own) None = ⊥
+AreBudgets (Some limit) workers (Some own) (Some each) = (own + (workers - 1) * each ≡ limit) × (each ≤ own)
     × (own ≤ each + (workers - 1))
 
--- results of workers in order, whose limits are shares of these turns
-pub record AreOfShares (turns : Option ℕ) (results : List Handed) : Type 0 where
+-- results of workers in order, whose limits are budgets of these turns; a limit is one that 64 bits count
+pub record AreOfBudgets (turns : Option ℕ) (results : List Handed) : Type 0 where
   pub own : Option ℕ
   pub each : Option ℕ
-  pub shares : AreShares turns (length results) own each
+  pub fits : IfSome turns (λ limit. limit < 2 ^ 64)
+  pub budgets : AreBudgets turns (length results) own each
   pub row : AreFrom 0 own each results
 
 -- each granted no more than its limit, and all of it where more were asked for

@@ -8,7 +8,7 @@ use Rattle.piece_deque.specs.declared.rule.EachOnce.{EachOnce}
 use Rattle.piece_deque.specs.declared.dealt.Dealt.{Dealt}
 use Rattle.piece_deque.specs.Deals.{thief_pass, one_more_out}
 use Rattle.worker_results.specs.Naming.{DequeId}
-use Rattle.worker_results.specs.Passes.{Owned, Reached}
+use Rattle.worker_results.specs.Passes.{KnownPass, Owned}
 
 -- the owner's end of a deque of pieces, under the rule that those pushed are those in it and those taken
 abbrev pub Owner : Type 0
@@ -29,14 +29,14 @@ AreOwners deque start first (owner ∷ owners) =
 abbrev pub numbers_of : List Owned → List ℕ
 numbers_of owned = map (λ own. own.worker) owned
 
--- so many passes at its deque are out, and else all is as at the start
+-- this count of passes at its deque is out, and else all is as at the start
 abbrev pub IsReady : (ℕ → List Subproblem) → ℕ → Owned → Type 0
 IsReady start out own = own.knows ≡ ready (start own.worker) out
 
--- a pass at its deque was handed out
-abbrev pub handed_out : Owned → Owned
-handed_out own = record { worker = own.worker; knows = one_more_out own.knows }
+-- after a pass at its deque was lent
+abbrev pub lent : Owned → Owned
+lent own = record { worker = own.worker; knows = one_more_out own.knows }
 
--- the pass that was handed out
-abbrev pub pass_at : Owned → Reached
-pass_at own = record { deque = own.worker; knows = thief_pass }
+-- the pass that was lent
+abbrev pub lent_pass : Owned → KnownPass
+lent_pass own = record { deque = own.worker; knows = thief_pass }

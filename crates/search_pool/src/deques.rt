@@ -1,4 +1,5 @@
-//! The workers' deques, and what lies on them at the start.
+//! The workers' deques before any worker starts: `AreStocked` and `AreThievesOf` of specs/Deques.antt. The first one
+//! has the pieces on it.
 ghost use Rattle.std.specs.Prelude.{◌≡◌, ◌≤◌, ◌<◌, ◌+◌, [], ◌∷◌, IfOk, length, true};
 ghost use Rattle.crossbeam_deque.specs.Handles.{SameWorker, worker_capacity, worker_index, worker_view};
 ghost use Rattle.piece_deque.specs.Deals.{pushed_too};
@@ -8,7 +9,7 @@ use piece_deque::{Owner, Thief, open, push};
 use proof_tree::Piece;
 use std::alloc::{AllocError, Global};
 
-/// A deque with these pieces on it. It has room for so many, or for these where they are more.
+/// A deque with these pieces on it. It has this room, or room for the pieces where they are more.
 fn stocked(alloc: Global, room: usize, pieces: Vec<Piece>) -> Result<Owner, AllocError>
     ensures { IfOk result (HasPushed pieces.items) }
 {
@@ -33,7 +34,7 @@ fn push_in_room(owner: &mut Owner, piece: Piece)
     }
 }
 
-/// A deque for each of so many workers, each with this room: the first has these pieces on it, the others are empty.
+/// A deque for each worker, with this room: the first has these pieces on it, the others are empty.
 pub(crate) fn stocked_all(
     alloc: Global,
     workers: u32,

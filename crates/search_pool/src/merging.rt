@@ -1,62 +1,61 @@
-//! What the results of workers merge to, with the caller's own work.
+//! What the results of workers merge to, with what the caller's thread closes: `IsMerged` of specs/Reports.antt. Its
+//! numbers add up as `AddsUp` says.
 ghost use Rattle.std.specs.Arc.{arc_value};
 ghost use Rattle.std.specs.Prelude.{◌≡◌, ◌≤◌, ◌<◌, ◌+◌, ◌^◌, IfErr, IfOk, length};
 ghost use Rattle.proof_tree.specs.Shape.{tree_of};
-ghost use Rattle.schedule_law.specs.Worked.{IsCoverFor};
 ghost use Rattle.search_pool.specs.Reports.{AddsUp, IsMerged, StopsPool};
+ghost use Rattle.search_pool.specs.Rooted.{IsRooted};
 ghost use Rattle.search_pool.specs.Rows.{counted};
 ghost use Rattle.search_pool.specs.Runs.{IsRun};
-ghost use Rattle.search_traits.specs.Planned.{IsBest, IsFloor};
+ghost use Rattle.search_pool.specs.Turns.{AreGranted};
+ghost use Rattle.search_traits.specs.Planned.{IsBest};
 ghost use Rattle.search_traits.specs.Turns.{IsWithin};
-ghost use Rattle.worker_results.specs.Joining.{IsRootSplit};
 
 use crate::piece_counts::{PieceCounts, count_pieces};
 use crate::pool::Ran;
 use crate::report::Report;
+use crate::rooted::Rooted;
 use crate::turns::left_of;
-use instance_regions::{Cover, Region};
 use gathering::{Gathered, PoolFault, gather};
+use instance_regions::Region;
 use plan_options::Workers;
-use proof_tree::Opened;
-use search_core::Strategy;
+use search_traits::Closer;
 use std::alloc::Global;
 use std::sync::Arc;
 use worker_results::Joined;
 
-/// Gathers what workers did, and closes what they left with the turns that are left. Where a share was used up, none
+/// Gathers what workers did, and closes what they left with the turns that are left. Where a budget was used up, none
 /// are.
-pub(crate) fn merged<S: Strategy>(
+pub(crate) fn merged<C: Closer>(
     alloc: Global,
     region: &Arc<Region>,
-    first: Cover,
-    floor: u64,
-    root: &Opened,
+    rooted: Rooted,
     workers: Workers,
     ran: Ran,
     turns: Option<u64>,
 ) -> Result<Report, PoolFault>
-    requires first { IsCoverFor (arc_value region.now) first }
-    requires floor { IsFloor (arc_value region.now) floor }
-    requires root { IsRootSplit (arc_value region.now) root.now }
-    requires run { IsRun (arc_value region.now) first.places root.now workers.number
+    requires rooted { IsRooted (arc_value region.now) rooted }
+    requires run { IsRun (arc_value region.now) rooted.cover.places rooted.root workers.number
         ran.joined.works.items ran.joined.left.items }
-    requires turns { IsWithin turns ran.turns }
-    ensures best { IfOk result (λ report. IsBest (arc_value region.now) report.cover (tree_of report.proof)) }
+    requires turns { AreGranted workers.number turns ran.turns ran.is_spent }
+    ensures best { IfOk result (λ report.
+        IsBest (arc_value region.now) report.cover (tree_of report.proof)) }
     ensures counts { IfOk result AddsUp }
     ensures report { IfOk result (IsMerged (arc_value region.now) workers.number) }
     ensures granted { IfOk result (λ report. IsWithin turns report.turns) }
-    ensures stopped { IfErr result (StopsPool (arc_value region.now) turns) }
+    ensures stopped { IfErr result (StopsPool (arc_value region.now) turns workers.number) }
 {
+    let Rooted { cover, floor, root } = rooted;
     let Ran {
         joined,
         turns: granted,
-        spent,
+        is_spent,
     } = ran;
     let Joined { works, left } = joined;
     let counts = count_pieces(&works);
     let left = left.len() as u128;
-    let rest = left_of(turns, granted, spent);
-    match gather::<S>(alloc, region, first, root.cell(), works, rest) {
+    let rest = left_of(turns, granted, is_spent);
+    match gather::<C>(alloc, region, cover, root.cell(), works, rest) {
         Ok(gathered) => Ok(report(gathered, counts, left, granted)),
         Err(
             PoolFault::Stopped {
@@ -73,7 +72,7 @@ pub(crate) fn merged<S: Strategy>(
     }
 }
 
-/// The turns of both, or the greatest number.
+/// Both numbers of turns added up, or the greatest number.
 fn sum(granted: u64, more: u64) -> u64
     ensures { result ≡ counted (granted + more) }
 {
@@ -88,7 +87,8 @@ fn report(gathered: Gathered, counts: PieceCounts, left: u128, granted: u64) -> 
     ensures same { (result.cover ≡ gathered.cover) × (tree_of result.proof ≡ tree_of gathered.proof)
         × (result.closed_by.items ≡ gathered.closed_by.items) }
     ensures pushed { result.pushed ≡ counts.closed + counts.opened + counts.held + left }
-    ensures numbers { (result.opened ≡ counts.opened) × (result.handed_back ≡ counts.held + counts.refused)
+    ensures numbers { (result.opened ≡ counts.opened)
+        × (result.handed_back ≡ counts.held + counts.refused)
         × (result.left ≡ left) }
     ensures gleaned { result.gleaned + counts.refused ≡ length gathered.gleaned.items }
     ensures turns { result.turns ≡ counted (granted + gathered.turns) }

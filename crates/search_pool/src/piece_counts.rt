@@ -1,4 +1,5 @@
-//! How many pieces workers handed over, by what became of them.
+//! How many pieces workers handed over, by what became of them: `AreTallied` of specs/Tallies.antt. A report's numbers
+//! are made of these.
 ghost use Rattle.std.specs.Prelude.{◌≤◌, ◌*◌, ◌^◌, length};
 ghost use Rattle.search_pool.specs.Tallies.{AreTallied};
 
@@ -17,7 +18,8 @@ pub(crate) struct PieceCounts {
 pub(crate) fn count_pieces(works: &[Work]) -> PieceCounts
     requires few { length works.now ≤ 64 }
     ensures counted { AreTallied works.now result }
-    ensures most { (result.closed ≤ length works.now * 2 ^ 64) × (result.opened ≤ length works.now * 2 ^ 64)
+    ensures most { (result.closed ≤ length works.now * 2 ^ 64)
+        × (result.opened ≤ length works.now * 2 ^ 64)
         × (result.held ≤ length works.now * 2 ^ 64) × (result.refused ≤ length works.now * 2 ^ 64) }
 {
     let Some((work, rest)) = works.split_first() else {

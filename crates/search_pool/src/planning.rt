@@ -1,30 +1,29 @@
-//! Planning a region with many workers.
+//! A region is planned by many workers: `IsReport` of specs/Reports.antt, or `StopsPool` where turns don't do. Threads
+//! start only where one leaf doesn't close the root.
 ghost use Rattle.std.specs.Arc.{arc_value};
-ghost use Rattle.std.specs.Prelude.{◌≡◌, ◌≤◌, Contains, IfErr, IfOk, length, replicate};
+ghost use Rattle.std.specs.Prelude.{◌≡◌, ◌≤◌, IfErr, IfOk, length, replicate};
 ghost use Rattle.proof_tree.specs.Shape.{tree_of};
 ghost use Rattle.search_pool.specs.Reports.{AddsUp, IsOneLeaf, IsReport, StopsPool};
 ghost use Rattle.search_traits.specs.Planned.{IsBest, IsLeaf, ProvesAt};
 ghost use Rattle.search_traits.specs.Turns.{IsWithin};
-ghost use Rattle.worker_results.specs.Joining.{IsRootSplit};
 
 use crate::merging::merged;
 use crate::pool::Run;
 use crate::report::Report;
+use crate::rooted::rooted_at;
 use crate::starting::run_opened;
-use cave_base::Cell;
-use instance_regions::Region;
 use gathering::PoolFault;
+use instance_regions::Region;
 use plan_options::Workers;
-use proof_tree::{Opened, Piece};
-use search_core::{Beginning, Observer, Strategy, begin};
+use search_traits::{Beginning, Closer, Observer};
 use std::alloc::{AllocError, Global};
 use std::sync::{Arc, Wait};
 use std::thread::Threads;
 
-/// The fewest places that light every cell of the region, and a tree that proves it, by so many workers. Where one leaf
-/// closes the root no worker starts. One turn is one node worked on, or one piece opened; each worker has the same
-/// share of the turns, and where one share is used up the search stops.
-pub fn plan_with<S: Strategy + Send + Sync, R: Threads + Wait + Sync, O: Observer>(
+/// The fewest places that light every cell of the region, and a tree that proves it, by many workers. Where one leaf
+/// closes the root no worker starts. One turn is one node worked on, or one piece opened; the workers have even budgets
+/// of the turns, and where one budget is used up the search stops.
+pub fn plan_with<C: Closer + Send + Sync, R: Threads + Wait + Sync, O: Observer>(
     rt: &R,
     alloc: Global,
     region: &Arc<Region>,
@@ -32,38 +31,30 @@ pub fn plan_with<S: Strategy + Send + Sync, R: Threads + Wait + Sync, O: Observe
     observer: &O,
     turns: Option<u64>,
 ) -> Result<Report, PoolFault>
-    ensures best { IfOk result (λ report. IsBest (arc_value region.now) report.cover (tree_of report.proof)) }
+    ensures best { IfOk result (λ report.
+        IsBest (arc_value region.now) report.cover (tree_of report.proof)) }
     ensures counts { IfOk result AddsUp }
     ensures report { IfOk result (IsReport (arc_value region.now) workers.number) }
     ensures granted { IfOk result (λ report. IsWithin turns report.turns) }
-    ensures stopped { IfErr result (StopsPool (arc_value region.now) turns) }
+    ensures stopped { IfErr result (StopsPool (arc_value region.now) turns workers.number) }
 {
-    let begun = begin::<S>(alloc, region)?;
+    let begun = C::begin(alloc, region)?;
     if begun.floor >= begun.cover.size() {
         let report = one_leaf(alloc, begun, workers)?;
         return Ok(report);
     }
-    let root = root_on(alloc, region, begun.cell)?;
-    let ran = run_opened::<S, R, O>(Run {
+    let rooted = rooted_at(alloc, region, begun)?;
+    let ran = run_opened::<C, R, O>(Run {
         rt,
         alloc,
         region,
-        best: &begun.cover,
-        root: &root,
+        best: &rooted.cover,
+        root: &rooted.root,
         workers,
         observer,
         turns,
     })?;
-    merged::<S>(
-        alloc,
-        region,
-        begun.cover,
-        begun.floor,
-        &root,
-        workers,
-        ran,
-        turns,
-    )
+    merged::<C>(alloc, region, rooted, workers, ran, turns)
 }
 
 /// The report where one leaf closes the root.
@@ -71,7 +62,8 @@ fn one_leaf(alloc: Global, begun: Beginning, workers: Workers) -> Result<Report,
     requires enough { length begun.cover.places ≤ begun.floor }
     requires leaf { ProvesAt begun.cover.region begun.floor (tree_of begun.leaf) }
     requires plain { IsLeaf (tree_of begun.leaf) }
-    ensures best { IfOk result (λ report. IsBest begun.cover.region report.cover (tree_of report.proof)) }
+    ensures best { IfOk result (λ report.
+        IsBest begun.cover.region report.cover (tree_of report.proof)) }
     ensures counts { IfOk result AddsUp }
     ensures leaf { IfOk result (IsOneLeaf workers.number) }
 {
@@ -88,7 +80,7 @@ fn one_leaf(alloc: Global, begun: Beginning, workers: Workers) -> Result<Report,
     })
 }
 
-/// So many zeros.
+/// A zero for each number below the count.
 fn zeros(alloc: Global, count: u32) -> Result<Vec<u64>, AllocError>
     ensures { IfOk result (λ zeros. zeros.items ≡ replicate count 0) }
 {
@@ -97,16 +89,4 @@ fn zeros(alloc: Global, count: u32) -> Result<Vec<u64>, AllocError>
         zeros.push(0)?;
     }
     Ok(zeros)
-}
-
-/// The root opened on this cell.
-fn root_on(alloc: Global, region: &Arc<Region>, cell: Cell) -> Result<Opened, AllocError>
-    requires { Contains (arc_value region.now).cells cell }
-    ensures { IfOk result (IsRootSplit (arc_value region.now)) }
-{
-    let piece = Piece::root(alloc, region)?;
-    match piece.places_on(alloc, cell)? {
-        Some(places) => Ok(Opened::new(piece, cell, places)),
-        None => unreachable!(),
-    }
 }

@@ -1,25 +1,26 @@
-//! A whole run of workers over deques that are stocked.
+//! A whole run of workers over deques that are stocked, up to the results joined: `IsRun` of specs/Runs.antt. How many
+//! turns they took is `AreGranted` of specs/Turns.antt.
 ghost use Rattle.std.specs.Arc.{arc_value};
 ghost use Rattle.std.specs.Prelude.{◌≡◌, ◌<◌, IfOk, length};
 ghost use Rattle.beacon.specs.Marks.{at_first};
 ghost use Rattle.proof_tree.specs.Opened.{kids_of};
 ghost use Rattle.search_pool.specs.Runs.{IsRun};
 ghost use Rattle.search_pool.specs.Slots.{AreOwners};
-ghost use Rattle.search_traits.specs.Turns.{IsWithin};
+ghost use Rattle.search_pool.specs.Turns.{AreGranted};
 ghost use Rattle.worker_results.specs.Joining.{IsRootSplit, StartWith};
 ghost use Rattle.worker_results.specs.Naming.{AreThieves};
 
 use crate::run::run_scope;
-use crate::slots::{fill, hand_out, owned, split_seats};
+use crate::slots::{fill, lend_all, owned, split_seats};
 use crate::turns::{is_any_started, spent_by};
 use crate::unrun::Unrun;
-use crate::worker::Shared;
+use crate::worker::Common;
 use beacon::{Beacon, Seat};
 use instance_regions::{Cover, Region};
 use piece_deque::{Owner, Thief};
 use plan_options::Workers;
 use proof_tree::Opened;
-use search_core::{Observer, Strategy};
+use search_traits::{Closer, Observer};
 use std::alloc::Global;
 use std::sync::{Arc, Wait};
 use std::thread::Threads;
@@ -46,7 +47,7 @@ pub(crate) struct Run<'e, R, O> {
     pub(crate) root: &'e Opened,
     pub(crate) workers: Workers,
     pub(crate) observer: &'e O,
-    /// How many nodes may be worked on, or any number of them.
+    /// How many nodes may be worked on, if they are limited.
     pub(crate) turns: Option<u64>,
 }
 
@@ -55,7 +56,7 @@ pub(crate) struct Run<'e, R, O> {
 pub(crate) struct Ran {
     pub(crate) joined: Joined,
     pub(crate) turns: u64,
-    pub(crate) spent: bool,
+    pub(crate) is_spent: bool,
 }
 
 /// How long the names of pieces are that are closed whole. Where the root has many kids for each worker none is opened
@@ -78,7 +79,7 @@ fn deepest_for(region: &Region, kids: usize, workers: u32) -> usize {
 /// Starts a worker for each deque, joins them, and closes the beacon and the deques.
 pub(crate) fn run_named<
     B: Naming + Send + Sync,
-    S: Strategy + Send + Sync,
+    C: Closer + Send + Sync,
     R: Threads + Wait + Sync,
     O: Observer,
 >(
@@ -97,14 +98,16 @@ pub(crate) fn run_named<
     requires start { StartWith B.start B.workers (kids_of run.root.now) }
     ensures run { IfOk result (λ ran. IsRun B.region run.entry.best.now.places run.entry.root.now
         run.entry.workers.number ran.joined.works.items ran.joined.left.items) }
-    ensures turns { IfOk result (λ ran. IsWithin run.entry.turns ran.turns) }
+    ensures turns { IfOk result (λ ran.
+        AreGranted run.entry.workers.number run.entry.turns ran.turns ran.is_spent) }
 {
     let alloc = run.alloc;
     let owned = owned::<B>(alloc, owners)?;
-    let passes = hand_out(alloc, owned, run.workers.number)?;
+    let passes = lend_all(alloc, owned, run.workers.number)?;
     let seats = split_seats(alloc, &beacon, first, run.workers.number)?;
     let slots = fill(alloc, passes, seats.others)?;
-    let shared = Shared {
+    let common = Common {
+        alloc,
         beacon: &beacon,
         region: run.region,
         thieves,
@@ -114,10 +117,9 @@ pub(crate) fn run_named<
             run.workers.number,
         ),
     };
-    let results = run_scope::<B, S, R, O>(
+    let results = run_scope::<B, C, R, O>(
         run.rt,
-        alloc,
-        shared,
+        common,
         slots.as_slice(),
         run.observer,
         run.turns,
@@ -125,11 +127,11 @@ pub(crate) fn run_named<
     if !is_any_started(&results) {
         return Err(Unrun::NoThread);
     }
-    let (turns, spent) = spent_by(&results);
+    let (turns, is_spent) = spent_by(&results);
     let joined = close_up(alloc, beacon, seats.first, run.best, results)?;
     Ok(Ran {
         joined,
         turns,
-        spent,
+        is_spent,
     })
 }

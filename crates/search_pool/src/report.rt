@@ -1,3 +1,5 @@
+//! What many workers tell of a plan: the cover, its tree, and what became of the pieces. specs/Reports.antt says what
+//! the numbers mean.
 use instance_regions::Cover;
 use proof_tree::Proof;
 
@@ -8,7 +10,7 @@ pub struct Report {
     pub cover: Cover,
     /// The tree which proves that none are fewer.
     pub proof: Proof,
-    /// How many turns were granted, at most the limit. Without one the count stops at the greatest number it holds.
+    /// How many turns were granted, at most the limit. Without a limit the count stops at the greatest number.
     pub turns: u64,
     /// Pieces that workers took and neither closed nor opened, and kids that no deque had room for.
     pub handed_back: u128,

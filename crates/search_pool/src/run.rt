@@ -1,31 +1,33 @@
-//! Workers are started and joined one after another.
+//! Workers are started and joined one after another: `AreOfBudgets` of specs/Rows.antt. Where one can't be started, its
+//! result is that of a worker that did nothing.
 ghost use Rattle.std.specs.Arc.{arc_value};
-ghost use Rattle.std.specs.Prelude.{◌≡◌, ◌≤◌, ◌<◌, ◌+◌, ◌^◌, ◌∷◌, IfOk, IfSome, IsTrue, length};
-ghost use Rattle.search_pool.specs.Rows.{AreFrom, AreOfShares};
+ghost use Rattle.std.specs.Prelude.{◌≡◌, ◌≤◌, ◌<◌, ◌+◌, ◌∷◌, IfOk, IfSome, length};
+ghost use Rattle.search_pool.specs.Rows.{AreFrom, AreOfBudgets};
 ghost use Rattle.worker_results.specs.Naming.{AreThieves};
 
-use crate::turns::shares_of;
+use crate::turns::budgets_of;
 use crate::unrun::Unrun;
-use crate::worker::{Shared, Slot, work_one};
-use search_core::{Observer, Strategy};
-use std::alloc::Global;
+use crate::worker::{Common, Post, Slot, work_one};
+use search_traits::{Closer, Observer};
 use std::sync::Wait;
 use std::thread;
 use std::thread::{Promise, Scope, Threads};
 use worker_results::{Done, Naming};
 
-/// The promise that a result is of this worker, which had so many turns or any number of them.
+/// Workers that are to start: the number of the first, its budget of turns, and that of each other one.
 #[derive(Clone, Copy)]
-struct IsOf {
-    worker: u32,
-    turns: Option<u64>,
+pub(crate) struct Team {
+    pub(crate) first: u32,
+    pub(crate) own: Option<u64>,
+    pub(crate) each: Option<u64>,
 }
 
-impl<B: Naming> Promise<Option<Done<B>>> for IsOf {
+/// A result is of the worker at this post.
+impl<B: Naming> Promise<Option<Done<B>>> for Post {
     ghost use Rattle.std.specs.Prelude.{◌≡◌, IfSome};
 
     ghost kept_by = { λ p r. IfSome r (λ done.
-        (done.share.worker ≡ p.worker) × (done.turns.limit ≡ p.turns)) };
+        (done.holdings.worker ≡ p.worker) × (done.turns.limit ≡ p.budget)) };
 }
 
 /// The result, with the others after it.
@@ -37,73 +39,71 @@ fn in_front<B: Naming>(done: Done<B>, mut others: Vec<Done<B>>) -> Result<Vec<Do
 }
 
 /// The result of a worker that could not be started, if its slot holds what is its.
-fn idle<B: Naming, R: Wait>(
-    rt: &R,
-    slot: &Slot<B>,
-    worker: u32,
-    turns: Option<u64>,
-) -> Option<Done<B>>
-    ensures { IfSome result (λ done. (done.share.worker ≡ worker) × (done.turns.limit ≡ turns)) }
+fn idle<B: Naming, R: Wait>(rt: &R, slot: &Slot<B>, post: Post) -> Option<Done<B>>
+    ensures { IfSome result (λ done.
+        (done.holdings.worker ≡ post.worker) × (done.turns.limit ≡ post.budget)) }
 {
     let Some(berth) = slot.lock(rt).take() else {
         return None;
     };
-    if berth.worker() != worker {
+    if berth.worker() != post.worker {
         return None;
     }
-    Some(berth.idle(turns))
+    Some(berth.idle(post.budget))
 }
 
-/// Starts a worker for each slot, one after another, and joins them, the last first. The first one has its own turns,
-/// the others have each the same. A worker that can't be started gives an idle result.
+/// Starts a worker for each slot, one after another, and joins them, the last first. A worker that can't be started
+/// gives an idle result.
 pub(crate) fn run_from<
     's,
     'e,
     B: Naming + Send + Sync + 'e,
-    S: Strategy + Send + Sync + 'e,
+    C: Closer + Send + Sync + 'e,
     R: Threads + Wait + Sync + 'e,
     O: Observer + 'e,
 >(
     scope: &'s Scope<'s, &'e ()>,
     rt: &'e R,
-    alloc: Global,
-    shared: Shared<'e>,
+    common: Common<'e>,
     slots: &'e [Slot<B>],
     observer: &'e O,
-    worker: u32,
-    own: Option<u64>,
-    each: Option<u64>,
+    team: Team,
 ) -> Result<Vec<Done<B>>, Unrun>
-    requires ground { (shared.beacon.now ≡ B.beacon) × (arc_value shared.region.now ≡ B.region)
-        × AreThieves B.deque 0 shared.thieves.now }
-    requires few { worker + length slots.now ≤ 64 }
-    ensures each { IfOk result (λ all. AreFrom worker own each all.items
+    requires ground { (common.beacon.now ≡ B.beacon) × (arc_value common.region.now ≡ B.region)
+        × AreThieves B.deque 0 common.thieves.now }
+    requires few { team.first + length slots.now ≤ 64 }
+    ensures each { IfOk result (λ all. AreFrom team.first team.own team.each all.items
         × (length all.items ≡ length slots.now)) }
 {
     let Some((slot, rest)) = slots.split_first() else {
-        return Ok(Vec::new(alloc));
+        return Ok(Vec::new(common.alloc));
+    };
+    let post = Post {
+        worker: team.first,
+        budget: team.own,
     };
     let work = move || -> Option<Done<B>>
-        requires { (shared.beacon.now ≡ B.beacon) × (arc_value shared.region.now ≡ B.region)
-            × AreThieves B.deque 0 shared.thieves.now }
-        ensures { IfSome result (λ done. (done.share.worker ≡ worker) × (done.turns.limit ≡ own)) }
-    { work_one::<B, S, R, O>(rt, alloc, shared, slot, observer, worker, own) };
-    let promise = IsOf { worker, turns: own };
-    let child = scope.spawn_with(promise, work);
-    let others = run_from::<B, S, R, O>(
+        requires { (common.beacon.now ≡ B.beacon) × (arc_value common.region.now ≡ B.region)
+            × AreThieves B.deque 0 common.thieves.now }
+        ensures { IfSome result (λ done.
+            (done.holdings.worker ≡ post.worker) × (done.turns.limit ≡ post.budget)) }
+    { work_one::<B, C, R, O>(rt, common, slot, observer, post) };
+    let child = scope.spawn_with(post, work);
+    let others = run_from::<B, C, R, O>(
         scope,
         rt,
-        alloc,
-        shared,
+        common,
         rest,
         observer,
-        worker + 1,
-        each,
-        each,
+        Team {
+            first: team.first + 1,
+            own: team.each,
+            each: team.each,
+        },
     )?;
     let done = match child {
         Ok(child) => child.join(rt),
-        Err(_) => idle(rt, slot, worker, own),
+        Err(_) => idle(rt, slot, post),
     };
     match done {
         Some(done) => in_front(done, others),
@@ -111,59 +111,45 @@ pub(crate) fn run_from<
     }
 }
 
-/// Starts a worker for each slot, and joins them. Together they have all turns, or any number of them.
+/// Starts a worker for each slot, and joins them. Together they have all turns, if these are limited.
 pub(crate) fn run_scope<
     B: Naming + Send + Sync,
-    S: Strategy + Send + Sync,
+    C: Closer + Send + Sync,
     R: Threads + Wait + Sync,
     O: Observer,
 >(
     rt: &R,
-    alloc: Global,
-    shared: Shared<'_>,
+    common: Common<'_>,
     slots: &[Slot<B>],
     observer: &O,
     turns: Option<u64>,
 ) -> Result<Vec<Done<B>>, Unrun>
-    requires ground { (shared.beacon.now ≡ B.beacon) × (arc_value shared.region.now ≡ B.region)
-        × AreThieves B.deque 0 shared.thieves.now }
+    requires ground { (common.beacon.now ≡ B.beacon) × (arc_value common.region.now ≡ B.region)
+        × AreThieves B.deque 0 common.thieves.now }
     requires some { 0 < length slots.now }
     requires few { length slots.now ≤ 64 }
-    ensures { IfOk result (λ all. AreOfShares turns all.items × (length all.items ≡ length slots.now)) }
+    ensures { IfOk result (λ all. AreOfBudgets turns all.items
+        × (length all.items ≡ length slots.now)) }
 {
-    let (own, each) = shares_of(turns, slots.len() as u32);
+    let (own, each) = budgets_of(turns, slots.len() as u32);
     let results = thread::scope(
         thread::scope_env(),
         rt,
         |scope| -> Result<Vec<Done<B>>, Unrun>
-            requires ground { (shared.beacon.now ≡ B.beacon) × (arc_value shared.region.now ≡ B.region)
-                × AreThieves B.deque 0 shared.thieves.now }
+            requires ground { (common.beacon.now ≡ B.beacon)
+                × (arc_value common.region.now ≡ B.region)
+                × AreThieves B.deque 0 common.thieves.now }
             requires few { length slots.now ≤ 64 }
             ensures row { IfOk result (λ all. AreFrom 0 own each all.items) }
             ensures len { IfOk result (λ all. length all.items ≡ length slots.entry.now) }
-        { run_from::<B, S, R, O>(scope, rt, alloc, shared, slots, observer, 0, own, each) },
+        {
+            let team = Team {
+                first: 0,
+                own,
+                each,
+            };
+            run_from::<B, C, R, O>(scope, rt, common, slots, observer, team)
+        },
     )?;
-    // What the closure ensures isn't known here, so it is tested.
-    if results.len() != slots.len() || !are_from(results.as_slice(), 0, own, each) {
-        return Err(Unrun::NoThread);
-    }
     Ok(results)
-}
-
-/// Whether they are of the workers from this number on, and had these turns.
-fn are_from<B: Naming>(
-    results: &[Done<B>],
-    worker: u64,
-    own: Option<u64>,
-    each: Option<u64>,
-) -> bool
-    requires { worker + length results.now < 2 ^ 64 }
-    ensures { IsTrue result → AreFrom worker own each results.now }
-{
-    let Some((first, rest)) = results.split_first() else {
-        return true;
-    };
-    u64::from(first.worker()) == worker
-        && first.turns().limit == own
-        && are_from(rest, worker + 1, each, each)
 }

@@ -1,7 +1,8 @@
-//! Filling the workers' slots: for each worker a seat at the beacon, its own deque, and a pass at each deque.
+//! The workers' slots are filled: for each a seat at the beacon, its own deque, and a pass at each deque. What is ready
+//! stands in specs/Slots.antt.
 ghost use Rattle.std.specs.Prelude.{◌≡◌, ◌+◌, ◌≤◌, [], true, All, IfOk, length, map};
 ghost use Rattle.search_pool.specs.Seats.{SplitsOff};
-ghost use Rattle.search_pool.specs.Slots.{AreOwners, IsReady, handed_out, numbers_of, pass_at};
+ghost use Rattle.search_pool.specs.Slots.{AreOwners, IsReady, lent, lent_pass, numbers_of};
 ghost use Rattle.worker_results.specs.Naming.{numbers_from};
 ghost use Rattle.worker_results.specs.Passes.{all_taken};
 ghost use Rattle.worker_results.specs.Results.{IsNewSeatAt};
@@ -11,7 +12,7 @@ use beacon::{Beacon, Seat};
 use piece_deque::Owner;
 use std::alloc::{AllocError, Global};
 use std::sync::Mutex;
-use worker_results::{Access, Accesses, Berth, Naming, Own, WorkerShare};
+use worker_results::{Berth, Holdings, Naming, Own, PassAt, PassRow};
 
 /// The first seat, and those that were split off.
 #[derive(Drop)]
@@ -20,7 +21,7 @@ pub(crate) struct Seats {
     pub(crate) others: Vec<Seat>,
 }
 
-/// A seat for each of so many workers.
+/// A seat for each worker.
 pub(crate) fn split_seats(
     alloc: Global,
     beacon: &Beacon,
@@ -44,7 +45,8 @@ pub(crate) fn split_seats(
 pub(crate) fn owned<B: Naming>(alloc: Global, owners: Vec<Owner>) -> Result<Vec<Own<B>>, AllocError>
     requires owners { AreOwners B.deque B.start 0 owners.items }
     requires few { length owners.items ≤ 64 }
-    ensures numbers { IfOk result (λ owned. numbers_of owned.items ≡ numbers_from 0 (length owners.items)) }
+    ensures numbers { IfOk result (λ owned.
+        numbers_of owned.items ≡ numbers_from 0 (length owners.items)) }
     ensures ready { IfOk result (λ owned. All (IsReady B.start 0) owned.items) }
 {
     let mut owned = Vec::with_capacity(alloc, owners.len())?;
@@ -60,18 +62,18 @@ pub(crate) fn owned<B: Naming>(alloc: Global, owners: Vec<Owner>) -> Result<Vec<
 #[derive(Drop)]
 struct Row<B: Naming> {
     owned: Vec<Own<B>>,
-    passes: Vec<Access<B>>,
+    passes: Vec<PassAt<B>>,
 }
 
-/// Hands out a pass at each deque.
-fn hand_out_row<B: Naming>(alloc: Global, owned: Vec<Own<B>>) -> Result<Row<B>, AllocError>
-    ensures owned { IfOk result (λ row. row.owned.items ≡ map handed_out owned.items) }
-    ensures passes { IfOk result (λ row. row.passes.items ≡ map pass_at owned.items) }
+/// Lends a pass at each deque.
+fn lend_row<B: Naming>(alloc: Global, owned: Vec<Own<B>>) -> Result<Row<B>, AllocError>
+    ensures owned { IfOk result (λ row. row.owned.items ≡ map lent owned.items) }
+    ensures passes { IfOk result (λ row. row.passes.items ≡ map lent_pass owned.items) }
 {
     let mut left = Vec::with_capacity(alloc, owned.len())?;
     let mut passes = Vec::with_capacity(alloc, owned.len())?;
     for mut own in owned {
-        passes.push(own.hand_out())?;
+        passes.push(own.lend_pass())?;
         left.push(own)?;
     }
     Ok(Row {
@@ -84,11 +86,11 @@ fn hand_out_row<B: Naming>(alloc: Global, owned: Vec<Own<B>>) -> Result<Row<B>, 
 #[derive(Drop)]
 pub(crate) struct Passes<B: Naming> {
     pub(crate) owned: Vec<Own<B>>,
-    pub(crate) rows: Vec<Accesses<B>>,
+    pub(crate) rows: Vec<PassRow<B>>,
 }
 
-/// Hands out a pass at each deque to each of so many workers.
-pub(crate) fn hand_out<B: Naming>(
+/// Lends a pass at each deque to each worker.
+pub(crate) fn lend_all<B: Naming>(
     alloc: Global,
     owned: Vec<Own<B>>,
     workers: u32,
@@ -103,8 +105,8 @@ pub(crate) fn hand_out<B: Naming>(
     let mut owned = owned;
     let mut rows = Vec::with_capacity(alloc, workers as usize)?;
     for number in 0..workers {
-        let row = hand_out_row(alloc, owned)?;
-        rows.push(Accesses::new(row.passes))?;
+        let row = lend_row(alloc, owned)?;
+        rows.push(PassRow::new(row.passes))?;
         owned = row.owned;
     }
     Ok(Passes { owned, rows })
@@ -128,7 +130,7 @@ pub(crate) fn fill<B: Naming>(
         let (Some(row), Some(seat)) = (rows.pop(), seats.pop()) else {
             return Err(AllocError);
         };
-        let berth = Berth::new(seat, WorkerShare::new(alloc, own, row));
+        let berth = Berth::new(seat, Holdings::new(alloc, own, row));
         slots.push(Mutex::new(Some(berth)))?;
     }
     Ok(slots)

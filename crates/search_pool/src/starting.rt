@@ -1,4 +1,5 @@
-//! A run of workers over a root that is opened.
+//! A run of workers over a root that is opened: `IsRun` of specs/Runs.antt. The beacon is opened, the deques are
+//! stocked, and both are named.
 ghost use Rattle.std.specs.Arc.{arc_value};
 ghost use Rattle.std.specs.Prelude.{◌≡◌, IfOk, length};
 ghost use Rattle.beacon.specs.Marks.{at_first};
@@ -6,7 +7,7 @@ ghost use Rattle.proof_tree.specs.Opened.{kids_of};
 ghost use Rattle.search_pool.specs.Deques.{deque_at, pushed_at};
 ghost use Rattle.search_pool.specs.Runs.{IsRun};
 ghost use Rattle.search_pool.specs.Slots.{AreOwners};
-ghost use Rattle.search_traits.specs.Turns.{IsWithin};
+ghost use Rattle.search_pool.specs.Turns.{AreGranted};
 ghost use Rattle.worker_results.specs.Joining.{IsRootSplit, StartWith};
 ghost use Rattle.worker_results.specs.Naming.{AreThieves};
 
@@ -15,42 +16,24 @@ use crate::stock::{Stock, stock_for};
 use crate::unrun::Unrun;
 use beacon::{Beacon, Seat};
 use piece_deque::{Owner, Thief};
-use search_core::{Observer, Strategy};
+use search_traits::{Closer, Observer};
 use std::marker::Brand;
 use std::sync::Wait;
 use std::thread::Threads;
 
 /// Opens the beacon, pushes the root's kids on worker 0's deque, and runs the workers.
-pub(crate) fn run_opened<S: Strategy + Send + Sync, R: Threads + Wait + Sync, O: Observer>(
+pub(crate) fn run_opened<C: Closer + Send + Sync, R: Threads + Wait + Sync, O: Observer>(
     run: Run<'_, R, O>,
 ) -> Result<Ran, Unrun>
     requires { IsRootSplit (arc_value run.region.now) run.root.now }
-    ensures run { IfOk result (λ ran. IsRun (arc_value run.entry.region.now) run.entry.best.now.places
-        run.entry.root.now run.entry.workers.number ran.joined.works.items ran.joined.left.items) }
-    ensures turns { IfOk result (λ ran. IsWithin run.entry.turns ran.turns) }
+    ensures run { IfOk result (λ ran. IsRun (arc_value run.entry.region.now)
+        run.entry.best.now.places run.entry.root.now run.entry.workers.number
+        ran.joined.works.items ran.joined.left.items) }
+    ensures turns { IfOk result (λ ran.
+        AreGranted run.entry.workers.number run.entry.turns ran.turns ran.is_spent) }
 {
     let Stock { owners, thieves } = stock_for(run.alloc, run.root, run.workers)?;
     let (beacon, first) = Beacon::open(run.alloc, run.best.size())?;
-    start::<S, R, O>(run, beacon, first, owners, &thieves)
-}
-
-/// Names the beacon and the deques, and runs the workers.
-fn start<S: Strategy + Send + Sync, R: Threads + Wait + Sync, O: Observer>(
-    run: Run<'_, R, O>,
-    beacon: Beacon,
-    first: Seat,
-    owners: Vec<Owner>,
-    thieves: &[Thief],
-) -> Result<Ran, Unrun>
-    requires root { IsRootSplit (arc_value run.region.now) run.root.now }
-    requires seat { (first.beacon ≡ beacon) × (first.knows ≡ at_first (length run.best.now.places)) }
-    requires each { length owners.items ≡ run.workers.number }
-    requires owners { AreOwners (deque_at owners.items) (pushed_at owners.items) 0 owners.items }
-    requires thieves { AreThieves (deque_at owners.items) 0 thieves.now }
-    requires start { StartWith (pushed_at owners.items) run.workers.number (kids_of run.root.now) }
-    ensures run { IfOk result (λ ran. IsRun (arc_value run.entry.region.now) run.entry.best.now.places
-        run.entry.root.now run.entry.workers.number ran.joined.works.items ran.joined.left.items) }
-    ensures turns { IfOk result (λ ran. IsWithin run.entry.turns ran.turns) }
-{
-    run_named::<Brand, S, R, O>(run, beacon, first, owners, thieves)
+    // The names are those of this beacon and these deques.
+    run_named::<Brand, C, R, O>(run, beacon, first, owners, &thieves)
 }

@@ -1,4 +1,5 @@
-//! The deques of all workers with the root's kids on the first one, and their thieves.
+//! The deques of all workers with the root's kids on the first one, and their thieves: `AreOwners` of specs/Slots.antt,
+//! named by the words of specs/Deques.antt.
 ghost use Rattle.std.specs.Prelude.{◌≡◌, IfOk, length};
 ghost use Rattle.proof_tree.specs.Opened.{kids_of};
 ghost use Rattle.search_pool.specs.Deques.{deque_at, pushed_at};
@@ -26,9 +27,10 @@ pub(crate) struct Stock {
 /// The root's kids lie on the first deque, and none on the others.
 pub(crate) fn stock_for(alloc: Global, root: &Opened, workers: Workers) -> Result<Stock, AllocError>
     ensures each { IfOk result (λ stock. length stock.owners.items ≡ workers.number) }
-    ensures owners { IfOk result (λ stock.
-        AreOwners (deque_at stock.owners.items) (pushed_at stock.owners.items) 0 stock.owners.items) }
-    ensures thieves { IfOk result (λ stock. AreThieves (deque_at stock.owners.items) 0 stock.thieves.items) }
+    ensures owners { IfOk result (λ stock. AreOwners (deque_at stock.owners.items)
+        (pushed_at stock.owners.items) 0 stock.owners.items) }
+    ensures thieves { IfOk result (λ stock.
+        AreThieves (deque_at stock.owners.items) 0 stock.thieves.items) }
     ensures start { IfOk result (λ stock.
         StartWith (pushed_at stock.owners.items) workers.number (kids_of root.now)) }
 {

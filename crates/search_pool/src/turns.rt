@@ -1,16 +1,18 @@
-//! The turns that workers share.
-ghost use Rattle.std.specs.Prelude.{◌≡◌, ◌<◌};
-ghost use Rattle.search_pool.specs.Rows.{AreShares, AreSpendings, all_granted, counted, is_spent, is_started};
+//! The turns of all workers: their budgets (`AreBudgets` of specs/Rows.antt), what they were granted, and what is left
+//! (`left` of specs/Turns.antt).
+ghost use Rattle.std.specs.Prelude.{◌≡◌, ◌<◌, ◌^◌, IfSome};
+ghost use Rattle.search_pool.specs.Rows.{AreBudgets, AreSpendings, all_granted, counted, is_spent, is_started};
 ghost use Rattle.search_pool.specs.Turns.{left};
 ghost use Rattle.search_traits.specs.Turns.{IsWithin};
 
 use worker_results::{Done, Naming};
 
-/// The turns of the first of so many workers, and those of each other one: all have the same share, and what is left
-/// over goes to the first (this project's own).
-pub(crate) fn shares_of(turns: Option<u64>, workers: u32) -> (Option<u64>, Option<u64>)
+/// The budget of the first worker, and that of each other one: they are even, and what is left over goes to the first
+/// (this project's own).
+pub(crate) fn budgets_of(turns: Option<u64>, workers: u32) -> (Option<u64>, Option<u64>)
     requires { 0 < workers }
-    ensures { AreShares turns workers result.0 result.1 }
+    ensures budgets { AreBudgets turns workers result.0 result.1 }
+    ensures fits { IfSome turns (λ limit. limit < 2 ^ 64) }
 {
     let Some(limit) = turns else {
         return (None, None);
@@ -47,14 +49,14 @@ pub(crate) fn is_any_started<B: Naming>(results: &[Done<B>]) -> bool
     first.turns().was_started || is_any_started(rest)
 }
 
-/// The turns that are left where so many were granted, none where a share was used up.
-pub(crate) fn left_of(turns: Option<u64>, granted: u64, spent: bool) -> Option<u64>
+/// The turns that are left after these were granted; none where a budget was used up.
+pub(crate) fn left_of(turns: Option<u64>, granted: u64, is_spent: bool) -> Option<u64>
     requires { IsWithin turns granted }
-    ensures { result ≡ left turns granted spent }
+    ensures { result ≡ left turns granted is_spent }
 {
     match turns {
         None => None,
-        Some(_) if spent => Some(0),
+        Some(_) if is_spent => Some(0),
         Some(limit) => Some(limit - granted),
     }
 }

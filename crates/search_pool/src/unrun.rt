@@ -1,4 +1,5 @@
-//! Why workers didn't run.
+//! Why workers didn't run. As a fault of the plan it is told as
+//! `fault_of` of specs/Unruns.antt says.
 ghost use Rattle.std.specs.Prelude.{◌≡◌};
 ghost use Rattle.search_pool.specs.declared.unrun.Unrun.TheVariants.{OutOfMemory};
 

@@ -1,16 +1,18 @@
-//! One worker.
+//! One worker at its post: it takes pieces, and opens or closes them, until none is found or its budget is used up.
+//! What it hands over fits its post (`AreFrom` of specs/Rows.antt).
 ghost use Rattle.std.specs.Arc.{arc_value};
 ghost use Rattle.std.specs.Prelude.{◌≡◌, ◌<◌, IfSome, length};
+ghost use Rattle.search_traits.specs.Desks.{Continues};
 ghost use Rattle.worker_results.specs.Naming.{AreThieves};
 ghost use Rattle.worker_results.specs.Steps.{KeepFloors};
 
 use beacon::Beacon;
 use instance_regions::Region;
 use piece_deque::Thief;
-use search_core::{Desk, Observer, Strategy};
+use search_traits::{Closer, Desk, Observer};
 use std::alloc::Global;
 use std::sync::{Arc, Mutex, Wait};
-use worker_results::{Berth, Done, Naming, PoolDesk, Step, Tried, WorkerShare};
+use worker_results::{Berth, Done, Holdings, Naming, PoolDesk, Step, Tried};
 
 /// How often a worker tries to steal from a deque where other threads are first.
 const TRIES: u32 = 1000;
@@ -18,9 +20,17 @@ const TRIES: u32 = 1000;
 /// Where a worker's seat and passes wait for it.
 pub(crate) type Slot<B> = Mutex<Option<Berth<B>>>;
 
-/// What all workers share.
+/// A worker's number, and its budget of turns if these are limited.
 #[derive(Clone, Copy)]
-pub(crate) struct Shared<'e> {
+pub(crate) struct Post {
+    pub(crate) worker: u32,
+    pub(crate) budget: Option<u64>,
+}
+
+/// What all workers have in common.
+#[derive(Clone, Copy)]
+pub(crate) struct Common<'e> {
+    pub(crate) alloc: Global,
     pub(crate) beacon: &'e Beacon,
     pub(crate) region: &'e Arc<Region>,
     pub(crate) thieves: &'e [Thief],
@@ -29,31 +39,31 @@ pub(crate) struct Shared<'e> {
 }
 
 /// Takes a piece of its own deque, or else of the others in order.
-fn next<B: Naming>(share: &mut WorkerShare<B>, thieves: &[Thief]) -> bool
+fn next<B: Naming>(holdings: &mut Holdings<B>, thieves: &[Thief]) -> bool
     requires { AreThieves B.deque 0 thieves.now }
-    ensures worker { share.new.worker ≡ share.old.worker }
-    ensures closed { share.new.closed ≡ share.old.closed }
+    ensures worker { holdings.new.worker ≡ holdings.old.worker }
+    ensures closed { holdings.new.closed ≡ holdings.old.closed }
 {
-    if let Tried::Got = share.take() {
+    if let Tried::Got = holdings.take() {
         return true;
     }
     for deque in 0..thieves.len() {
-        if steal_from(share, thieves, deque) {
+        if steal_from(holdings, thieves, deque) {
             return true;
         }
     }
     false
 }
 
-/// Steals a piece, with so many tries where other threads are first.
-fn steal_from<B: Naming>(share: &mut WorkerShare<B>, thieves: &[Thief], deque: usize) -> bool
+/// Steals a piece, and tries again where other threads are first.
+fn steal_from<B: Naming>(holdings: &mut Holdings<B>, thieves: &[Thief], deque: usize) -> bool
     requires thieves { AreThieves B.deque 0 thieves.now }
     requires number { deque < length thieves.now }
-    ensures worker { share.new.worker ≡ share.old.worker }
-    ensures closed { share.new.closed ≡ share.old.closed }
+    ensures worker { holdings.new.worker ≡ holdings.old.worker }
+    ensures closed { holdings.new.closed ≡ holdings.old.closed }
 {
     for _ in 0..TRIES {
-        match share.steal(thieves, deque) {
+        match holdings.steal(thieves, deque) {
             Tried::Got => return true,
             Tried::Again => {}
             Tried::Empty => return false,
@@ -64,67 +74,67 @@ fn steal_from<B: Naming>(share: &mut WorkerShare<B>, thieves: &[Thief], deque: u
 }
 
 /// Opens the piece that was taken last, where its name is short and that is worth while, or closes it.
-fn work_on<B: Naming, S: Strategy, D: Desk>(
-    alloc: Global,
-    shared: Shared<'_>,
-    share: &mut WorkerShare<B>,
+#[tactic(auto, using(search_traits::proofs::DeskLemmas::continues_then))]
+fn work_on<B: Naming, C: Closer, D: Desk>(
+    common: Common<'_>,
+    holdings: &mut Holdings<B>,
     desk: &mut D,
 )
-    requires { (arc_value shared.region.now ≡ B.region) × (D.region desk.old ≡ B.region) }
-    ensures worker { share.new.worker ≡ share.old.worker }
-    ensures floors { KeepFloors B.region (D.shown desk.old) share.old.closed (D.shown desk.new) share.new.closed }
-    ensures same { (D.region desk.new ≡ D.region desk.old) × (D.limit desk.new ≡ D.limit desk.old) }
+    requires { (arc_value common.region.now ≡ B.region) × ((D.state desk.old).region ≡ B.region) }
+    ensures worker { holdings.new.worker ≡ holdings.old.worker }
+    ensures floors { KeepFloors B.region (D.state desk.old).shown holdings.old.closed
+        (D.state desk.new).shown holdings.new.closed }
+    ensures onward { Continues (D.state desk.old) (D.state desk.new) }
 {
-    if has_short_name(share, shared.deepest) {
-        match share.open::<S, D>(alloc, shared.region, desk) {
+    if has_short_name(holdings, common.deepest) {
+        match holdings.open_last::<C, D>(common.alloc, common.region, desk) {
             Step::NotMade => (),
             _ => return,
         }
     }
-    share.close::<S, D>(alloc, shared.region, desk);
+    holdings.close_last::<C, D>(common.alloc, common.region, desk);
 }
 
 /// Whether the name of the piece that was taken last is shorter than this.
-fn has_short_name<B: Naming>(share: &WorkerShare<B>, length: usize) -> bool {
-    match share.last_name() {
+fn has_short_name<B: Naming>(holdings: &Holdings<B>, length: usize) -> bool {
+    match holdings.last_name() {
         Some(name) => name.as_slice().len() < length,
         None => false,
     }
 }
 
-/// Takes its seat and passes from the slot, and works until it finds no piece, or its share of turns is used up. None
-/// where the slot has nothing for it.
-pub(crate) fn work_one<B: Naming, S: Strategy, R: Wait, O: Observer>(
+/// Takes its seat and passes from the slot, and works until it finds no piece, or its budget is used up. None where the
+/// slot has nothing for it.
+pub(crate) fn work_one<B: Naming, C: Closer, R: Wait, O: Observer>(
     rt: &R,
-    alloc: Global,
-    shared: Shared<'_>,
+    common: Common<'_>,
     slot: &Slot<B>,
     observer: &O,
-    worker: u32,
-    turns: Option<u64>,
+    post: Post,
 ) -> Option<Done<B>>
-    requires { (shared.beacon.now ≡ B.beacon) × (arc_value shared.region.now ≡ B.region)
-        × AreThieves B.deque 0 shared.thieves.now }
-    ensures { IfSome result (λ done. (done.share.worker ≡ worker) × (done.turns.limit ≡ turns)) }
+    requires { (common.beacon.now ≡ B.beacon) × (arc_value common.region.now ≡ B.region)
+        × AreThieves B.deque 0 common.thieves.now }
+    ensures { IfSome result (λ done.
+        (done.holdings.worker ≡ post.worker) × (done.turns.limit ≡ post.budget)) }
 {
     let berth = slot.lock(rt).take()?;
-    if berth.worker() != worker {
+    if berth.worker() != post.worker {
         return None;
     }
-    let (seat, mut share) = berth.into_parts();
-    let mut desk: PoolDesk<'_, B> = PoolDesk::new(shared.beacon, shared.region, seat, turns);
+    let (seat, mut holdings) = berth.into_parts();
+    let mut desk: PoolDesk<'_, B> = PoolDesk::new(common.beacon, common.region, seat, post.budget);
     for _ in 0..u64::MAX {
-        if !next(&mut share, shared.thieves) {
+        if !next(&mut holdings, common.thieves) {
             break;
         }
-        if let Some(name) = share.last_name() {
-            observer.enter(worker, name);
+        if let Some(name) = holdings.last_name() {
+            observer.enter(post.worker, name);
         }
-        work_on::<B, S, PoolDesk<'_, B>>(alloc, shared, &mut share, &mut desk);
+        work_on::<B, C, PoolDesk<'_, B>>(common, &mut holdings, &mut desk);
         if desk.is_spent() {
             break;
         }
     }
     let (seat, cover, turns) = desk.into_parts();
-    Some(Done::new(seat, cover, share, turns))
+    Some(Done::new(seat, cover, holdings, turns))
 }

@@ -8,8 +8,8 @@ use Rattle.proof_tree.specs.Weights.{weigh}
 use Rattle.piece_deque.proofs.TotalLemmas.{weigh_append}
 use Rattle.schedule_law.specs.Worked.{IsClosedFrom}
 use Rattle.schedule_law.specs.Joined.{all_kids, pieces_closed, pieces_opened}
-use Rattle.search_core.specs.Pieces.{IsClosing}
-use Rattle.worker_results.specs.Shares.{AreClosedFrom}
+use Rattle.search_traits.specs.Pieces.{IsClosing}
+use Rattle.worker_results.specs.Holdings.{AreClosedFrom}
 
 -- a closed piece more adds its weight
 pub closed_snoc : (h : Subproblem → ℕ) (es : List Fathomed) (e : Fathomed)

@@ -1,6 +1,7 @@
 pub mod PassLemmas
 pub mod HeapLemmas
-pub mod ShareLemmas
+pub mod HoldingLemmas
 pub mod PartLemmas
 pub mod TakeLemmas
 pub mod JoinLemmas
+pub mod DeskRules

@@ -12,7 +12,7 @@ use Rattle.proof_tree.specs.Weights.{weigh}
 use Rattle.schedule_law.specs.Joined.{all_kids, least_size, less_by}
 use Rattle.schedule_law.specs.Worked.{IsClosedFrom, IsWork, Worked}
 use Rattle.schedule_law.proofs.PieceLemmas.{weigh-append}
-use Rattle.worker_results.specs.Passes.{Owned, Reached, all_taken}
+use Rattle.worker_results.specs.Passes.{Owned, KnownPass, all_taken}
 use Rattle.worker_results.specs.Results.{Handed, KeepsTold}
 use Rattle.worker_results.specs.Joining.{numbers_of, total, workers_of, works_of}
 use Rattle.worker_results.specs.Apart.{AreResultParts, IsOneMore, IsRow, AreApart, told_size, weigh_done}
@@ -92,8 +92,8 @@ works_less region n m works le all =
 -- ---- one more
 
 module _ (region : Instance) (start : ℕ → List Subproblem) (workers : ℕ) where
-  apart_push : (old new : Known) (owners : List Owned) (rows : List (List Reached)) (works : List Worked)
-      (done : Handed) (own : Owned) (row : List Reached) (work : Worked)
+  apart_push : (old new : Known) (owners : List Owned) (rows : List (List KnownPass)) (works : List Worked)
+      (done : Handed) (own : Owned) (row : List KnownPass) (work : Worked)
       → AreApart region start workers old new owners rows works → AreResultParts region start workers done own row work
       → AreApart region start workers old (together new done.knows) (owners ++ own ∷ []) (rows ++ row ∷ [])
       (works ++ work ∷ [])
@@ -119,11 +119,11 @@ module _ (region : Instance) (start : ℕ → List Subproblem) (workers : ℕ) w
         took = λ h. (let a = p.took h in let b = are.is_done.adds_up.took h in
             let c = total-push (weigh_done h) works work in
             let d = total-push (λ (o : Owned). weigh h o.knows.taken) owners own in
-            let e = total-push (λ (r : List Reached). weigh h (all_taken r)) rows row in
+            let e = total-push (λ (r : List KnownPass). weigh h (all_taken r)) rows row in
             let f = ap (λ (o : Owned). weigh h o.knows.taken) are.owner in
-            let g = ap (λ (r : List Reached). weigh h (all_taken r)) are.passes in
+            let g = ap (λ (r : List KnownPass). weigh h (all_taken r)) are.passes in
             let i = ap (λ (w : Worked). weigh_done h w) are.heaps in
-            let q = weigh-append h done.share.own.taken (all_taken done.share.reaches) in
+            let q = weigh-append h done.holdings.own.taken (all_taken done.holdings.passes) in
             omega arith);
         pushed = λ h. (let a = p.pushed h in let b = are.is_done.adds_up.pushed h in
             let c = total-push (λ (w : Worked). weigh h w.refused) works work in
@@ -137,14 +137,14 @@ module _ (region : Instance) (start : ℕ → List Subproblem) (workers : ℕ) w
             omega arith);
       }
 
-  module _ (done : Handed) (owners more_owners : List Owned) (rows more_rows : List (List Reached))
+  module _ (done : Handed) (owners more_owners : List Owned) (rows more_rows : List (List KnownPass))
       (works more_works : List Worked)
       (one : IsOneMore region start workers done owners rows works more_owners more_rows more_works) where
     -- one result more was taken apart
     pub apart_more : (old new next : Known) → AreApart region start workers old new owners rows works
         → next ≡ together new done.knows → AreApart region start workers old next more_owners more_rows more_works
     apart_more old new next p is =
-        subst (λ (x : Known × (List Owned × (List (List Reached) × List Worked))).
+        subst (λ (x : Known × (List Owned × (List (List KnownPass) × List Worked))).
         AreApart region start workers old x.0 x.1.0 x.1.1.0 x.1.1.1)
         (λ i. (sym is i, (sym one.in_owners i, (sym one.in_rows i, sym one.in_works i))))
         (apart_push old new owners rows works done one.own one.row one.work p one.are)

@@ -11,18 +11,18 @@ use Rattle.piece_deque.specs.Deals.{took_too}
 use Rattle.piece_deque.specs.Rule.{Answers, WasEmpty}
 use Rattle.piece_deque.proofs.TotalLemmas.{weigh_append}
 use Rattle.worker_results.specs.Naming.{DequeId, Thief, AreThieves, numbers_from}
-use Rattle.worker_results.specs.Passes.{Reached, deques, all_taken}
+use Rattle.worker_results.specs.Passes.{KnownPass, deques, all_taken}
 use Rattle.worker_results.specs.Tries.{TriedOne}
 
 -- a pass changed at its place is at the same deque
-pub deques_set : (rs : List Reached) (k : ℕ) (r d : Reached) → r.deque ≡ (get_or rs k d).deque
+pub deques_set : (rs : List KnownPass) (k : ℕ) (r d : KnownPass) → r.deque ≡ (get_or rs k d).deque
     → deques (set rs k r) ≡ deques rs
 deques_set [] k r d e = refl
 deques_set (x ∷ xs) zero r d e = ap (λ n. n ∷ deques xs) e
 deques_set (x ∷ xs) (suc k) r d e = ap (λ l. x.deque ∷ l) (deques_set xs k r d e)
 
 -- a pass that took one more piece adds its weight to all taken
-taken_set : (h : Subproblem → ℕ) (rs : List Reached) (k : ℕ) (r d : Reached) (p : Subproblem) → k < length rs
+taken_set : (h : Subproblem → ℕ) (rs : List KnownPass) (k : ℕ) (r d : KnownPass) (p : Subproblem) → k < length rs
     → r.knows ≡ took_too (get_or rs k d).knows (p ∷ [])
     → weigh h (all_taken (set rs k r)) ≡ weigh h (all_taken rs) + h p
 taken_set h [] k r d p lt e = absurd (omega arith)
@@ -46,7 +46,7 @@ thief_at deque from (t ∷ ts) (suc k) d lt all =
     let h = thief_at deque (from + 1) ts k d (omega arith) all.2 in (h.0, h.1 ∙ ap deque (omega arith))
 
 -- so is the pass
-pub deque_at : (rs : List Reached) (from n k : ℕ) (d : Reached) → k < length rs
+pub deque_at : (rs : List KnownPass) (from n k : ℕ) (d : KnownPass) → k < length rs
     → deques rs ≡ numbers_from from n → (get_or rs k d).deque ≡ from + k
 deque_at [] from n k d lt e = absurd (omega arith)
 deque_at (r ∷ rs) from zero k d lt e = absurd (cc)
@@ -55,13 +55,13 @@ deque_at (r ∷ rs) from (suc n) (suc k) d lt e =
     let a : deques rs ≡ numbers_from (from + 1) n = cc in omega (arith, deque_at rs (from + 1) n k d (omega arith) a)
 
 -- a pass put back as it was changes nothing
-set_same : (rs : List Reached) (k : ℕ) (r d : Reached) → r ≡ get_or rs k d → set rs k r ≡ rs
+set_same : (rs : List KnownPass) (k : ℕ) (r d : KnownPass) → r ≡ get_or rs k d → set rs k r ≡ rs
 set_same [] k r d e = refl
 set_same (x ∷ xs) zero r d e = ap (λ y. y ∷ xs) e
 set_same (x ∷ xs) (suc k) r d e = ap (λ l. x ∷ l) (set_same xs k r d e)
 
 -- what is known of the passes after one of them tried to take
-pub tried : (rs : List Reached) (k : ℕ) (r d : Reached) (t : Take) → k < length rs
+pub tried : (rs : List KnownPass) (k : ℕ) (r d : KnownPass) (t : Take) → k < length rs
     → r.deque ≡ (get_or rs k d).deque → Answers WasEmpty (get_or rs k d).knows t r.knows → TriedOne rs t (set rs k r)
 tried rs k r d (Got p) lt same done =
     record { same = deques_set rs k r d same; more = λ h. taken_set h rs k r d p lt done }

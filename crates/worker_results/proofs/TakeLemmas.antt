@@ -1,4 +1,4 @@
--- Owners take in rows of passes.
+-- Owners take back rows of passes.
 use Rattle.std.proofs.Common.{◌≡◌, ℕ, zero, suc, ◌+◌, ◌<◌, List, [], ◌∷◌, ◌++◌, length, take, drop, set}
 use Rattle.std.proofs.Common.{get_or, refl, ap, ◌∙◌, arith}
 use Rattle.std.proofs.lemmas.List.{length-map}
@@ -7,11 +7,11 @@ use Rattle.proof_tree.specs.Piece.{Subproblem}
 use Rattle.proof_tree.specs.Weights.{weigh}
 use Rattle.schedule_law.proofs.PieceLemmas.{weigh-append}
 use Rattle.worker_results.specs.Naming.{numbers_from}
-use Rattle.worker_results.specs.Passes.{Owned, Reached, all_taken, deques, took_in}
+use Rattle.worker_results.specs.Passes.{Owned, KnownPass, all_taken, deques, took_back}
 use Rattle.worker_results.specs.Results.{Handed}
 use Rattle.worker_results.specs.Joining.{AreOfAll, numbers_of, total}
 use Rattle.worker_results.specs.Apart.{AreOut}
-use Rattle.worker_results.specs.Taking.{take_in}
+use Rattle.worker_results.specs.Taking.{take_back_row}
 
 -- ---- owners and passes by their numbers
 
@@ -38,7 +38,7 @@ length-numbers_from from zero = refl
 length-numbers_from from (suc n) = ap suc (length-numbers_from (from + 1) n)
 
 -- each pass is at one deque
-length-deques : (rs : List Reached) → length (deques rs) ≡ length rs
+length-deques : (rs : List KnownPass) → length (deques rs) ≡ length rs
 length-deques [] = refl
 length-deques (r ∷ rs) = ap suc (length-deques rs)
 
@@ -55,38 +55,41 @@ owners_long os n e = (let a = ap length e in omega (arith, length-numbers_of os,
 pub results_long : (ds : List Handed) (n : ℕ) → AreOfAll n ds → length ds ≡ n
 results_long ds n e =
     let a = ap length e in
-    let b = length-map ds (λ (d : Handed). d.share.worker) in
+    let b = length-map ds (λ (d : Handed). d.holdings.worker) in
     omega (arith, length-numbers_from 0 n)
 
 -- and the passes of a row
-pub row_long : (rs : List Reached) (from n : ℕ) → deques rs ≡ numbers_from from n → length rs ≡ n
+pub row_long : (rs : List KnownPass) (from n : ℕ) → deques rs ≡ numbers_from from n → length rs ≡ n
 row_long rs from n e = (let a = ap length e in omega (arith, length-deques rs, length-numbers_from from n))
 
 -- the first pass of a row is at the first deque, the rest at those after it
-pub first_deque : (r : Reached) (rs : List Reached) (from : ℕ) → deques (r ∷ rs) ≡ numbers_from from (length (r ∷ rs))
+pub first_deque : (r : KnownPass) (rs : List KnownPass) (from : ℕ)
+    → deques (r ∷ rs) ≡ numbers_from from (length (r ∷ rs))
     → (r.deque ≡ from) × (deques rs ≡ numbers_from (from + 1) (length rs))
 first_deque r rs from e = (cc, cc)
 
 -- ---- one row
 
--- an owner takes in its pass, and those after it take in theirs
-take_step : (os : List Owned) (k : ℕ) (o d : Owned) (r : Reached) (rs : List Reached) → k < length os
-    → o ≡ record { worker = (get_or os k d).worker; knows = took_in (get_or os k d).knows r.knows.taken }
-    → take (suc k) (set os k o) ++ take_in (drop (suc k) (set os k o)) rs ≡ take k os ++ take_in (drop k os) (r ∷ rs)
+-- an owner takes back its pass, and those after it take back theirs
+take_step : (os : List Owned) (k : ℕ) (o d : Owned) (r : KnownPass) (rs : List KnownPass) → k < length os
+    → o ≡ record { worker = (get_or os k d).worker; knows = took_back (get_or os k d).knows r.knows.taken }
+    → take (suc k) (set os k o) ++ take_back_row (drop (suc k) (set os k o)) rs
+    ≡ take k os ++ take_back_row (drop k os) (r ∷ rs)
 take_step [] k o d r rs lt e = absurd (omega arith)
-take_step (x ∷ xs) zero o d r rs lt e = ap (λ y. y ∷ take_in xs rs) e
+take_step (x ∷ xs) zero o d r rs lt e = ap (λ y. y ∷ take_back_row xs rs) e
 take_step (x ∷ xs) (suc k) o d r rs lt e = ap (λ l. x ∷ l) (take_step xs k o d r rs (omega arith) e)
 
--- one owner more took in its pass
-pub take_more : (os : List Owned) (k m : ℕ) (o d : Owned) (r : Reached) (rs : List Reached) → m ≡ suc k
-    → k < length os → o.worker ≡ (get_or os k d).worker → o.knows ≡ took_in (get_or os k d).knows r.knows.taken
-    → take m (set os k o) ++ take_in (drop m (set os k o)) rs ≡ take k os ++ take_in (drop k os) (r ∷ rs)
+-- one owner more took back its pass
+pub take_more : (os : List Owned) (k m : ℕ) (o d : Owned) (r : KnownPass) (rs : List KnownPass) → m ≡ suc k
+    → k < length os → o.worker ≡ (get_or os k d).worker → o.knows ≡ took_back (get_or os k d).knows r.knows.taken
+    → take m (set os k o) ++ take_back_row (drop m (set os k o)) rs ≡ take k os ++ take_back_row (drop k os) (r ∷ rs)
 take_more os k m o d r rs e lt w f =
-    ap (λ n. take n (set os k o) ++ take_in (drop n (set os k o)) rs) e
+    ap (λ n. take n (set os k o) ++ take_back_row (drop n (set os k o)) rs) e
     ∙ take_step os k o d r rs lt (λ i. record { worker = w i; knows = f i })
 
 -- past the last owner all have
-pub take_end : (os : List Owned) (k : ℕ) (rs : List Reached) → k ≡ length os → take k os ++ take_in (drop k os) rs ≡ os
+pub take_end : (os : List Owned) (k : ℕ) (rs : List KnownPass) → k ≡ length os
+    → take k os ++ take_back_row (drop k os) rs ≡ os
 take_end [] zero rs e = refl
 take_end [] (suc k) rs e = absurd (omega arith)
 take_end (o ∷ os) zero rs e = absurd (omega arith)
@@ -94,26 +97,26 @@ take_end (o ∷ os) (suc k) rs e = ap (λ l. o ∷ l) (take_end os k rs (omega a
 
 -- ---- what a row does to the sums
 
--- a row that was taken in leaves one pass less out at each deque
-pub out_in : (n : ℕ) (os : List Owned) (rs : List Reached) → length rs ≡ length os → AreOut (suc n) os
-    → AreOut n (take_in os rs)
+-- a row that was taken back leaves one pass less out at each deque
+pub out_in : (n : ℕ) (os : List Owned) (rs : List KnownPass) → length rs ≡ length os → AreOut (suc n) os
+    → AreOut n (take_back_row os rs)
 out_in n [] rs same all = All-nil (λ (o : Owned). o.knows.out ≡ n)
 out_in n (o ∷ os) [] same all = absurd (omega arith)
 out_in n (o ∷ os) (r ∷ rs) same all =
-    All-cons (λ (x : Owned). x.knows.out ≡ n) _ (take_in os rs)
+    All-cons (λ (x : Owned). x.knows.out ≡ n) _ (take_back_row os rs)
     (let a = All-head (λ (x : Owned). x.knows.out ≡ suc n) o os all in omega arith)
     (out_in n os rs (omega arith) (All-tail (λ (x : Owned). x.knows.out ≡ suc n) o os all))
 
 -- and leaves what was pushed
-pub pushed_in : (h : Subproblem → ℕ) (os : List Owned) (rs : List Reached)
-    → total (λ o. weigh h o.knows.pushed) (take_in os rs) ≡ total (λ o. weigh h o.knows.pushed) os
+pub pushed_in : (h : Subproblem → ℕ) (os : List Owned) (rs : List KnownPass)
+    → total (λ o. weigh h o.knows.pushed) (take_back_row os rs) ≡ total (λ o. weigh h o.knows.pushed) os
 pushed_in h [] rs = refl
 pushed_in h (o ∷ os) [] = refl
 pushed_in h (o ∷ os) (r ∷ rs) = omega (arith, pushed_in h os rs)
 
 -- and adds what its passes took
-pub taken_in : (h : Subproblem → ℕ) (os : List Owned) (rs : List Reached) → length rs ≡ length os
-    → total (λ o. weigh h o.knows.taken) (take_in os rs)
+pub taken_in : (h : Subproblem → ℕ) (os : List Owned) (rs : List KnownPass) → length rs ≡ length os
+    → total (λ o. weigh h o.knows.taken) (take_back_row os rs)
     ≡ total (λ o. weigh h o.knows.taken) os + weigh h (all_taken rs)
 taken_in h [] [] same = refl
 taken_in h [] (r ∷ rs) same = absurd (omega arith)

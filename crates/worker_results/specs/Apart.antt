@@ -8,9 +8,9 @@ use Rattle.proof_tree.specs.Weights.{weigh}
 use Rattle.schedule_law.specs.Joined.{all_kids, least_size, pieces_closed, pieces_opened}
 use Rattle.schedule_law.specs.Worked.{IsWork, Worked}
 use Rattle.worker_results.specs.Naming.{numbers_from}
-use Rattle.worker_results.specs.Passes.{Owned, Reached, all_taken, deques}
+use Rattle.worker_results.specs.Passes.{Owned, KnownPass, all_taken, deques}
 use Rattle.worker_results.specs.Results.{Handed, IsHandedIn}
-use Rattle.worker_results.specs.Shares.{work_of}
+use Rattle.worker_results.specs.Holdings.{work_of}
 use Rattle.worker_results.specs.Joining.{total}
 
 -- so many passes at each deque are still out
@@ -18,7 +18,7 @@ abbrev pub AreOut : ℕ → List Owned → Type 0
 AreOut passes owners = All (λ own. own.knows.out ≡ passes) owners
 
 -- a pass at each deque, in order
-abbrev pub IsRow : ℕ → List Reached → Type 0
+abbrev pub IsRow : ℕ → List KnownPass → Type 0
 IsRow workers row = deques row ≡ numbers_from 0 workers
 
 -- what a worker took, by what became of it
@@ -33,7 +33,7 @@ told_size (Some size) = size
 
 -- what is known of the parts, where the first seat was so before it took in the others, and is so now
 pub record AreApart (region : Instance) (start : ℕ → List Subproblem) (workers : ℕ) (old new : Known)
-    (owners : List Owned) (rows : List (List Reached)) (works : List Worked) : Type 0 where
+    (owners : List Owned) (rows : List (List KnownPass)) (works : List Worked) : Type 0 where
   pub first : new.first ≡ true
   pub out : new.out ≡ old.out - length rows
   pub kept : AtLeast (least_size (told_size old.told) works) new.told
@@ -49,20 +49,20 @@ pub record AreApart (region : Instance) (start : ℕ → List Subproblem) (worke
 
 -- the parts of one result
 pub record AreResultParts (region : Instance) (start : ℕ → List Subproblem) (workers : ℕ) (done : Handed) (own : Owned)
-    (row : List Reached) (work : Worked) : Type 0 where
-  pub owner : own ≡ record { worker = done.share.worker; knows = done.share.own }
-  pub passes : row ≡ done.share.reaches
-  pub heaps : work ≡ work_of done.share done.cover
+    (row : List KnownPass) (work : Worked) : Type 0 where
+  pub owner : own ≡ record { worker = done.holdings.worker; knows = done.holdings.own }
+  pub passes : row ≡ done.holdings.passes
+  pub heaps : work ≡ work_of done.holdings done.cover
   pub out : own.knows.out ≡ workers
   pub each : IsRow workers row
-  pub is_done : IsHandedIn region (start done.share.worker) done
+  pub is_done : IsHandedIn region (start done.holdings.worker) done
 
 -- one result was taken apart, and its parts stand at the ends
 pub record IsOneMore (region : Instance) (start : ℕ → List Subproblem) (workers : ℕ) (done : Handed)
-    (owners : List Owned) (rows : List (List Reached)) (works : List Worked) (more_owners : List Owned)
-    (more_rows : List (List Reached)) (more_works : List Worked) : Type 0 where
+    (owners : List Owned) (rows : List (List KnownPass)) (works : List Worked) (more_owners : List Owned)
+    (more_rows : List (List KnownPass)) (more_works : List Worked) : Type 0 where
   pub own : Owned
-  pub row : List Reached
+  pub row : List KnownPass
   pub work : Worked
   pub are : AreResultParts region start workers done own row work
   pub in_owners : more_owners ≡ owners ++ own ∷ []

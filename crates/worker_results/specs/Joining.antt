@@ -11,7 +11,7 @@ use Rattle.worker_results.specs.Passes.{Owned}
 use Rattle.schedule_law.specs.Joined.{AreJoined}
 use Rattle.schedule_law.specs.Worked.{Worked}
 use Rattle.worker_results.specs.Results.{Handed}
-use Rattle.worker_results.specs.Shares.{work_of}
+use Rattle.worker_results.specs.Holdings.{work_of}
 
 -- a number for each item, added up
 abbrev pub total : {A : Type 0} → (A → ℕ) → List A → ℕ
@@ -20,11 +20,11 @@ total number (item ∷ items) = number item + total number items
 
 -- the workers that handed over
 abbrev pub workers_of : List Handed → List ℕ
-workers_of results = map (λ done. done.share.worker) results
+workers_of results = map (λ done. done.holdings.worker) results
 
 -- what each hands over, without seat and passes
 abbrev pub works_of : List Handed → List Worked
-works_of results = map (λ done. work_of done.share done.cover) results
+works_of results = map (λ done. work_of done.holdings done.cover) results
 
 -- the workers whose deques they own
 abbrev pub numbers_of : List Owned → List ℕ

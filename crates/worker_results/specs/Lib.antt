@@ -1,7 +1,7 @@
 -- public clauses cite
 pub mod Naming
 pub mod Passes
-pub mod Shares
+pub mod Holdings
 pub mod Spendings
 pub mod Results
 pub mod Steps

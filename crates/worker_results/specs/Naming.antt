@@ -13,8 +13,8 @@ abbrev pub DequeId : Type 0
 DequeId = RowsId × Global
 
 -- a pass at a deque of pieces
-abbrev pub Hand : Type 0
-Hand = Pass Subproblem Dealt Global
+abbrev pub PiecePass : Type 0
+PiecePass = Pass Subproblem Dealt Global
 
 -- what takes pieces of a deque by a pass
 abbrev pub Thief : Type 0
@@ -26,8 +26,8 @@ numbers_from first zero = []
 numbers_from first (suc count) = first ∷ numbers_from (first + 1) count
 
 -- what a pass knows
-abbrev pub known_by : Hand → Dealt
-known_by hand = view hand
+abbrev pub known_by : PiecePass → Dealt
+known_by pass = view pass
 
 -- thieves at the deques from this number on, which are first in, first out
 abbrev pub AreThieves : (ℕ → DequeId) → ℕ → List Thief → Type 0

@@ -7,14 +7,14 @@ use Rattle.piece_deque.specs.declared.dealt.Dealt.{Dealt}
 use Rattle.piece_deque.specs.Deals.{dealt_coded}
 
 -- a pass at the deque of this number
-pub record Reached : Type 0 where
+pub record KnownPass : Type 0 where
   pub deque : ℕ
   pub knows : Dealt
 
 -- the code by which passes are told apart by their deque and by what they have done
-abbrev pub reached_coded : Coded Reached
-reached_coded = code_by (ℕ × Dealt) (coded× coded_ℕ dealt_coded)
-    (λ r. (r.deque, r.knows)) (λ p. record { deque = p.0; knows = p.1 }) (λ _. refl)
+abbrev pub known_pass_coded : Coded KnownPass
+known_pass_coded = code_by (ℕ × Dealt) (coded× coded_ℕ dealt_coded)
+    (λ pass. (pass.deque, pass.knows)) (λ p. record { deque = p.0; knows = p.1 }) (λ _. refl)
 
 -- the owner's pass at the deque of this worker
 pub record Owned : Type 0 where
@@ -35,22 +35,22 @@ abbrev pub IsOthers : Dealt → Type 0
 IsOthers pass = (pass.spent ≡ false) × (pass.pushed ≡ [])
 
 -- the numbers of the deques
-abbrev pub deques : List Reached → List ℕ
-deques reaches = map (λ reach. reach.deque) reaches
+abbrev pub deques : List KnownPass → List ℕ
+deques passes = map (λ pass. pass.deque) passes
 
 -- all that the passes took
-abbrev pub all_taken : List Reached → List Subproblem
-all_taken reaches = flat_map (λ reach. reach.knows.taken) reaches
+abbrev pub all_taken : List KnownPass → List Subproblem
+all_taken passes = flat_map (λ pass. pass.knows.taken) passes
 
 -- one of the passes took this piece
-pub record TookOne (old : List Reached) (piece : Subproblem) (new : List Reached) : Type 0 where
+pub record TookOne (old : List KnownPass) (piece : Subproblem) (new : List KnownPass) : Type 0 where
   pub same : deques new ≡ deques old
   pub more : (weight : Subproblem → ℕ)
       → weigh weight (all_taken new) ≡ weigh weight (all_taken old) + weight piece
 
--- the owner's pass after another, which pushed nothing and took these, was handed in
-abbrev pub took_in : Dealt → List Subproblem → Dealt
-took_in pass pieces = record {
+-- the owner's pass after another, which pushed nothing and took these, was taken back
+abbrev pub took_back : Dealt → List Subproblem → Dealt
+took_back pass pieces = record {
   first = pass.first;
   spent = pass.spent;
   out = pass.out - 1;

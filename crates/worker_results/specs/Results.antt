@@ -8,8 +8,9 @@ use Rattle.proof_tree.specs.Piece.{Subproblem}
 use Rattle.beacon.specs.declared.known.Known.{Known}
 use Rattle.beacon.specs.Marks.{Seated, known_coded}
 use Rattle.schedule_law.specs.Worked.{IsWork}
+use Rattle.search_traits.specs.Desks.{DeskState}
 use Rattle.search_traits.specs.Turns.{AreSpent, IsWithin}
-use Rattle.worker_results.specs.Shares.{Shared, shared_coded, AddsUp, work_of}
+use Rattle.worker_results.specs.Holdings.{HeldParts, held_parts_coded, AddsUp, work_of}
 use Rattle.worker_results.specs.Spendings.{spending_coded}
 use Rattle.worker_results.specs.declared.spending.Spending.{Spending}
 
@@ -31,9 +32,9 @@ abbrev pub IsNewSeatAt : TableId → Seated → Type 0
 IsNewSeatAt beacon seat = IsSeatAt beacon seat × (seat.knows.told ≡ None)
 
 -- it granted no more turns than its limit, and all of them where it refused one
-pub record CountsTurns (turns : Option ℕ) (granted : ℕ) (refused : Bool) : Type 0 where
-  pub within : IsWithin turns granted
-  pub all : refused ≡ true → AreSpent turns granted
+pub record CountsTurns (limit : Option ℕ) (granted : ℕ) (is_spent : Bool) : Type 0 where
+  pub within : IsWithin limit granted
+  pub all : is_spent ≡ true → AreSpent limit granted
 
 -- a worker's desk
 pub record Desked : Type 0 where
@@ -41,31 +42,41 @@ pub record Desked : Type 0 where
   -- what its seat knows
   pub knows : Known
   pub cover : Option Covering
-  -- the limit, if there is one
-  pub turns : Option ℕ
+  -- how many turns it grants at most, if they are limited
+  pub limit : Option ℕ
   pub granted : ℕ
   -- whether it refused the last turn that was asked for
-  pub refused : Bool
+  pub is_spent : Bool
 
 -- the code by which desks are told apart, made of those of their parts
 abbrev pub desked_coded : Coded Desked
 desked_coded = code_by (Instance × (Known × (Option Covering × (Option ℕ × (ℕ × Bool)))))
     (coded× instance_coded (coded× known_coded (coded× (coded_option covering_coded)
     (coded× (coded_option coded_ℕ) (coded× coded_ℕ coded_bool)))))
-    (λ d. (d.region, (d.knows, (d.cover, (d.turns, (d.granted, d.refused))))))
+    (λ d. (d.region, (d.knows, (d.cover, (d.limit, (d.granted, d.is_spent))))))
     (λ p. record {
       region = p.0;
       knows = p.1.0;
       cover = p.1.1.0;
-      turns = p.1.1.1.0;
+      limit = p.1.1.1.0;
       granted = p.1.1.1.1.0;
-      refused = p.1.1.1.1.1;
+      is_spent = p.1.1.1.1.1;
     })
     (λ _. refl)
 
+-- what it knows as any desk does: it showed what its seat saw last, and accepted what that told
+abbrev pub state_of : Desked → DeskState
+state_of desk = record {
+  shown = desk.knows.seen;
+  accepted = desk.knows.told;
+  granted = desk.granted;
+  limit = desk.limit;
+  region = desk.region;
+}
+
 -- what a worker hands over
 pub record Handed : Type 0 where
-  pub share : Shared
+  pub holdings : HeldParts
   -- what its seat knows
   pub knows : Known
   pub cover : Option Covering
@@ -73,14 +84,14 @@ pub record Handed : Type 0 where
 
 -- the code by which what workers hand over is told apart, made of those of its parts
 abbrev pub handed_coded : Coded Handed
-handed_coded = code_by (Shared × (Known × (Option Covering × Spending)))
-    (coded× shared_coded (coded× known_coded (coded× (coded_option covering_coded) spending_coded)))
-    (λ h. (h.share, (h.knows, (h.cover, h.turns))))
-    (λ p. record { share = p.0; knows = p.1.0; cover = p.1.1.0; turns = p.1.1.1 })
+handed_coded = code_by (HeldParts × (Known × (Option Covering × Spending)))
+    (coded× held_parts_coded (coded× known_coded (coded× (coded_option covering_coded) spending_coded)))
+    (λ h. (h.holdings, (h.knows, (h.cover, h.turns))))
+    (λ p. record { holdings = p.0; knows = p.1.0; cover = p.1.1.0; turns = p.1.1.1 })
     (λ _. refl)
 
 -- its cover is no larger than any size that its seat told, and its floors are at least what the seat saw
 pub record IsHandedIn (region : Instance) (start : List Subproblem) (handed : Handed) : Type 0 where
-  pub adds_up : AddsUp start handed.share
+  pub adds_up : AddsUp start handed.holdings
   pub kept : KeepsTold handed.cover handed.knows.told
-  pub fit : IsWork region handed.knows.seen (work_of handed.share handed.cover)
+  pub fit : IsWork region handed.knows.seen (work_of handed.holdings handed.cover)

@@ -1,5 +1,5 @@
 -- The turns of workers. This is this project's own.
-use Rattle.std.specs.Prelude.{◌≡◌, ℕ, ◌+◌, Bool, true, false, List, [], ◌∷◌, All, Option, None, refl}
+use Rattle.std.specs.Prelude.{◌≡◌, ℕ, Bool, true, false, Option, refl}
 use Rattle.std.specs.Coded.{Coded, code_by, coded×, coded_ℕ, coded_bool, coded_option}
 use Rattle.search_traits.specs.Turns.{AreSpent, IsWithin}
 use Rattle.worker_results.specs.declared.spending.Spending.{Spending}

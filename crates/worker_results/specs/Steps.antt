@@ -1,25 +1,25 @@
 -- What a worker's steps with a piece leave. This is this project's own.
-use Rattle.std.specs.Prelude.{◌≡◌, ℕ, ◌+◌, List, [], ◌∷◌, ◌++◌, Option}
+use Rattle.std.specs.Prelude.{◌≡◌, ◌≢◌, ℕ, ◌+◌, List, [], ◌∷◌, ◌++◌}
 use Rattle.set_cover.specs.Instance.{Instance}
 use Rattle.proof_tree.specs.Piece.{Subproblem, Fathomed}
 use Rattle.proof_tree.specs.Opened.{Split, kids_of}
 use Rattle.proof_tree.specs.Weights.{weigh}
 use Rattle.schedule_law.specs.Worked.{IsOpenedIn}
-use Rattle.search_traits.specs.Turns.{AreSpent}
-use Rattle.worker_results.specs.Shares.{AreClosedFrom, Shared}
+use Rattle.search_traits.specs.Desks.{DeskState, IsSpent, Works}
+use Rattle.worker_results.specs.Holdings.{AreClosedFrom, HeldParts}
 use Rattle.worker_results.specs.declared.step.Tried.{Tried}
 use Rattle.worker_results.specs.declared.step.Tried.TheVariants.{Got, Empty, Again, OutOfMemory}
 use Rattle.worker_results.specs.declared.step.Step.{Step}
-use Rattle.worker_results.specs.declared.step.Step.TheVariants.{TurnsSpent}
+use Rattle.worker_results.specs.declared.step.Step.TheVariants.{Made, TurnsSpent}
 
 -- floors that reach what the desk showed still do
 abbrev pub KeepFloors : Instance → ℕ → List Fathomed → ℕ → List Fathomed → Type 0
 KeepFloors region shown closed shown_now closed_now =
     AreClosedFrom region shown closed → AreClosedFrom region shown_now closed_now
 
--- turns were spent only where the desk granted all of its limit
-abbrev pub IsSpentOnly : Option ℕ → ℕ → Step → Type 0
-IsSpentOnly limit granted step = step ≡ TurnsSpent → AreSpent limit granted
+-- a step that is made takes a turn where these are limited; turns were spent only where the desk granted all of them
+abbrev pub UsesTurns : DeskState → Step → DeskState → Type 0
+UsesTurns old step new = (step ≡ Made → Works old new) × (step ≡ TurnsSpent → IsSpent new)
 
 -- the kids were pushed or refused
 abbrev pub PushedAll : List Subproblem → List Subproblem → List Subproblem → List Subproblem → List Subproblem → Type 0
@@ -41,20 +41,24 @@ HoldsMore Again held held_now = held_now ≡ held
 HoldsMore OutOfMemory held held_now = held_now ≡ held
 
 -- the piece that was held last is closed
-pub record ClosedLast (share share_now : Shared) : Type 0 where
+pub record ClosedLast (holdings holdings_now : HeldParts) : Type 0 where
   pub fathomed : Fathomed
-  pub taken_off : share.held ≡ share_now.held ++ fathomed.piece ∷ []
-  pub put_on : share_now.closed ≡ share.closed ++ fathomed ∷ []
+  pub taken_off : holdings.held ≡ holdings_now.held ++ fathomed.piece ∷ []
+  pub put_on : holdings_now.closed ≡ holdings.closed ++ fathomed ∷ []
 
 -- the piece that was held last is opened
-pub record OpenedLast (share share_now : Shared) : Type 0 where
+pub record OpenedLast (holdings holdings_now : HeldParts) : Type 0 where
   pub split : Split
-  pub taken_off : share.held ≡ share_now.held ++ split.piece ∷ []
-  pub put_on : share_now.opened ≡ share.opened ++ split ∷ []
+  pub taken_off : holdings.held ≡ holdings_now.held ++ split.piece ∷ []
+  pub put_on : holdings_now.opened ≡ holdings.opened ++ split ∷ []
 
 -- the heaps are as they were
-pub record AreSameHeaps (share share_now : Shared) : Type 0 where
-  pub same_held : share_now.held ≡ share.held
-  pub same_closed : share_now.closed ≡ share.closed
-  pub same_opened : share_now.opened ≡ share.opened
-  pub same_refused : share_now.refused ≡ share.refused
+pub record AreSameHeaps (holdings holdings_now : HeldParts) : Type 0 where
+  pub same_held : holdings_now.held ≡ holdings.held
+  pub same_closed : holdings_now.closed ≡ holdings.closed
+  pub same_opened : holdings_now.opened ≡ holdings.opened
+  pub same_refused : holdings_now.refused ≡ holdings.refused
+
+-- a step that is made leaves them as the relation says, any other as they were
+abbrev pub Leaves : (HeldParts → HeldParts → Type 0) → HeldParts → Step → HeldParts → Type 0
+Leaves makes old step new = (step ≡ Made → makes old new) × (step ≢ Made → AreSameHeaps old new)

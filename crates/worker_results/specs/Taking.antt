@@ -1,19 +1,19 @@
--- Owners take in the other passes at their deques, and empty these. This is this project's own.
+-- Owners take back the other passes at their deques, and empty these. This is this project's own.
 use Rattle.std.specs.Prelude.{◌≡◌, ℕ, ◌+◌, List, [], ◌∷◌}
 use Rattle.proof_tree.specs.Piece.{Subproblem}
 use Rattle.proof_tree.specs.Weights.{weigh}
-use Rattle.worker_results.specs.Passes.{Owned, Reached, all_taken, took_in}
+use Rattle.worker_results.specs.Passes.{Owned, KnownPass, all_taken, took_back}
 use Rattle.worker_results.specs.Joining.{total}
 
--- each owner took in a pass
-abbrev pub take_in : List Owned → List Reached → List Owned
-take_in [] row = []
-take_in (own ∷ owners) [] = own ∷ owners
-take_in (own ∷ owners) (pass ∷ row) =
-    record { worker = own.worker; knows = took_in own.knows pass.knows.taken } ∷ take_in owners row
+-- each owner took back a pass
+abbrev pub take_back_row : List Owned → List KnownPass → List Owned
+take_back_row [] row = []
+take_back_row (own ∷ owners) [] = own ∷ owners
+take_back_row (own ∷ owners) (pass ∷ row) =
+    record { worker = own.worker; knows = took_back own.knows pass.knows.taken } ∷ take_back_row owners row
 
--- all rows were taken in
-pub record TakeRows (owners : List Owned) (rows : List (List Reached)) (new : List Owned) : Type 0 where
+-- all rows were taken back
+pub record TakeRows (owners : List Owned) (rows : List (List KnownPass)) (new : List Owned) : Type 0 where
   pub pushed : (weight : Subproblem → ℕ)
       → total (λ own. weigh weight own.knows.pushed) new ≡ total (λ own. weigh weight own.knows.pushed) owners
   pub taken : (weight : Subproblem → ℕ) → total (λ own. weigh weight own.knows.taken) new

@@ -1,11 +1,13 @@
+//! What waits for a worker before it starts. It is seen as what it would hand over at once, `Handed` of
+//! specs/Results.antt.
 ghost use Rattle.std.specs.Prelude.{◌≡◌, None};
 ghost use Rattle.worker_results.specs.Results.{IsNewSeatAt};
-ghost use Rattle.worker_results.specs.Shares.{IsFresh};
+ghost use Rattle.worker_results.specs.Holdings.{IsFresh};
 ghost use Rattle.worker_results.specs.Spendings.{unspent};
 
 use crate::done::Done;
+use crate::holdings::Holdings;
 use crate::naming::Naming;
-use crate::share::WorkerShare;
 use crate::spending::Spending;
 use beacon::Seat;
 use std::marker::Model;
@@ -14,62 +16,75 @@ use std::marker::Model;
 #[derive(Drop)]
 pub struct Berth<B: Naming> {
     seat: Seat,
-    share: WorkerShare<B>,
+    holdings: Holdings<B>,
 }
 
 impl<B: Naming> Model for Berth<B> {
     ghost use Rattle.std.specs.Prelude.{None};
     ghost use Rattle.worker_results.specs.Results.{Handed, handed_coded, IsNewSeatAt};
-    ghost use Rattle.worker_results.specs.Shares.{IsFresh};
+    ghost use Rattle.worker_results.specs.Holdings.{IsFresh};
     ghost use Rattle.worker_results.specs.Spendings.{unspent};
 
     ghost Value = { Handed };
 
     ghost coded = { handed_coded };
 
-    ghost view = { λ b. record { share = b.share; knows = b.seat.knows; cover = None; turns = unspent None } };
+    ghost view = { λ b. record {
+      holdings = b.holdings;
+      knows = b.seat.knows;
+      cover = None;
+      turns = unspent None;
+    } };
 
-    ghost invariant = { λ b. IsNewSeatAt B.beacon b.seat × IsFresh (B.start b.share.worker) b.share };
+    ghost invariant = { λ b.
+        IsNewSeatAt B.beacon b.seat × IsFresh (B.start b.holdings.worker) b.holdings };
 }
 
 impl<B: Naming> Berth<B> {
-    /// The seat and the share of a worker.
-    pub fn new(seat: Seat, share: WorkerShare<B>) -> Berth<B>
+    /// The berth of a worker, with its seat and its holdings.
+    pub fn new(seat: Seat, holdings: Holdings<B>) -> Berth<B>
         requires seat { IsNewSeatAt B.beacon seat }
-        requires share { IsFresh (B.start share.worker) share }
-        ensures { result ≡ record { share = share; knows = seat.knows; cover = None; turns = unspent None } }
+        requires holdings { IsFresh (B.start holdings.worker) holdings }
+        ensures { result ≡ record {
+          holdings = holdings;
+          knows = seat.knows;
+          cover = None;
+          turns = unspent None;
+        } }
     {
-        Berth { seat, share }
+        Berth { seat, holdings }
     }
 
     /// The worker's number.
     pub fn worker(&self) -> u32
-        ensures { result ≡ self.now.share.worker }
+        ensures { result ≡ self.now.holdings.worker }
     {
-        self.share.worker()
+        self.holdings.worker()
     }
 
-    /// The seat and the share.
-    pub fn into_parts(self) -> (Seat, WorkerShare<B>)
+    /// The seat and the holdings.
+    pub fn into_parts(self) -> (Seat, Holdings<B>)
         ensures seat { IsNewSeatAt B.beacon result.0 × (result.0.knows ≡ self.knows) }
-        ensures share { (result.1 ≡ self.share) × IsFresh (B.start self.share.worker) result.1 }
+        ensures holdings { (result.1 ≡ self.holdings)
+            × IsFresh (B.start self.holdings.worker) result.1 }
     {
-        let Berth { seat, share } = self;
-        (seat, share)
+        let Berth { seat, holdings } = self;
+        (seat, holdings)
     }
 
-    /// The result of a worker that couldn't be started, which had so many turns or any number of them.
+    /// The result of a worker that couldn't be started, with its budget of turns if these are limited.
     pub fn idle(self, limit: Option<u64>) -> Done<B>
-        ensures same { (result.share ≡ self.share) × (result.cover ≡ None) × (result.turns ≡ unspent limit) }
-        ensures fresh { IsFresh (B.start self.share.worker) self.share }
+        ensures same { (result.holdings ≡ self.holdings) × (result.cover ≡ None)
+            × (result.turns ≡ unspent limit) }
+        ensures fresh { IsFresh (B.start self.holdings.worker) self.holdings }
     {
-        let Berth { seat, share } = self;
+        let Berth { seat, holdings } = self;
         let turns = Spending {
             limit,
             granted: 0,
             is_spent: false,
             was_started: false,
         };
-        Done::new(seat, None, share, turns)
+        Done::new(seat, None, holdings, turns)
     }
 }

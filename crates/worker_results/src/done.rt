@@ -1,16 +1,17 @@
-//! What a worker hands over.
+//! What a worker hands over once it is done: `Handed` of specs/Results.antt. What it promises is `IsHandedIn`
+//! there.
 ghost use Rattle.std.specs.Prelude.{◌≡◌, IfSome};
 ghost use Rattle.schedule_law.specs.Worked.{IsCoverFor};
 ghost use Rattle.worker_results.specs.Naming.{numbers_from};
 ghost use Rattle.worker_results.specs.Passes.{deques};
 ghost use Rattle.worker_results.specs.Results.{IsHandedIn, IsSeatAt, KeepsTold};
-ghost use Rattle.worker_results.specs.Shares.{AreClosedFrom, work_of};
+ghost use Rattle.worker_results.specs.Holdings.{AreClosedFrom, work_of};
 ghost use Rattle.worker_results.specs.Spendings.{IsSpending};
 
-use crate::accesses::Accesses;
+use crate::holdings::Holdings;
 use crate::naming::Naming;
 use crate::own::Own;
-use crate::share::WorkerShare;
+use crate::pass_row::PassRow;
 use crate::spending::Spending;
 use beacon::Seat;
 use instance_regions::Cover;
@@ -22,7 +23,7 @@ use std::marker::Model;
 pub struct Done<B: Naming> {
     seat: Seat,
     cover: Option<Cover>,
-    share: WorkerShare<B>,
+    holdings: Holdings<B>,
     turns: Spending,
 }
 
@@ -30,17 +31,23 @@ impl<B: Naming> Model for Done<B> {
     ghost use Rattle.std.specs.Prelude.{IfSome};
     ghost use Rattle.schedule_law.specs.Worked.{IsCoverFor};
     ghost use Rattle.worker_results.specs.Results.{Handed, handed_coded, IsSeatAt, KeepsTold};
-    ghost use Rattle.worker_results.specs.Shares.{AreClosedFrom};
+    ghost use Rattle.worker_results.specs.Holdings.{AreClosedFrom};
     ghost use Rattle.worker_results.specs.Spendings.{IsSpending};
 
     ghost Value = { Handed };
 
     ghost coded = { handed_coded };
 
-    ghost view = { λ d. record { share = d.share; knows = d.seat.knows; cover = d.cover; turns = d.turns } };
+    ghost view = { λ d. record {
+      holdings = d.holdings;
+      knows = d.seat.knows;
+      cover = d.cover;
+      turns = d.turns;
+    } };
 
     ghost invariant = { λ d. IsSeatAt B.beacon d.seat × KeepsTold d.cover d.seat.knows.told
-        × IfSome d.cover (IsCoverFor B.region) × AreClosedFrom B.region d.seat.knows.seen d.share.closed
+        × IfSome d.cover (IsCoverFor B.region)
+        × AreClosedFrom B.region d.seat.knows.seen d.holdings.closed
         × IsSpending d.turns };
 }
 
@@ -49,33 +56,38 @@ impl<B: Naming> Model for Done<B> {
 pub struct Parts<B: Naming> {
     pub seat: Seat,
     pub own: Own<B>,
-    pub reaches: Accesses<B>,
+    pub passes: PassRow<B>,
     pub work: Work,
 }
 
 impl<B: Naming> Done<B> {
     /// The result of a worker.
-    pub fn new(seat: Seat, cover: Option<Cover>, share: WorkerShare<B>, turns: Spending) -> Done<B>
+    pub fn new(seat: Seat, cover: Option<Cover>, holdings: Holdings<B>, turns: Spending) -> Done<B>
         requires seat { IsSeatAt B.beacon seat }
         requires kept { KeepsTold cover seat.knows.told }
         requires cover { IfSome cover (IsCoverFor B.region) }
-        requires floors { AreClosedFrom B.region seat.knows.seen share.closed }
+        requires floors { AreClosedFrom B.region seat.knows.seen holdings.closed }
         requires turns { IsSpending turns }
-        ensures { result ≡ record { share = share; knows = seat.knows; cover = cover; turns = turns } }
+        ensures { result ≡ record {
+          holdings = holdings;
+          knows = seat.knows;
+          cover = cover;
+          turns = turns;
+        } }
     {
         Done {
             seat,
             cover,
-            share,
+            holdings,
             turns,
         }
     }
 
     /// The worker's number.
     pub fn worker(&self) -> u32
-        ensures { result ≡ self.now.share.worker }
+        ensures { result ≡ self.now.holdings.worker }
     {
-        self.share.worker()
+        self.holdings.worker()
     }
 
     /// The worker's turns.
@@ -89,23 +101,25 @@ impl<B: Naming> Done<B> {
     /// All that it hands over but its turns.
     pub fn into_parts(self) -> Parts<B>
         ensures seat { IsSeatAt B.beacon result.seat × (result.seat.knows ≡ self.knows) }
-        ensures own { (result.own.worker ≡ self.share.worker) × (result.own.knows ≡ self.share.own)
+        ensures own { (result.own.worker ≡ self.holdings.worker)
+            × (result.own.knows ≡ self.holdings.own)
             × (result.own.knows.out ≡ B.workers) }
-        ensures reaches { (result.reaches ≡ self.share.reaches) × (deques result.reaches ≡ numbers_from 0 B.workers) }
-        ensures work { result.work ≡ work_of self.share self.cover }
-        ensures done { IsHandedIn B.region (B.start self.share.worker) self }
+        ensures passes { (result.passes ≡ self.holdings.passes)
+            × (deques result.passes ≡ numbers_from 0 B.workers) }
+        ensures work { result.work ≡ work_of self.holdings self.cover }
+        ensures done { IsHandedIn B.region (B.start self.holdings.worker) self }
     {
         let Done {
             seat,
             cover,
-            share,
+            holdings,
             ..
         } = self;
-        let (own, reaches, work) = share.into_parts(cover);
+        let (own, passes, work) = holdings.into_parts(cover);
         Parts {
             seat,
             own,
-            reaches,
+            passes,
             work,
         }
     }

@@ -1,4 +1,5 @@
-//! What is left in a deque once no thread runs any more.
+//! The pieces that are left in a deque once no thread runs any more: `Drained` of specs/Passes.antt. The deque's other
+//! passes were taken back by then.
 ghost use Rattle.std.specs.Prelude.{◌≡◌, IsTrue};
 ghost use Rattle.crossbeam_deque.specs.Handles.{worker_flavor, worker_view};
 ghost use Rattle.piece_deque.specs.Rule.{IsAlone};
@@ -10,7 +11,7 @@ use piece_deque::{Owner, Take, last_take};
 use proof_tree::Piece;
 
 impl<B: Naming> Own<B> {
-    /// Takes what is left, where each other pass was taken in. False where memory was refused.
+    /// Takes what is left, where each other pass was taken back. False where memory was refused.
     pub fn drain(self, left: &mut Vec<Piece>) -> bool
         requires { self.knows.out ≡ 0 }
         ensures { IsTrue result → Drained self.knows left.old.items left.new.items }

@@ -1,4 +1,5 @@
-//! Joining the results of all workers.
+//! The results of all workers, joined: `JoinUp` of specs/Joining.antt. That is all that the law of schedules asks of
+//! them.
 ghost use Rattle.std.specs.Prelude.{◌≡◌, length, IfOk};
 ghost use Rattle.worker_results.specs.Joining.{AreOfAll, IsFirstSeat, JoinUp, works_of};
 

@@ -1,3 +1,5 @@
+//! Names of a search's beacon, deques and region, as a type. So what workers hold and hand over fits together by its
+//! type; the words are those of specs/Naming.antt.
 use std::marker::Brand;
 
 /// Which beacon and deques a type speaks of, and which region. Each call of a search picks them. `start` is what lies

@@ -1,12 +1,14 @@
+//! A worker's own end of its deque: `Owned` of specs/Passes.antt. The worker takes and pushes by it, lends passes and
+//! takes them back.
 ghost use Rattle.std.specs.Prelude.{◌≡◌, ◌≢◌, [], ◌∷◌, IfErr, OnOk};
 ghost use Rattle.crossbeam_deque.specs.Handles.{worker_deque, worker_flavor, worker_view};
 ghost use Rattle.piece_deque.specs.Deals.{one_more_out, pushed_too, thief_pass};
 ghost use Rattle.piece_deque.specs.Rule.{Answers, WasEmpty};
 ghost use Rattle.piece_deque.specs.declared.answer.Take.TheVariants.{Again};
-ghost use Rattle.worker_results.specs.Passes.{IsOwners, took_in};
+ghost use Rattle.worker_results.specs.Passes.{IsOwners, took_back};
 
-use crate::access::Access;
 use crate::naming::Naming;
+use crate::pass_at::PassAt;
 use piece_deque::{Owner, Take};
 use proof_tree::Piece;
 use std::marker::{Model, PhantomData};
@@ -68,27 +70,28 @@ impl<B: Naming> Own<B> {
     pub fn push(&mut self, piece: Piece) -> Result<(), Piece>
         ensures same { self.new.worker ≡ self.old.worker }
         ensures ok { OnOk result (self.new.knows ≡ pushed_too self.old.knows (piece ∷ [])) }
-        ensures err { IfErr result (λ refused. (refused ≡ piece) × (self.new.knows ≡ self.old.knows)) }
+        ensures err { IfErr result (λ refused.
+            (refused ≡ piece) × (self.new.knows ≡ self.old.knows)) }
     {
         piece_deque::push(&mut self.owner, piece)
     }
 
-    /// A pass at this deque for another worker.
-    pub fn hand_out(&mut self) -> Access<B>
+    /// Lends a pass at this deque to another worker.
+    pub fn lend_pass(&mut self) -> PassAt<B>
         ensures same { self.new.worker ≡ self.old.worker }
         ensures own { self.new.knows ≡ one_more_out self.old.knows }
         ensures pass { result ≡ record { deque = self.old.worker; knows = thief_pass } }
     {
-        Access::new(self.worker, piece_deque::hand_out(&mut self.owner))
+        PassAt::new(self.worker, piece_deque::lend_pass(&mut self.owner))
     }
 
-    /// Takes in another worker's pass at this deque.
-    pub fn absorb(&mut self, reach: Access<B>)
-        requires { reach.deque ≡ self.old.worker }
+    /// Takes back another worker's pass at this deque.
+    pub fn take_back(&mut self, pass: PassAt<B>)
+        requires { pass.deque ≡ self.old.worker }
         ensures same { self.new.worker ≡ self.old.worker }
-        ensures done { self.new.knows ≡ took_in self.old.knows reach.knows.taken }
+        ensures done { self.new.knows ≡ took_back self.old.knows pass.knows.taken }
     {
-        piece_deque::hand_in(&mut self.owner, reach.into_hand());
+        piece_deque::take_back(&mut self.owner, pass.into_pass());
     }
 
     /// The deque's end alone.

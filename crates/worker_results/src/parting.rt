@@ -1,13 +1,14 @@
-//! Results are taken apart, and their seats joined.
+//! Results are taken apart, and their seats joined to the first one: `AreApart` of specs/Apart.antt. The parts stand in
+//! the order of the results.
 ghost use Rattle.std.specs.Prelude.{◌≡◌, length, true, IfOk};
 ghost use Rattle.beacon.specs.Marks.{together};
 ghost use Rattle.worker_results.specs.Apart.{AreApart, AreResultParts, IsOneMore};
 ghost use Rattle.worker_results.specs.Joining.{numbers_of, workers_of, works_of};
 
-use crate::accesses::Accesses;
 use crate::done::{Done, Parts};
 use crate::naming::Naming;
 use crate::own::Own;
+use crate::pass_row::PassRow;
 use beacon::{Beacon, Seat};
 use cave_model::OutOfMemory;
 use schedule_law::Work;
@@ -18,7 +19,7 @@ use std::alloc::Global;
 pub(crate) struct AllParts<B: Naming> {
     pub(crate) first: Seat,
     pub(crate) owners: Vec<Own<B>>,
-    pub(crate) rows: Vec<Accesses<B>>,
+    pub(crate) rows: Vec<PassRow<B>>,
     pub(crate) works: Vec<Work>,
 }
 
@@ -32,9 +33,11 @@ pub(crate) fn part_all<B: Naming>(
     requires beacon { (beacon.now ≡ B.beacon) × (first.beacon ≡ B.beacon) }
     requires first { first.knows.first ≡ true }
     ensures seat { IfOk result (λ parts. parts.first.beacon ≡ B.beacon) }
-    ensures apart { IfOk result (λ parts. AreApart B.region B.start B.workers first.knows parts.first.knows
+    ensures apart { IfOk result (λ parts. AreApart B.region B.start B.workers
+        first.knows parts.first.knows
         parts.owners.items parts.rows.items parts.works.items) }
-    ensures numbers { IfOk result (λ parts. numbers_of parts.owners.items ≡ workers_of results.items) }
+    ensures numbers { IfOk result (λ parts.
+        numbers_of parts.owners.items ≡ workers_of results.items) }
     ensures rows { IfOk result (λ parts. length parts.rows.items ≡ length results.items) }
     ensures works { IfOk result (λ parts. parts.works.items ≡ works_of results.items) }
 {
@@ -73,12 +76,12 @@ fn part_one<B: Naming>(
     let Parts {
         seat,
         own,
-        reaches,
+        passes,
         work,
     } = apart(done);
     beacon.join(&mut first, seat);
     owners.push(own)?;
-    rows.push(reaches)?;
+    rows.push(passes)?;
     works.push(work)?;
     Ok(AllParts {
         first,
@@ -91,7 +94,8 @@ fn part_one<B: Naming>(
 /// The parts of a result.
 fn apart<B: Naming>(done: Done<B>) -> Parts<B>
     ensures seat { (result.seat.beacon ≡ B.beacon) × (result.seat.knows ≡ done.knows) }
-    ensures parts { AreResultParts B.region B.start B.workers done result.own result.reaches result.work }
+    ensures parts { AreResultParts B.region B.start B.workers done
+        result.own result.passes result.work }
 {
     done.into_parts()
 }

@@ -1,9 +1,10 @@
-//! A worker's desk.
+//! The desk of one of many workers: `Desked` of specs/Results.antt. It plays the role of search_traits' `Desk` over the
+//! beacon that all share.
 ghost use Rattle.std.specs.Arc.{arc_value};
 ghost use Rattle.std.specs.Prelude.{◌≡◌, None, false, true, IfSome};
 ghost use Rattle.schedule_law.specs.Worked.{IsCoverFor};
 ghost use Rattle.search_traits.specs.Turns.{AreSpent, IsWithin};
-ghost use Rattle.worker_results.specs.Results.{IsNewSeatAt, IsSeatAt, KeepsTold};
+ghost use Rattle.worker_results.specs.Results.{IsNewSeatAt, IsSeatAt, KeepsTold, state_of};
 ghost use Rattle.worker_results.specs.Spendings.{IsSpending};
 
 use crate::naming::Naming;
@@ -11,7 +12,7 @@ use crate::spending::Spending;
 use beacon::{Beacon, Seat};
 use cave_model::OutOfMemory;
 use instance_regions::{Cover, Region};
-use search_core::Desk;
+use search_traits::Desk;
 use std::marker::{Model, PhantomData};
 use std::sync::Arc;
 
@@ -21,9 +22,9 @@ pub struct PoolDesk<'a, B: Naming> {
     region: &'a Arc<Region>,
     seat: Seat,
     cover: Option<Cover>,
-    turns: Option<u64>,
+    limit: Option<u64>,
     granted: u64,
-    refused: bool,
+    is_spent: bool,
     of: PhantomData<B>,
 }
 
@@ -41,23 +42,23 @@ impl<'a, B: Naming> Model for PoolDesk<'a, B> {
       region = arc_value d.region.now;
       knows = d.seat.knows;
       cover = d.cover;
-      turns = d.turns;
+      limit = d.limit;
       granted = d.granted;
-      refused = d.refused;
+      is_spent = d.is_spent;
     } };
 
     ghost invariant = { λ d. (d.beacon.now ≡ B.beacon) × (arc_value d.region.now ≡ B.region)
         × IsSeatAt B.beacon d.seat × KeepsTold d.cover d.seat.knows.told
-        × IfSome d.cover (IsCoverFor B.region) × CountsTurns d.turns d.granted d.refused };
+        × IfSome d.cover (IsCoverFor B.region) × CountsTurns d.limit d.granted d.is_spent };
 }
 
 impl<'a, B: Naming> PoolDesk<'a, B> {
-    /// A desk that grants so many turns, or any number of them.
+    /// A desk that grants turns up to this limit, or any number of them.
     pub fn new(
         beacon: &'a Beacon,
         region: &'a Arc<Region>,
         seat: Seat,
-        turns: Option<u64>,
+        limit: Option<u64>,
     ) -> PoolDesk<'a, B>
         requires places { (beacon.now ≡ B.beacon) × (arc_value region.now ≡ B.region) }
         requires seat { IsNewSeatAt B.beacon seat }
@@ -65,9 +66,9 @@ impl<'a, B: Naming> PoolDesk<'a, B> {
           region = B.region;
           knows = seat.knows;
           cover = None;
-          turns = turns;
+          limit = limit;
           granted = 0;
-          refused = false;
+          is_spent = false;
         } }
     {
         PoolDesk {
@@ -75,9 +76,9 @@ impl<'a, B: Naming> PoolDesk<'a, B> {
             region,
             seat,
             cover: None,
-            turns,
+            limit,
             granted: 0,
-            refused: false,
+            is_spent: false,
             of: PhantomData,
         }
     }
@@ -85,17 +86,17 @@ impl<'a, B: Naming> PoolDesk<'a, B> {
     /// How many turns it granted: at most its limit, and at most the greatest value of a `u64`.
     pub fn granted(&self) -> u64
         ensures granted { result ≡ self.now.granted }
-        ensures within { IsWithin self.now.turns result }
+        ensures within { IsWithin self.now.limit result }
     {
         self.granted
     }
 
     /// Whether a turn was asked for last that it didn't grant.
     pub fn is_spent(&self) -> bool
-        ensures refused { result ≡ self.now.refused }
-        ensures spent { result ≡ true → AreSpent self.now.turns self.now.granted }
+        ensures asked { result ≡ self.now.is_spent }
+        ensures spent { result ≡ true → AreSpent self.now.limit self.now.granted }
     {
-        self.refused
+        self.is_spent
     }
 
     /// The region.
@@ -111,9 +112,9 @@ impl<'a, B: Naming> PoolDesk<'a, B> {
         ensures cover { (result.1 ≡ self.entry.cover) × IfSome result.1 (IsCoverFor B.region) }
         ensures kept { KeepsTold result.1 result.0.knows.told }
         ensures turns { result.2 ≡ record {
-          limit = self.entry.turns;
+          limit = self.entry.limit;
           granted = self.entry.granted;
-          is_spent = self.entry.refused;
+          is_spent = self.entry.is_spent;
           was_started = true;
         } }
         ensures counted { IsSpending result.2 }
@@ -123,15 +124,15 @@ impl<'a, B: Naming> PoolDesk<'a, B> {
             region: _,
             seat,
             cover,
-            turns,
+            limit,
             granted,
-            refused,
+            is_spent,
             of: _,
         } = self;
         let turns = Spending {
-            limit: turns,
+            limit,
             granted,
-            is_spent: refused,
+            is_spent,
             was_started: true,
         };
         (seat, cover, turns)
@@ -139,15 +140,7 @@ impl<'a, B: Naming> PoolDesk<'a, B> {
 }
 
 impl<'a, B: Naming> Desk for PoolDesk<'a, B> {
-    ghost shown = { λ d. d.knows.seen };
-
-    ghost accepted = { λ d. d.knows.told };
-
-    ghost granted = { λ d. d.granted };
-
-    ghost limit = { λ d. d.turns };
-
-    ghost region = { λ d. d.region };
+    ghost state = { λ d. state_of d };
 
     fn look(&mut self) -> u64 {
         self.beacon.look(&mut self.seat)
@@ -167,14 +160,14 @@ impl<'a, B: Naming> Desk for PoolDesk<'a, B> {
     }
 
     fn enter(&mut self) -> bool {
-        match self.turns {
+        match self.limit {
             Some(limit) if self.granted >= limit => {
-                self.refused = true;
+                self.is_spent = true;
                 false
             }
             _ => {
                 self.granted = self.granted.saturating_add(1);
-                self.refused = false;
+                self.is_spent = false;
                 true
             }
         }

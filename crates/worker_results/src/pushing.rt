@@ -1,4 +1,5 @@
-//! Pushing the kids of a piece that was opened.
+//! The kids of a piece that was opened are pushed on its worker's own deque: `PushedAll` of specs/Steps.antt. Those for
+//! which it has no room are kept back.
 ghost use Rattle.std.specs.Prelude.{◌≡◌, ◌≤◌, ◌+◌, vec_len, vec_capacity};
 ghost use Rattle.worker_results.specs.Steps.{PushedAll};
 
@@ -10,8 +11,10 @@ use proof_tree::Piece;
 pub(crate) fn push_all<B: Naming>(own: &mut Own<B>, kids: Vec<Piece>, refused: &mut Vec<Piece>)
     requires room { vec_len refused.old + vec_len kids ≤ vec_capacity refused.old }
     ensures worker { own.new.worker ≡ own.old.worker }
-    ensures same { (own.new.knows.taken ≡ own.old.knows.taken) × (own.new.knows.out ≡ own.old.knows.out) }
-    ensures all { PushedAll own.old.knows.pushed refused.old.items kids.items own.new.knows.pushed refused.new.items }
+    ensures same { (own.new.knows.taken ≡ own.old.knows.taken)
+        × (own.new.knows.out ≡ own.old.knows.out) }
+    ensures all { PushedAll own.old.knows.pushed refused.old.items kids.items
+        own.new.knows.pushed refused.new.items }
 {
     for kid in kids {
         match own.push(kid) {

@@ -1,4 +1,5 @@
-//! Which piece is opened, on which cell, and its kids.
+//! A piece is opened, with its kids, where that is worth while: `IsOpening` of specs/Steps.antt. Which pieces are, and
+//! on which cell, is the search's own choice.
 ghost use Rattle.std.specs.Prelude.{◌≡◌, ◌≢◌, ◌<◌, length, IfErr, IfOk, IfSome};
 ghost use Rattle.worker_results.specs.Steps.{IsOpening};
 ghost use Rattle.worker_results.specs.declared.step.Step.TheVariants.{Made, TurnsSpent};
@@ -8,23 +9,24 @@ use cave_base::Cell;
 use cave_model::OutOfMemory;
 use instance_regions::Region;
 use proof_tree::{Opened, Piece};
-use search_core::{Strategy, cell_to_open};
+use search_traits::Closer;
 use std::alloc::Global;
 
 /// Pieces whose names are as long as this, or longer, are closed and not opened.
 const LONGEST: usize = 3;
 
 /// The piece opened on a cell, with its kids. It comes back where it isn't to be opened, or memory was refused.
-pub(crate) fn split<S: Strategy>(
+pub(crate) fn split<C: Closer>(
     alloc: Global,
     region: &Region,
     piece: Piece,
     size: u64,
 ) -> Result<(Opened, Vec<Piece>), (Piece, Step)>
     ensures opened { IfOk result (λ made. IsOpening region.now piece made.0 made.1.items) }
-    ensures back { IfErr result (λ back. (back.0 ≡ piece) × (back.1 ≢ Made) × (back.1 ≢ TurnsSpent)) }
+    ensures back { IfErr result (λ back.
+        (back.0 ≡ piece) × (back.1 ≢ Made) × (back.1 ≢ TurnsSpent)) }
 {
-    let Ok(found) = cell_for::<S>(alloc, region, &piece, size) else {
+    let Ok(found) = cell_for::<C>(alloc, region, &piece, size) else {
         return Err((piece, Step::OutOfMemory));
     };
     let Some(cell) = found else {
@@ -45,7 +47,7 @@ pub(crate) fn split<S: Strategy>(
 
 /// The cell to open the piece on, where it is of the region, its name is short, and the largest packing found is too
 /// small for a leaf that closes it at this size (this project's own).
-fn cell_for<S: Strategy>(
+fn cell_for<C: Closer>(
     alloc: Global,
     region: &Region,
     piece: &Piece,
@@ -57,5 +59,5 @@ fn cell_for<S: Strategy>(
     if piece.name().as_slice().len() >= LONGEST || !region.is_same(piece.region()) {
         return Ok(None);
     }
-    cell_to_open::<S>(alloc, piece, size)
+    C::cell_to_open(alloc, piece, size)
 }

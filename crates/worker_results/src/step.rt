@@ -1,4 +1,5 @@
-//! What a worker's steps answer.
+//! The answers of a worker's steps: what came of a try to take a piece, and of work on it. specs/Steps.antt says what
+//! each leaves.
 
 /// What a try to take a piece gave.
 #[derive(Clone, Copy, Debug, PartialEq, Eq)]

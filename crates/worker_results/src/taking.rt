@@ -1,14 +1,15 @@
-//! Taking a piece, to be held until it is closed or opened.
+//! A worker takes a piece from its own deque, or steals one from another's, and holds it until it is closed or opened:
+//! `HoldsMore` of specs/Steps.antt.
 ghost use Rattle.std.specs.Prelude.{◌≡◌, ◌<◌, length};
 ghost use Rattle.worker_results.specs.Naming.{AreThieves};
 ghost use Rattle.worker_results.specs.Steps.{HoldsMore};
 
+use crate::holdings::Holdings;
 use crate::naming::Naming;
-use crate::share::WorkerShare;
 use crate::step::Tried;
 use piece_deque::{Take, Thief};
 
-impl<B: Naming> WorkerShare<B> {
+impl<B: Naming> Holdings<B> {
     /// Takes a piece of its own deque, if there is one, and holds it.
     pub fn take(&mut self) -> Tried
         ensures worker { self.new.worker ≡ self.old.worker }
@@ -39,7 +40,7 @@ impl<B: Naming> WorkerShare<B> {
         if self.held.reserve(1).is_err() {
             return Tried::OutOfMemory;
         }
-        match self.reaches.steal(thieves, deque) {
+        match self.passes.steal(thieves, deque) {
             Take::Got(piece) => {
                 self.held.push_reserved(piece);
                 Tried::Got

@@ -1,7 +1,9 @@
-use Rattle.std.proofs.Common.{◌∙◌, ℕ, Bool, List, Option, length, refl, ap, sym, subst, arith}
+use Rattle.std.proofs.Common.{◌∙◌, ℕ, Bool, List, Option, length, ap, sym, subst, arith}
 use Rattle.event_core.specs.State.{State}
 use Rattle.event_core.specs.Kept.{state_of}
-use Rattle.search_traits.specs.Turns.{Works}
+use Rattle.search_traits.specs.Alone.{state_of as desk_of}
+use Rattle.search_traits.specs.Turns.{TookOne}
+use Rattle.search_traits.proofs.DeskLemmas.{continues_same, continues_then}
 use Rattle.gathering.specs.Gathered.{EachTook}
 use Rattle.gathering.specs.Gleaning.{GleansWhere}
 use Rattle.gathering.proofs.GleanLemmas.{glean_start, glean_next, glean_past}
@@ -16,8 +18,7 @@ loop-name-init g c = (
       c.new-gleaned.ensures.items c.into_iter-name-iterator.ensures.into_iter_gives.0 c.requires.none_held
       c.in_ok-name-items.ensures,
   c.requires.of_it,
-  refl,
-  refl,
+  continues_same (desk_of c.args.desk.now),
   subst (λ (l : List (List ℕ)). EachTook c.args.desk.now.limit (length l) c.args.desk.now.granted
       c.args.desk.now.granted) (sym c.new-gleaned.ensures.items)
       (took_none c.args.desk.now.limit c.args.desk.now.granted),
@@ -33,35 +34,33 @@ pub loop-name-preserved : goal.loop-name-preserved
 loop-name-preserved g c =
     let now = state_of c.loop-name.core in let next = state_of c.glean_one.new.core in let name = c.in-Some.name in
     let w = c.args.caller in
-    let inv = c.loop-name.invariant in let same = c.in_ok-glean_one.ensures.same in
+    let inv = c.loop-name.invariant in let onward = c.in_ok-glean_one.ensures.onward in
     let gleans = c.in_ok-glean_one.ensures.gleans in
     let past = subst (λ (b : Bool). GleansWhere now w name next b) c.if-branch.false gleans in (
       glean_past (state_of c.args.core.now) w c.loop-name.gleaned.items now name c.loop-name.name-iterator.rest.items
           c.next.new.self.rest.items next
           inv.0 c.in-Some.ensures.steps.0 past.0 past.1,
-      same.0 ∙ inv.1 ∙ sym (ap (λ (s : State). s.region) past.1),
-      same.0 ∙ inv.2,
-      same.1 ∙ inv.3,
+      onward.region ∙ inv.1 ∙ sym (ap (λ (s : State). s.region) past.1),
+      continues_then (desk_of c.args.desk.now) (desk_of c.loop-name.desk) (desk_of c.glean_one.new.desk) inv.2 onward,
       took_past c.args.desk.now.limit (length c.loop-name.gleaned.items) c.args.desk.now.granted
-          c.loop-name.desk.granted c.glean_one.new.desk.granted inv.4 c.glean_one.ensures.more,
+          c.loop-name.desk.granted c.glean_one.new.desk.granted inv.3 c.glean_one.ensures.onward.granted,
     )
 
 pub loop-name-preserved-in-Continue-branch-3 : goal.loop-name-preserved-in-Continue-branch-3
 loop-name-preserved-in-Continue-branch-3 g c =
     let now = state_of c.loop-name.core in let next = state_of c.glean_one.new.core in let name = c.in-Some.name in
     let w = c.args.caller in
-    let inv = c.loop-name.invariant in let same = c.in_ok-glean_one.ensures.same in
+    let inv = c.loop-name.invariant in let onward = c.in_ok-glean_one.ensures.onward in
     let one = subst (λ (b : Bool). GleansWhere now w name next b) c.if-branch.true c.in_ok-glean_one.ensures.gleans in (
       glean_next (state_of c.args.core.now) w c.loop-name.gleaned.items c.push.new.self.items now name
           c.loop-name.name-iterator.rest.items c.next.new.self.rest.items next
           inv.0 c.in-Some.ensures.steps.0 one c.in_ok-push.ensures.items,
-      same.0 ∙ inv.1 ∙ sym (like_one now w name next one).of_it,
-      same.0 ∙ inv.2,
-      same.1 ∙ inv.3,
+      onward.region ∙ inv.1 ∙ sym (like_one now w name next one).of_it,
+      continues_then (desk_of c.args.desk.now) (desk_of c.loop-name.desk) (desk_of c.glean_one.new.desk) inv.2 onward,
       subst (λ (l : List (List ℕ)). EachTook c.args.desk.now.limit (length l) c.args.desk.now.granted
           c.glean_one.new.desk.granted) (sym c.in_ok-push.ensures.items)
           (took_next c.args.desk.now.limit c.loop-name.gleaned.items name c.args.desk.now.granted
-          c.loop-name.desk.granted c.glean_one.new.desk.granted inv.4
-          (subst (λ (o : Option ℕ). Works o c.loop-name.desk.granted c.glean_one.new.desk.granted) inv.3
+          c.loop-name.desk.granted c.glean_one.new.desk.granted inv.3
+          (subst (λ (o : Option ℕ). TookOne o c.loop-name.desk.granted c.glean_one.new.desk.granted) inv.2.limit
           (c.in_ok-glean_one.ensures.worked c.if-branch.true))),
     )

@@ -33,7 +33,8 @@ finish-requires g c =
       holds = subst (λ (p : Subproblem). HasPart s1 p.name p.chosen p.barred (held w)) (sym of_it)
           (taken_piece s0 w name s1 piece waits takes);
       piece_of_it = ap (λ (p : Subproblem). p.region) of_it ∙ waits.0 ∙ sym like.of_it;
-      cover_of_it = ap (λ (x : Covering). x.region) cover ∙ c.in-Ok.ensures.same.0 ∙ c.requires.of_it ∙ sym like.of_it;
+      cover_of_it = ap (λ (x : Covering). x.region) cover ∙ c.in-Ok.ensures.onward.region ∙ c.requires.of_it
+          ∙ sym like.of_it;
       reaches = omega (arith, size, c.cover.ensures.kept.not_above, c.in-Ok.ensures.closed.reached);
     }
 

@@ -74,4 +74,4 @@ stopped-requires-clause-of_it g c =
     let caller = c.in-Some.ensures.0 ∙ ap length c.deref.ensures.value in
     let desk = ap (λ (x : Covering). x.region) (c.new-desk.ensures.cover ∙ c.in_ok-try_clone-2.ensures
     ∙ c.best.ensures) in
-    c.in-Err-TurnsSpent.ensures.same.0 ∙ desk ∙ played_region region first root works counts closed p
+    c.in-Err-TurnsSpent.ensures.onward.region ∙ desk ∙ played_region region first root works counts closed p

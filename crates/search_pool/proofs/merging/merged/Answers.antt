@@ -9,6 +9,7 @@ use Rattle.schedule_law.specs.Worked.{Worked}
 use Rattle.search_pool.specs.Reports.{StopsPool, sum_of}
 use Rattle.search_pool.specs.Tallies.{AreTallied}
 use Rattle.search_pool.specs.Turns.{left}
+use Rattle.search_pool.proofs.CrewLemmas.{few_workers}
 use Rattle.search_pool.proofs.ReportLemmas.{all_by_workers, all_came, all_gleaned, counted_at}
 use Rattle.search_pool.proofs.TurnLemmas.{both_within, stops_both}
 use Rattle.search_pool.proofs.merging.merged.Goals as goal
@@ -17,7 +18,7 @@ pub report-requires-clause-gleaned : goal.report-requires-clause-gleaned
 report-requires-clause-gleaned g c =
     let works = c.args.ran.joined.works.items in
     let left = c.args.ran.joined.left.items in
-    let all = counted_at (arc_value c.args.region.now) c.args.first.places c.args.root.now works left
+    let all = counted_at (arc_value c.args.region.now) c.args.rooted.cover.places c.args.rooted.root works left
     c.requires.run.joined c.cell.result _ c.cell.ensures c.in-Ok.ensures.gathered in
     let tally = c.count_pieces-counts.result in
     let told = subst (λ (l : List Worked). AreTallied l tally) c.deref.ensures.value
@@ -33,7 +34,7 @@ returns-in-Ok-clause-counts g c =
     let tally = c.count_pieces-counts.result in
     let told = subst (λ (l : List Worked). AreTallied l tally) c.deref.ensures.value
     c.count_pieces-counts.ensures.counted in
-    let all = counted_at (arc_value c.args.region.now) c.args.first.places c.args.root.now works left
+    let all = counted_at (arc_value c.args.region.now) c.args.rooted.cover.places c.args.rooted.root works left
     c.requires.run.joined c.cell.result _ c.cell.ensures c.in-Ok.ensures.gathered in
     let gleaned = all_gleaned works left _ tally all told in
     let closed = ap sum_of c.report.ensures.same.2 ∙ all_by_workers works left _ tally all told in
@@ -50,28 +51,29 @@ returns-in-Ok-clause-report g c =
     let region = arc_value c.args.region.now in
     let works = c.args.ran.joined.works.items in
     let left = c.args.ran.joined.left.items in
-    let root = c.args.root.now in
+    let root = c.args.rooted.root in
     let tally = c.count_pieces-counts.result in
     let told = subst (λ (l : List Worked). AreTallied l tally) c.deref.ensures.value
     c.count_pieces-counts.ensures.counted in
     let run = c.requires.run in
     let gathered = c.in-Ok.gathered in
-    let came = all_came region c.args.first.places root works left run.joined tally c.requires.root told in
+    let is = c.requires.rooted in
+    let came = all_came region c.args.rooted.cover.places root works left run.joined tally is.is_root told in
     let r = c.report.ensures in
     let long = c.len-left.ensures in
     let a = r.pushed in let b = r.numbers.0 in let d = r.numbers.1 in let e = r.numbers.2 in let f = r.gleaned in
     let t0 = told.opened in let t1 = told.back in let t2 = told.refused in
     record {
-      first = c.args.first;
-      covers = c.requires.first;
+      first = c.args.rooted.cover;
+      covers = c.requires.rooted.covers;
       root = root;
-      is_root = c.requires.root;
+      is_root = c.requires.rooted.is_root;
       works = works;
       left = left;
       run = run;
       names = gathered.gleaned.items;
       gathered = subst (λ (x : ℕ × (Covering × (Tree × List ℕ))).
-          IsGathered region c.args.first.places x.0 works (record {
+          IsGathered region c.args.rooted.cover.places x.0 works (record {
             cover = x.1.0;
             tree = x.1.1.0;
             closed_by = x.1.1.1;
@@ -90,26 +92,29 @@ returns-in-Ok-clause-report g c =
 pub returns-in-Ok-clause-granted : goal.returns-in-Ok-clause-granted
 returns-in-Ok-clause-granted g c =
     let turns = c.args.turns in let granted = c.args.ran.turns in let more = c.in-Ok.gathered.turns in
-    let spent = c.args.ran.spent in
+    let spent = c.args.ran.is_spent in
     let within = subst (λ (o : Option ℕ). IsWithin o more) c.left_of-rest.ensures c.in-Ok.ensures.granted in
-    subst (IsWithin turns) (sym c.report.ensures.turns) (both_within turns granted more spent c.requires.turns within)
+    subst (IsWithin turns) (sym c.report.ensures.turns)
+    (both_within turns granted more spent c.requires.turns.within within)
 
 pub returns-in-Err-Stopped : goal.returns-in-Err-Stopped
 returns-in-Err-Stopped g c =
     let region = arc_value c.args.region.now in let turns = c.args.turns in let granted = c.args.ran.turns in
-    let spent = c.args.ran.spent in let cover = c.in-Err-Stopped.cover in let least = c.in-Err-Stopped.least in
+    let spent = c.args.ran.is_spent in let cover = c.in-Err-Stopped.cover in let least = c.in-Err-Stopped.least in
     let more = c.in-Err-Stopped.more in
     let stops = subst (StopsGathering region (left turns granted spent)) c.in-Err-Stopped.field-0-is
     (subst (λ (o : Option ℕ). StopsGathering region o c.in-Err-Stopped.field-0) c.left_of-rest.ensures
     c.in-Err-Stopped.ensures.stopped) in
+    let number = c.args.workers.number in
     record {
       best = tt;
       counts = tt;
       report = tt;
       granted = tt;
-      stopped = subst (λ (v : Covering). StopsPool region turns (Stopped v c.max.result c.sum.result))
+      stopped = subst (λ (v : Covering). StopsPool region turns number (Stopped v c.max.result c.sum.result))
           (sym c.in-Err-Stopped.cover-is)
-          (stops_both region turns granted spent cover c.args.floor least more c.max.result c.sum.result
-          c.requires.turns c.requires.floor stops (omega (arith, c.max.ensures, c.in-Err-Stopped.least-is))
+          (stops_both region number turns granted spent cover c.args.rooted.floor least more c.max.result c.sum.result
+          (few_workers number c.args.workers.some).0 c.requires.turns c.requires.rooted.none_below stops
+          (omega (arith, c.max.ensures, c.in-Err-Stopped.least-is))
           (omega (arith, c.sum.ensures, c.in-Err-Stopped.more-is)));
     }

@@ -1,6 +1,6 @@
 use Rattle.std.proofs.Common.{◌∙◌, refl, ap, arith}
 use Rattle.proof_tree.specs.Shape.{tree_of}
-use Rattle.search_core.proofs.AloneLemmas.{best_proved}
+use Rattle.search_traits.proofs.PlannedLemmas.{best_proved}
 use Rattle.search_pool.specs.Reports.{sum_of}
 use Rattle.search_pool.proofs.ReportLemmas.{no_sum}
 use Rattle.search_pool.proofs.planning.one_leaf.Goals as goal

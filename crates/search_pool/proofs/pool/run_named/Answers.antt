@@ -1,13 +1,12 @@
-use Rattle.std.proofs.Common.{◌≡◌, ◌∙◌, ℕ, List, length, ap, subst, sym, arith}
-use Rattle.search_traits.specs.Turns.{IsWithin}
-use Rattle.search_pool.specs.Rows.{AreSpendings, all_granted, counted}
+use Rattle.std.proofs.Common.{◌≡◌, ◌∙◌, ℕ, Bool, List, length, ap, subst, sym, arith}
+use Rattle.search_pool.specs.Rows.{AreSpendings, all_granted, counted, is_spent}
+use Rattle.search_pool.specs.Turns.{AreGranted}
 use Rattle.search_pool.proofs.SlotLemmas.{in_a_row, length-map, owned_long}
 use Rattle.search_pool.proofs.CrewLemmas.{few_workers}
-use Rattle.search_pool.proofs.TurnLemmas.{granted_within}
+use Rattle.search_pool.proofs.TurnLemmas.{granted_of}
 use Rattle.worker_results.specs.Naming.{numbers_from}
 use Rattle.worker_results.specs.Results.{Handed}
-use Rattle.worker_results.specs.Shares.{work_of}
-use Rattle.worker_results.specs.Joining.{workers_of}
+use Rattle.worker_results.specs.Holdings.{work_of}
 use Rattle.search_pool.proofs.pool.run_named.Goals as goal
 
 pub run_scope-requires-clause-some : goal.run_scope-requires-clause-some
@@ -50,7 +49,7 @@ returns-clause-run g c =
     record {
       joined = joined.joined c.args.run.root.now c.requires.root c.requires.start;
       each = (let w = ap length joined.works in
-          let m = length-map (λ (done : Handed). work_of done.share done.cover) results in
+          let m = length-map (λ (done : Handed). work_of done.holdings done.cover) results in
           let l = c.in_ok-results.ensures.1 in
           let each = c.in_ok-slots.ensures.each in let same = c.requires.few.0 in
           let slice = c.as_slice.ensures.len in omega (arith, w, m, l, long, each, same, slice));
@@ -59,7 +58,15 @@ returns-clause-run g c =
 pub returns-clause-turns : goal.returns-clause-turns
 returns-clause-turns g c =
     let results = c.in_ok-results.results.items in
+    let workers = c.args.run.workers.number in
+    let turns = c.args.run.turns in
     let now = c.deref-2.ensures.value in
-    let all = subst AreSpendings now c.spent_by-turns.ensures.each in
+    let each = subst AreSpendings now c.spent_by-turns.ensures.each in
     let sum = c.spent_by-turns.ensures.granted ∙ ap (λ (l : List Handed). counted (all_granted l)) now in
-    subst (IsWithin c.args.run.turns) (sym sum) (granted_within c.args.run.turns results c.in_ok-results.ensures.0 all)
+    let asked = c.spent_by-turns.ensures.spent ∙ ap is_spent now in
+    let long = owned_long c.in_ok-passes.passes.owned.items g.B.Naming.workers c.in_ok-passes.ensures.numbers in
+    let count : length results ≡ workers = (let l = c.in_ok-results.ensures.1 in
+    let each = c.in_ok-slots.ensures.each in let same = c.requires.few.0 in
+    let slice = c.as_slice.ensures.len in omega (arith, l, long, each, same, slice)) in
+    subst (λ (n : ℕ × Bool). AreGranted workers turns n.0 n.1) (λ i. (sym sum i, sym asked i))
+    (granted_of workers turns results c.in_ok-results.ensures.0 each count)

@@ -2,4 +2,4 @@ use Rattle.std.proofs.Common.{◌≡◌}
 use Rattle.search_pool.proofs.worker.steal_from.Given as goal
 
 abbrev pub invariant-loop : goal.invariant-loop
-invariant-loop g l = (l.share.worker ≡ l.fn.share.worker) × (l.share.closed ≡ l.fn.share.closed)
+invariant-loop g l = (l.holdings.worker ≡ l.fn.holdings.worker) × (l.holdings.closed ≡ l.fn.holdings.closed)

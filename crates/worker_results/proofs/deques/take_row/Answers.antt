@@ -1,49 +1,50 @@
 use Rattle.std.proofs.Common.{◌≡◌, ◌<◌, ◌+◌, ◌++◌, List, take, drop, length, refl, sym, ap, ◌∙◌, subst, arith}
 use Rattle.worker_results.specs.Naming.{numbers_from}
-use Rattle.worker_results.specs.Passes.{Owned, Reached, deques, took_in}
-use Rattle.worker_results.specs.Taking.{take_in}
+use Rattle.worker_results.specs.Passes.{Owned, KnownPass, deques, took_back}
+use Rattle.worker_results.specs.Taking.{take_back_row}
 use Rattle.worker_results.proofs.TakeLemmas.{number_at, numbers_of-set, owners_long, row_long, first_deque}
 use Rattle.worker_results.proofs.TakeLemmas.{take_more, take_end}
 use Rattle.worker_results.proofs.deques.take_row.Goals as goal
 
-pub loop-reach-init : goal.loop-reach-init
-loop-reach-init g c =
-    let items = c.into_items-reach-items.result.items in
-    let rest = c.into_iter-reach-iterator.result.rest.items in
-    let is : rest ≡ items = c.into_iter-reach-iterator.ensures.into_iter_gives.0 in
-    let of = c.into_items-reach-items.ensures.deques in
+pub loop-pass-init : goal.loop-pass-init
+loop-pass-init g c =
+    let items = c.into_items-pass-items.result.items in
+    let rest = c.into_iter-pass-iterator.result.rest.items in
+    let is : rest ≡ items = c.into_iter-pass-iterator.ensures.into_iter_gives.0 in
+    let of = c.into_items-pass-items.ensures.deques in
     let long : length rest ≡ g.B.Naming.workers = ap length is ∙ row_long items 0 g.B.Naming.workers of in
     record {
       numbers = c.requires;
       deques = ap deques is ∙ of ∙ ap (numbers_from 0) (sym long);
       all = (omega arith);
-      done = refl {a = take_in c.args.owners.now.items rest};
+      done = refl {a = take_back_row c.args.owners.now.items rest};
     }
 
 pub returns-clause-done : goal.returns-clause-done
 returns-clause-done g c =
-    let i = c.loop-reach.invariant in
-    let rest = c.loop-reach.reach-iterator.rest in
+    let i = c.loop-pass.invariant in
+    let rest = c.loop-pass.pass-iterator.rest in
     let none : length rest.items ≡ 0 = sym rest.ok.0 ∙ c.in-None.ensures.steps.0 in
-    let os = c.loop-reach.owners.items in
+    let os = c.loop-pass.owners.items in
     let long = owners_long os g.B.Naming.workers i.numbers in
     let all = i.all in
-    let first = c.into_iter-reach-iterator.ensures.into_iter_gives.0 ∙ c.into_items-reach-items.ensures.same in
-    sym (take_end os c.loop-reach.next rest.items (omega arith)) ∙ i.done ∙ ap (take_in c.args.owners.now.items) first
+    let first = c.into_iter-pass-iterator.ensures.into_iter_gives.0 ∙ c.into_items-pass-items.ensures.same in
+    sym (take_end os c.loop-pass.next rest.items (omega arith)) ∙ i.done
+    ∙ ap (take_back_row c.args.owners.now.items) first
 
 pub index_mut-requires : goal.index_mut-requires
 index_mut-requires g c =
-    let i = c.loop-reach.invariant in
+    let i = c.loop-pass.invariant in
     let fewer = ap length c.in-Some.ensures.steps.0 in
     let all = i.all in
-    let long = owners_long c.loop-reach.owners.items g.B.Naming.workers i.numbers in
-    omega (arith, c.loop-reach.owners.ok.0)
+    let long = owners_long c.loop-pass.owners.items g.B.Naming.workers i.numbers in
+    omega (arith, c.loop-pass.owners.ok.0)
 
-pub absorb-requires : goal.absorb-requires
-absorb-requires g c =
-    let i = c.loop-reach.invariant in
-    let os = c.loop-reach.owners.items in
-    let next = c.loop-reach.next in
+pub take_back-requires : goal.take_back-requires
+take_back-requires g c =
+    let i = c.loop-pass.invariant in
+    let os = c.loop-pass.owners.items in
+    let next = c.loop-pass.next in
     let rest = c.next.new.self.rest.items in
     let step = c.in-Some.ensures.steps.0 in
     let fewer = ap length step in
@@ -51,33 +52,33 @@ absorb-requires g c =
     let long = owners_long os g.B.Naming.workers i.numbers in
     let near : next < length os = omega arith in
     let d = c.index_mut.result.now in
-    let now = subst (λ (l : List Reached). deques l ≡ numbers_from next (length l)) step i.deques in
+    let now = subst (λ (l : List KnownPass). deques l ≡ numbers_from next (length l)) step i.deques in
     let there : d.worker ≡ 0 + next = ap (λ (o : Owned). o.worker) c.index_mut.ensures.value
     ∙ number_at os 0 g.B.Naming.workers next d near i.numbers in
-    (first_deque c.in-Some.reach rest next now).0 ∙ (omega arith)
+    (first_deque c.in-Some.pass rest next now).0 ∙ (omega arith)
 
-pub loop-reach-preserved : goal.loop-reach-preserved
-loop-reach-preserved g c =
-    let i = c.loop-reach.invariant in
-    let os = c.loop-reach.owners.items in
-    let next = c.loop-reach.next in
+pub loop-pass-preserved : goal.loop-pass-preserved
+loop-pass-preserved g c =
+    let i = c.loop-pass.invariant in
+    let os = c.loop-pass.owners.items in
+    let next = c.loop-pass.next in
     let rest = c.next.new.self.rest.items in
-    let r = c.in-Some.reach in
+    let r = c.in-Some.pass in
     let step = c.in-Some.ensures.steps.0 in
     let fewer = ap length step in
     let all = i.all in
     let long = owners_long os g.B.Naming.workers i.numbers in
     let near : next < length os = omega arith in
     let d = c.index_mut.result.now in
-    let o = c.absorb.new.self in
+    let o = c.take_back.new.self in
     let was = c.index_mut.ensures.value in
-    let now = subst (λ (l : List Reached). deques l ≡ numbers_from next (length l)) step i.deques in
-    let worker = c.absorb.ensures.same ∙ ap (λ (x : Owned). x.worker) was in
+    let now = subst (λ (l : List KnownPass). deques l ≡ numbers_from next (length l)) step i.deques in
+    let worker = c.take_back.ensures.same ∙ ap (λ (x : Owned). x.worker) was in
     record {
       numbers = numbers_of-set os next o d worker ∙ i.numbers;
       deques = (first_deque r rest next now).1;
       all = (omega arith);
       done = take_more os next (next + 1) o d r rest (omega arith) near worker
-          (c.absorb.ensures.done ∙ ap (λ (x : Owned). took_in x.knows r.knows.taken) was)
-          ∙ ap (λ (l : List Reached). take next os ++ take_in (drop next os) l) (sym step) ∙ i.done;
+          (c.take_back.ensures.done ∙ ap (λ (x : Owned). took_back x.knows r.knows.taken) was)
+          ∙ ap (λ (l : List KnownPass). take next os ++ take_back_row (drop next os) l) (sym step) ∙ i.done;
     }

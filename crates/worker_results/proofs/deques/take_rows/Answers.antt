@@ -1,7 +1,7 @@
 use Rattle.std.proofs.Common.{◌≡◌, ◌∷◌, suc, List, length, All, sym, ap, ◌∙◌, subst, arith}
 use Rattle.std.proofs.lemmas.List.Elements.{All-head, All-tail}
 use Rattle.proof_tree.specs.Weights.{weigh}
-use Rattle.worker_results.specs.Passes.{Owned, Reached, all_taken}
+use Rattle.worker_results.specs.Passes.{Owned, KnownPass, all_taken}
 use Rattle.worker_results.specs.Joining.{total}
 use Rattle.worker_results.specs.Apart.{AreOut, IsRow}
 use Rattle.worker_results.proofs.TakeLemmas.{owners_long, row_long, out_in, pushed_in, taken_in}
@@ -11,7 +11,7 @@ pub loop-row-preserved : goal.loop-row-preserved
 loop-row-preserved g c =
     let i = c.loop-row.invariant in
     let workers = g.B.Naming.workers in
-    let row : List Reached = c.in-Some.row in
+    let row : List KnownPass = c.in-Some.row in
     let rest = c.next.new.self.rest.items in
     let old = c.loop-row.owners.items in
     let now = c.take_row.ensures.done in
@@ -27,5 +27,5 @@ loop-row-preserved g c =
       pushed = λ h. ap (total (λ (o : Owned). weigh h o.knows.pushed)) now ∙ pushed_in h old row ∙ i.pushed h;
       taken = λ h. (let a = i.taken h in let b = ap (total (λ (o : Owned). weigh h o.knows.taken)) now in
           let e = taken_in h old row same in
-          let f = ap (total (λ (r : List Reached). weigh h (all_taken r))) step in omega arith);
+          let f = ap (total (λ (r : List KnownPass). weigh h (all_taken r))) step in omega arith);
     }

@@ -1,6 +1,0 @@
-use Rattle.std.proofs.Common.{rules}
-use Rattle.piece_deque.proofs.ShareLemmas.{merges}
-use Rattle.piece_deque.proofs.sharing.hand_in.Goals as goal
-
-pub absorb-requires-clause-rule : goal.absorb-requires-clause-rule
-absorb-requires-clause-rule c = merges _ _ _ _ (search rules) (search rules) (search rules)
