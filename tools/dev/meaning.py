@@ -1,10 +1,10 @@
 """What a cave means, calculated apart from the program: light, dark cells, places, what they light, and the texts that
 the program owes, for the scripts beside this file."""
-from reading import Row
+import repository  # it makes the modules of ../user known
+from rows import TORCH
 
 HANGS = {"floor": (0, -1, 0), "north": (0, 0, 1), "east": (-1, 0, 0), "south": (0, 0, -1), "west": (1, 0, 0)}
 SIGNS = {"floor": "T", "north": "^", "east": ">", "south": "v", "west": "<"}
-TORCH = Row(b"", {}, 0, 14, True, False, False, False, False)
 
 
 class Cave:

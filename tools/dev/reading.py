@@ -2,52 +2,16 @@
 import tomllib
 from collections import namedtuple
 
+import repository  # it makes the modules of ../user known
 from nbt import Fault, root_of
+from rows import COLUMNS, Row, row_of
 from structures import COMPOUND, INT, LIST, TEXT
 
 SIDE, CELLS = 128, 262_144
 I64 = range(-(2**63), 2**63)
-COLUMNS = ["free", "stand", "put", "top", "side"]
 
 # What the file says: the sides, the block states (a name and its properties), and which of them is at each position.
 Structure = namedtuple("Structure", "size palette states")
-Row = namedtuple("Row", ["name", "when", "opacity", "emission", *COLUMNS])
-
-FULL = """stone granite diorite andesite deepslate tuff calcite cobblestone mossy_cobblestone cobbled_deepslate
-polished_deepslate deepslate_bricks deepslate_tiles stone_bricks mossy_stone_bricks cracked_stone_bricks
-chiseled_stone_bricks bricks dirt coarse_dirt rooted_dirt grass_block gravel sand red_sand sandstone red_sandstone clay
-terracotta basalt smooth_basalt dripstone_block moss_block obsidian amethyst_block coal_ore iron_ore copper_ore gold_ore
-redstone_ore emerald_ore lapis_ore diamond_ore deepslate_coal_ore deepslate_iron_ore deepslate_copper_ore
-deepslate_gold_ore deepslate_redstone_ore deepslate_emerald_ore deepslate_lapis_ore deepslate_diamond_ore raw_iron_block
-raw_copper_block raw_gold_block oak_planks"""
-SHIPPED = [
-    ("air cave_air void_air", 0, 0, "free put"),
-    (FULL, 15, 0, "stand top side"),
-    ("bedrock", 15, 0, "top side"),
-    ("glass", 0, 0, "top side"),
-    ("water", 1, 0, ""),
-    ("lava", 1, 15, ""),
-    ("torch wall_torch", 0, 14, "free"),
-    ("soul_torch soul_wall_torch", 0, 10, "free"),
-    ("lantern", 0, 15, ""),
-    ("soul_lantern", 0, 10, ""),
-    ("glowstone sea_lantern shroomlight", 15, 15, "top side"),
-    ("magma_block", 15, 3, "top side"),
-    ("jack_o_lantern redstone_lamp[lit=true]", 15, 15, "stand top side"),
-    ("redstone_lamp", 15, 0, "stand top side"),
-    ("rail powered_rail detector_rail activator_rail", 0, 0, ""),
-]
-
-
-def shipped_rows():
-    rows = []
-    for names, opacity, emission, columns in SHIPPED:
-        for name in names.split():
-            name, _, when = name.partition("[")
-            when = dict([when.rstrip("]").encode().split(b"=")] if when else [])
-            flags = [column in columns.split() for column in COLUMNS]
-            rows.append(Row(b"minecraft:" + name.encode(), when, opacity, emission, *flags))
-    return rows
 
 
 def field(entries, name, said):
@@ -57,17 +21,17 @@ def field(entries, name, said):
 
 
 def three(tag, said):
-    kind, items = tag
-    if kind != LIST or len(items) != 3 or any(item[0] != INT for item in items):
+    kind, held = tag
+    if kind != LIST or held[0] != INT or len(held[1]) != 3:
         raise Fault(f"structure: wrong type of {said}")
-    return tuple(item[1] for item in items)
+    return tuple(held[1])
 
 
 def compounds(tag, said):
-    kind, items = tag
-    if kind != LIST or any(item[0] != COMPOUND for item in items):
+    kind, held = tag
+    if kind != LIST or held[1] and held[0] != COMPOUND:
         raise Fault(f"structure: wrong type of {said}")
-    return [item[1] for item in items]
+    return held[1]
 
 
 def state_of(entries, index):
@@ -156,19 +120,6 @@ def user_rows(data):
     return found
 
 
-def row_of(rows, state):
-    """The row of a block state, by the user's rows."""
-    name, props = state
-    fits = lambda row: all(props.get(key) == value for key, value in row.when.items())
-    for row in [*rows, *SHIPPED_ROWS]:
-        if row.name != b"*" and row.name == name and fits(row):
-            return row
-    for row in rows:
-        if row.name == b"*" and fits(row):
-            return row
-    return None
-
-
 def printed(name):
     plain = lambda byte: 0x20 <= byte <= 0x7E and byte != 0x5C
     return "".join(chr(byte) if plain(byte) else f"\\x{byte:02x}" for byte in name)
@@ -183,6 +134,3 @@ def classes_of(structure, rows):
         if by_state[index] is None:
             raise Fault(f"unknown block {printed(structure.palette[index][0])}")
     return {at: by_state[state] for at, state in structure.states.items()}
-
-
-SHIPPED_ROWS = shipped_rows()

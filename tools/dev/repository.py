@@ -7,7 +7,7 @@ TOP = os.path.dirname(TOOLS)
 TORCHPLAN = os.path.join(TOP, "torchplan")
 EXAMPLES = os.path.join(TOP, "examples")
 PILLAR = os.path.join(TOP, "crates", "torchplan", "stdin")
-sys.path.append(os.path.join(TOOLS, "user"))
+sys.path.insert(1, os.path.join(TOOLS, "user"))  # before packages that others installed by the same names
 
 
 def built(crate, *words):

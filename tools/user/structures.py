@@ -1,4 +1,6 @@
 """Writing NBT and structure files, for the scripts here and in ../dev."""
+import gzip
+import io
 import struct
 
 END, BYTE, SHORT, INT, LONG, FLOAT, DOUBLE, BYTES, TEXT, LIST, COMPOUND, INTS, LONGS = range(13)
@@ -64,8 +66,45 @@ class Writer:
         self.number(state)
         self.end()
 
+    def integer(self, name, number):
+        """An entry that is an Int."""
+        self.name(INT, name)
+        self.number(number)
+
+    def long(self, name, number):
+        """An entry that is a Long."""
+        self.name(LONG, name)
+        self.put(struct.pack(">q", number), "number")
+
+    def longs(self, name, numbers):
+        """An entry that is a Long_Array; the numbers are unsigned."""
+        self.name(LONGS, name)
+        self.count(len(numbers))
+        self.put(struct.pack(f">{len(numbers)}Q", *numbers), "text")
+
+    def string(self, name, text):
+        """An entry that is a String."""
+        self.name(TEXT, name)
+        self.text(modified(text))
+
     def file(self):
         return b"".join(self.parts)
+
+
+def modified(text):
+    """A text in modified UTF-8: 0 is two bytes, and a character above FFFF two surrogates (Minecraft Wiki, "NBT
+    format")."""
+    wide = text.encode("utf-16-be", "surrogatepass")
+    units = "".join(chr(unit) for (unit,) in struct.iter_unpack(">H", wide))
+    return units.encode("utf-8", "surrogatepass").replace(b"\0", b"\xc0\x80")
+
+
+def zipped(data):
+    """The data packed by gzip, always to the same bytes."""
+    whole = io.BytesIO()
+    with gzip.GzipFile(filename="", mode="wb", fileobj=whole, mtime=0) as file:
+        file.write(data)
+    return whole.getvalue()
 
 
 def structure_file(size, palette, entries):
@@ -80,5 +119,29 @@ def structure_file(size, palette, entries):
     out.compounds("blocks", len(entries))
     for at, state in entries:
         out.block(at, state)
+    out.end()
+    return out.file()
+
+
+# An entry of the blocks, as Writer.block writes it: 'pos', three numbers, 'state', a number and the end.
+ENTRY = struct.Struct(">11s3i8six")
+POS, STATE = b"\x09\0\x03pos\x03\0\0\0\x03", b"\x03\0\x05state"
+
+
+def box_file(box):
+    """The file of a box's blocks, in the order of its cells; those without an entry are left out."""
+    size_x, size_y, size_z = box.size
+    places = ((x, y, z) for y in range(size_y) for z in range(size_z) for x in range(size_x))
+    entries = [ENTRY.pack(POS, *at, STATE, state) for at, state in zip(places, box.cells) if state != box.NO_ENTRY]
+    out = Writer()
+    out.name(COMPOUND, "")
+    out.ints("size", box.size)
+    out.compounds("palette", len(box.palette))
+    for name, props in box.palette:
+        out.state(name, props)
+    out.compounds("blocks", len(entries))
+    out.put(b"".join(entries), "text")
+    if box.data_version:
+        out.integer("DataVersion", box.data_version)
     out.end()
     return out.file()

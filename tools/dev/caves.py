@@ -1,6 +1,7 @@
-"""Caves made from seeds, for the scripts here and in ../dev."""
+"""Caves made from seeds, for the scripts beside this file."""
 import random
 
+import repository  # it makes the modules of ../user known
 from structures import structure_file
 
 NAMES = ["minecraft:stone", "minecraft:air", "minecraft:torch", "minecraft:lantern", "minecraft:water"]

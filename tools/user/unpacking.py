@@ -1,0 +1,36 @@
+"""Unpacking what the game packs, up to a limit: a file of a megabyte can hold a gigabyte of zeros."""
+import zlib
+
+from refusals import Damaged
+
+# The window bits of zlib that take each packing (Python's documentation of zlib.decompress).
+GZIP, ZLIB = 31, 15
+MOST = 67_108_864
+
+
+def unpacked(data, packing):
+    """The bytes that were packed, at most 67,108,864 of them."""
+    stream = zlib.decompressobj(packing)
+    try:
+        found = stream.decompress(data, MOST + 1)
+    except zlib.error:
+        raise Damaged("its packed data is damaged") from None
+    if len(found) > MOST:
+        raise Damaged(f"it unpacks to more than {MOST:,} bytes")
+    if not stream.eof:
+        raise Damaged("its packed data is cut off")
+    return found
+
+
+def read_limited(path):
+    """The bytes of a file, at most 67,108,864 of them."""
+    with open(path, "rb") as file:
+        data = file.read(MOST + 1)
+    if len(data) > MOST:
+        raise Damaged(f"it has more than {MOST:,} bytes")
+    return data
+
+
+def plain(data):
+    """The bytes of a file of the game, which is packed by gzip or not at all."""
+    return unpacked(data, GZIP) if data[:2] == b"\x1f\x8b" else data
