@@ -1,3 +1,4 @@
+//! The run of `dark`, from the bytes read to the bytes written: `WritesDark` of specs/Runs.antt.
 ghost use Rattle.std.specs.Io.KnownBytes.{Keeps};
 ghost use Rattle.std.specs.Prelude.{◌≡◌, ◌≢◌, IfOk, IfErr, IfSome, OnOk, option_copied, string_bytes};
 ghost use Rattle.cave_base.specs.Answer.{IsRefusal};

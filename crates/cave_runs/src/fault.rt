@@ -1,3 +1,4 @@
+//! Why a run was refused, and its fault line: specs/Faults.antt and specs/Texts.antt.
 ghost use Rattle.std.specs.Prelude.{◌≡◌};
 ghost use Rattle.cave_runs.specs.Faults.{run_fault_of, of_check, of_write};
 ghost use Rattle.cave_runs.specs.declared.fault.RunFault.TheVariants.{OutOfMemory};

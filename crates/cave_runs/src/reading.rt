@@ -1,3 +1,4 @@
+//! Reading an input whole, within its limit of specs/Limits.antt.
 ghost use Rattle.std.specs.Prelude.{◌≡◌, ◌≤◌, ◌<◌, ◌⊎◌, length, IfOk, IfErr, IfSome};
 ghost use Rattle.cave_runs.specs.Limits.{table_limit};
 ghost use Rattle.cave_runs.specs.declared.fault.Input.TheVariants.{TableInput};

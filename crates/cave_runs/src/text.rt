@@ -1,3 +1,4 @@
+//! The text of dark cells: specs/DarkText.antt.
 ghost use Rattle.std.specs.Prelude.{◌≡◌, ◌<◌, All, IfOk, string_bytes};
 ghost use Rattle.cave_base.specs.Box.{cell_count, point};
 ghost use Rattle.cave_runs.specs.DarkText as texts;

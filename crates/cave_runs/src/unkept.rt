@@ -1,3 +1,4 @@
+//! A writer that keeps nothing.
 use std::io::{self, Write};
 
 /// A writer that takes all and keeps nothing: where nobody asked for a certificate.

@@ -1,3 +1,4 @@
+//! Writing a text, with the fault of a run.
 ghost use Rattle.std.specs.Io.KnownBytes.{Appends};
 ghost use Rattle.std.specs.Prelude.{◌≡◌, IfErr, OnOk, OnErr};
 ghost use Rattle.cave_runs.specs.declared.fault.RunFault.{RunFault};

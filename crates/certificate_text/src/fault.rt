@@ -1,3 +1,4 @@
+//! Why a certificate wasn't written.
 ghost use Rattle.std.specs.Prelude.{◌≡◌};
 ghost use Rattle.certificate_text.specs.declared.fault.WriteFault.TheVariants.{OutOfMemory};
 

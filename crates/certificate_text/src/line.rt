@@ -1,3 +1,4 @@
+//! A line of a certificate, put together from words and numbers: specs/Lines.antt.
 ghost use Rattle.std.specs.Prelude.{◌≡◌, ◌++◌, ◌∷◌, [], IfOk, string_bytes};
 ghost use Rattle.proof_rules.specs.Text.{line};
 

@@ -1,3 +1,4 @@
+//! Writing a text by single writes, so that a failed one leaves a beginning: specs/Writing.antt.
 ghost use Rattle.std.specs.Io.KnownBytes.{Appends};
 ghost use Rattle.std.specs.Prelude.{◌≡◌, IfErr, OnOk, OnErr};
 ghost use Rattle.certificate_text.specs.Writing.{AppendsFront};

@@ -1,3 +1,4 @@
+//! Why a cave has no coverage: specs/Coverage.antt.
 ghost use Rattle.std.specs.Prelude.{◌≡◌};
 ghost use Rattle.cover_rows.specs.declared.fault.CoverFault.TheVariants.{OutOfMemory};
 

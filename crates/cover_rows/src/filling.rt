@@ -1,3 +1,4 @@
+//! The rows of bits, filled block by block from floods of the dark cells: specs/Filling.antt.
 ghost use Rattle.std.specs.Prelude.{◌≡◌, ◌<◌, ◌^◌, length, IfOk, OnOk};
 ghost use Rattle.cave_base.specs.Box.{cell_count};
 ghost use Rattle.cave_model.specs.Torches.{ArePlaces};

@@ -1,3 +1,4 @@
+//! Indices of cells in the list of dark cells.
 ghost use Rattle.std.specs.List.Sorted.{IsStrictlyIncreasing};
 ghost use Rattle.std.specs.Prelude.{◌<◌, All, IfOk};
 ghost use Rattle.cover_rows.specs.Filling.{AreIndices};

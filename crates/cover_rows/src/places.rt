@@ -1,3 +1,4 @@
+//! The legal places of a cave, ascending.
 ghost use Rattle.std.specs.Prelude.{◌<◌, ◌^◌, ◌↔◌, All, IfOk, IsTrue};
 ghost use Rattle.cave_base.specs.Box as grid;
 ghost use Rattle.cave_model.specs.Torches.{ArePlaces, IsPlace};

@@ -1,3 +1,4 @@
+//! The set cover instance of a cave: `IsProblemOf` of specs/Coverage.antt.
 ghost use Rattle.std.specs.Prelude.{◌≡◌, ◌≢◌, ◌<◌, ◌↔◌, Contains, IfOk, IfErr, IsTrue};
 ghost use Rattle.cave_base.specs.Answer.{IsRefusal};
 ghost use Rattle.cover_rows.specs.Coverage.{IsProblemOf, IsUnlightableFault};

@@ -1,3 +1,4 @@
+//! The first cell whose bit isn't set: specs/Unlit.antt.
 ghost use Rattle.std.specs.Prelude.{◌≤◌, ◌*◌, length};
 ghost use Rattle.cover_rows.specs.Unlit.{FindsUnlit};
 

@@ -1,3 +1,4 @@
+//! The events that a core plays: when each is enabled, and what it does, is said in specs/Events.antt.
 use cave_base::Cell;
 use instance_regions::Cover;
 use proof_tree::{Closed, Name};

@@ -1,3 +1,4 @@
+//! Lists of numbers by a key, for cells and places by their region: specs/Grouping.antt.
 ghost use Rattle.std.specs.Prelude.{◌≡◌, ◌<◌, [], length, slice_index_or, IfOk, OnOk};
 ghost use Rattle.instance_regions.specs.Grouping.{AreNone, IsPushed};
 

@@ -1,3 +1,4 @@
+//! Covers of a region: `IsCover` of specs/Cover.antt.
 ghost use Rattle.std.specs.Arc.{arc_value};
 ghost use Rattle.std.specs.Prelude.{◌≡◌, length, IfOk};
 ghost use Rattle.instance_regions.specs.Cover.{IsCover, IsCoverOfRegion};

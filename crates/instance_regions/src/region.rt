@@ -1,3 +1,4 @@
+//! Regions: `IsRegion` of specs/Region.antt, with the columns of specs/Columns.antt.
 ghost use Rattle.std.specs.Prelude.{◌≡◌, ◌<◌, ◌^◌, ◌↔◌, Contains, IsTrue, length, IfOk};
 ghost use Rattle.instance_regions.specs.Columns.{IsColumn};
 ghost use Rattle.instance_regions.specs.Region.{IsRegion};

@@ -7,7 +7,13 @@ mod coverage;
 mod dominance;
 mod lists;
 
-pub use bits::{Bits, bit_count, bits_of, clear_all, clear_bit, common_count, drop_all, has_each, is_clear, is_part, is_set, join_into, keep_all, row_in, set_bit, words_around, words_from};
-pub use coverage::{Coverage};
-pub use dominance::{Dominance, first_dominating, from_both_ends, is_dominated, kept_cells, meet_lists, undominated, undominated_of_all};
-pub use lists::{NumberLists, count_each, indices_of, small};
+pub use bits::{
+    Bits, bit_count, bits_of, clear_all, clear_bit, common_count, drop_all, has_each, is_clear,
+    is_part, is_set, join_into, keep_all, row_in, set_bit, words_around, words_from,
+};
+pub use coverage::Coverage;
+pub use dominance::{
+    Dominance, first_dominating, from_both_ends, is_dominated, kept_cells, meet_lists, undominated,
+    undominated_of_all,
+};
+pub use lists::{NumberLists, count_numbers, indices_of, small};

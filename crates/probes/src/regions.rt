@@ -37,7 +37,7 @@ pub fn found_line(alloc: Global, region: &Arc<Region>, turns: u64) -> Result<Str
             let size = plan.cover.size();
             format!(in alloc; "{cells} cells, {places} places: {size}, {lines} lines")
         }
-        Err(AloneFault::Stopped { cover, floor }) => {
+        Err(AloneFault::Stopped { cover, floor, .. }) => {
             let size = cover.size();
             format!(in alloc; "{cells} cells, {places} places: {floor} to {size}")
         }

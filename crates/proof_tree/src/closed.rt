@@ -1,3 +1,4 @@
+//! A piece with a tree that closes it: `Fathomed` of specs/Piece.antt.
 ghost use Rattle.std.specs.Prelude.{◌≡◌};
 ghost use Rattle.proof_tree.specs.Piece.{ClosesPiece, IsClosed};
 ghost use Rattle.proof_tree.specs.Shape.{tree_of};

@@ -1,3 +1,4 @@
+//! Names of pieces: the numbers of the kids on the way from the root.
 ghost use Rattle.std.specs.Prelude.{◌≡◌, ◌∷◌, [], ◌++◌, IfOk};
 
 use cave_model::OutOfMemory;

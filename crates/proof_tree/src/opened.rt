@@ -1,3 +1,4 @@
+//! A piece opened on a cell: `Split` of specs/Opened.antt.
 ghost use Rattle.std.specs.Prelude.{◌≡◌, IfOk, MatchOption};
 ghost use Rattle.proof_tree.specs.Opened.{AreOpenedPlaces, IsSplit, MayBeOpened};
 

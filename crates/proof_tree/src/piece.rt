@@ -1,3 +1,4 @@
+//! Pieces of a region: `Subproblem` of specs/Piece.antt.
 ghost use Rattle.std.specs.Arc.{arc_value};
 ghost use Rattle.std.specs.Prelude.{◌≡◌, IfOk};
 ghost use Rattle.proof_tree.specs.Piece.{IsPiece, root_of};

@@ -1,3 +1,4 @@
+//! What a worker did, without its seat and passes: `Worked` of specs/Worked.antt.
 use instance_regions::Cover;
 use proof_tree::{Closed, Opened, Piece};
 use std::marker::Model;

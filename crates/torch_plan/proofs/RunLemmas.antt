@@ -8,6 +8,7 @@ use Rattle.cave_runs.specs.Runs.{IsFaultOfInput, IsOfInput, WritesDark}
 use Rattle.cave_runs.specs.declared.fault.RunFault.{RunFault}
 use Rattle.cave_runs.specs.declared.fault.RunFault.TheVariants as faults
 use Rattle.cave_runs.specs.declared.plan.Outcome.{Outcome}
+use Rattle.search_traits.specs.declared.planner.Allowance.{Allowance}
 use Rattle.torch_plan.specs.Answers.{AnswersDark, AnswersPlan, LeavesOutput, PlansSome, structure_in, table_in}
 use Rattle.torch_plan.specs.Sources.{Sources}
 
@@ -57,24 +58,24 @@ dark_answered sources file table rule old new remaining read (Err e) same told d
 }
 
 -- a run of a plan over what is known
-pub plan_answered : (sources : Sources) (file : List ℕ) (table : Option (List ℕ)) (rule : Rule) (turns : Option ℕ)
-    (workers : ℕ) (old new remaining read : Option (List ℕ)) (result : Result Outcome RunFault)
+pub plan_answered : (sources : Sources) (file : List ℕ) (table : Option (List ℕ)) (rule : Rule)
+    (allowance : Allowance) (old new remaining read : Option (List ℕ)) (result : Result Outcome RunFault)
     → remaining ≡ structure_in sources file → IfSome (table_in sources table) (λ r. read ≡ r)
-    → IfOk result (λ outcome. IfSome remaining (λ bytes. PlansSome bytes read rule turns outcome old new))
+    → IfOk result (λ outcome. IfSome remaining (λ bytes. PlansSome bytes read rule allowance outcome old new))
     → LeavesOutput result old new
     → IfErr result (λ e. IsOfInput e → e ≢ faults.NoThread
     → IfSome remaining (λ bytes. IsNoPlanOfInput bytes read rule e))
-    → IfErr result (λ e. e ≡ faults.NoThread → 1 < workers)
-    → AnswersPlan sources file table rule turns workers old new result
-plan_answered sources file table rule turns workers old new remaining read (Ok outcome) same told done left fault
+    → IfErr result (λ e. e ≡ faults.NoThread → 1 < allowance.workers)
+    → AnswersPlan sources file table rule allowance old new result
+plan_answered sources file table rule allowance old new remaining read (Ok outcome) same told done left fault
     threads = record {
       done = known (structure_in sources file) remaining (table_in sources table) read
-          (λ bytes rows. PlansSome bytes rows rule turns outcome old new) same told done;
+          (λ bytes rows. PlansSome bytes rows rule allowance outcome old new) same told done;
       left = left;
       fault = tt;
       threads = tt;
     }
-plan_answered sources file table rule turns workers old new remaining read (Err e) same told done left fault threads
+plan_answered sources file table rule allowance old new remaining read (Err e) same told done left fault threads
     = record {
       done = tt;
       left = left;

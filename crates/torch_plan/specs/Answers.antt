@@ -13,6 +13,8 @@ use Rattle.cave_runs.specs.declared.fault.RunFault.{RunFault}
 use Rattle.cave_runs.specs.declared.fault.RunFault.TheVariants as faults
 use Rattle.cave_runs.specs.declared.plan.Outcome.{Outcome}
 use Rattle.command_words.specs.Requests.{IsAsked}
+use Rattle.search_traits.specs.declared.planner.Allowance.{Allowance}
+use Rattle.torch_plan.specs.Given.{given}
 use Rattle.torch_plan.specs.Sources.{Sources}
 use Rattle.torch_plan.specs.Status.{end_status, judged, status}
 use Rattle.command_words.specs.Mistakes.{AreWellFormed}
@@ -65,22 +67,22 @@ plan_status (Ok outcome) = end_status outcome
 plan_status (Err fault) = status fault
 
 -- the plan was written, and its proof
-pub record PlansSome (bytes : List ℕ) (table : Option (List ℕ)) (rule : Rule) (turns : Option ℕ) (outcome : Outcome)
+pub record PlansSome (bytes : List ℕ) (table : Option (List ℕ)) (rule : Rule) (allowance : Allowance) (outcome : Outcome)
     (old new : Option (List ℕ)) : Type 0 where
   -- what was written of the proof before
   pub before : Option (List ℕ)
   pub after : Option (List ℕ)
-  pub plans : Plans bytes table rule turns outcome old new before after
+  pub plans : Plans bytes table rule allowance outcome old new before after
 
 -- the plan was written, and its proof to some file or to none, or the fault is the structure's
 pub record AnswersPlan (sources : Sources) (file : List ℕ) (table : Option (List ℕ)) (rule : Rule)
-    (turns : Option ℕ) (workers : ℕ) (old new : Option (List ℕ)) (result : Result Outcome RunFault) : Type 0 where
+    (allowance : Allowance) (old new : Option (List ℕ)) (result : Result Outcome RunFault) : Type 0 where
   pub done : IfOk result (λ outcome. Known sources file table (λ bytes rows.
-      PlansSome bytes rows rule turns outcome old new))
+      PlansSome bytes rows rule allowance outcome old new))
   pub left : LeavesOutput result old new
   pub fault : IfErr result (λ fault. IsOfStructure fault → fault ≢ faults.NoThread
       → Known sources file table (λ bytes rows. IsNoPlanOfInput bytes rows rule fault))
-  pub threads : IfErr result (λ fault. fault ≡ faults.NoThread → 1 < workers)
+  pub threads : IfErr result (λ fault. fault ≡ faults.NoThread → 1 < allowance.workers)
 
 -- ---- verdicts
 
@@ -106,10 +108,10 @@ RunsDark sources file table rule old new code = (result : Result (Unit {0}) RunF
     × (code ≡ dark_status result) × AnswersDark sources file table rule old new result
 
 -- a run of a plan that ends with this status
-abbrev pub RunsPlan : Sources → List ℕ → Option (List ℕ) → Rule → Option ℕ → ℕ → Option (List ℕ)
+abbrev pub RunsPlan : Sources → List ℕ → Option (List ℕ) → Rule → Allowance → Option (List ℕ)
     → Option (List ℕ) → ℕ → Type 0
-RunsPlan sources file table rule turns workers old new code = (result : Result Outcome RunFault)
-    × (code ≡ plan_status result) × AnswersPlan sources file table rule turns workers old new result
+RunsPlan sources file table rule allowance old new code = (result : Result Outcome RunFault)
+    × (code ≡ plan_status result) × AnswersPlan sources file table rule allowance old new result
 
 -- a run of a check that ends with this status
 abbrev pub RunsCheck : Sources → List ℕ → List ℕ → Option (List ℕ) → Rule → Option (List ℕ) → Option (List ℕ)
@@ -123,7 +125,8 @@ abbrev pub Does : Sources → Request → Option (List ℕ) → Option (List ℕ
 Does sources (Dark file table rule progress) old new code =
     RunsDark sources file.now (option_copied table) (rule_of rule) old new code
 Does sources (Plan file table opts proof progress) old new code = (IsSome proof × (code ≡ 2) × Keeps old new)
-    ⊎ RunsPlan sources file.now (option_copied table) (rule_of opts.rule) opts.turns opts.workers.number old new code
+    ⊎ RunsPlan sources file.now (option_copied table) (rule_of opts.rule) (given opts.workers.number opts.turns)
+        old new code
 Does sources (Check file proof table rule) old new code =
     RunsCheck sources file.now proof.now (option_copied table) (rule_of rule) old new code
 

@@ -24,7 +24,7 @@ status OutOfMemory = 7
 -- 5 where the turns of a region were spent, else 0
 abbrev pub end_status : Outcome → ℕ
 end_status (Done turns) = 0
-end_status Stopped = 5
+end_status (Stopped turns) = 5
 
 -- 4 where the certificate is rejected, else 0
 abbrev pub judged : Verdict → ℕ

@@ -32,7 +32,7 @@ fn status_of_plan(outcome: Outcome) -> u8
 {
     match outcome {
         Outcome::Done { .. } => 0,
-        Outcome::Stopped => 5,
+        Outcome::Stopped { .. } => 5,
     }
 }
 

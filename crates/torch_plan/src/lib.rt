@@ -3,6 +3,7 @@
 
 mod advance;
 mod answering;
+mod crew;
 mod planner;
 mod runs;
 mod status;

@@ -6,6 +6,7 @@ ghost use Rattle.cave_runs.specs.Runs.{IsOfInput};
 ghost use Rattle.cave_runs.specs.declared.fault.Input.TheVariants.{TableInput};
 ghost use Rattle.cave_runs.specs.declared.fault.RunFault.{RunFault};
 ghost use Rattle.torch_plan.specs.Answers.{AnswersCheck, AnswersDark, AnswersPlan, LeavesOutput, PlansSome, table_in};
+ghost use Rattle.torch_plan.specs.Given.{given};
 
 use crate::planner::run_plan;
 use crate::system::System;
@@ -74,7 +75,8 @@ fn plan_from<X: Threads + Wait + Sync, S: System, O: Watcher, R: Read, W: Write>
     output: &mut W,
 ) -> Result<Outcome, RunFault>
     ensures done { IfOk result (λ outcome. IfSome (R.remaining reader.old) (λ bytes.
-        PlansSome bytes (option_copied table.entry) (rule_of opts.now.rule) opts.now.turns outcome
+        PlansSome bytes (option_copied table.entry) (rule_of opts.now.rule)
+        (given opts.now.workers.number opts.now.turns) outcome
         (W.contents output.old) (W.contents output.new))) }
     ensures left { LeavesOutput result (W.contents output.old) (W.contents output.new) }
     ensures fault { IfErr result (λ e. IsOfInput e → e ≢ RunFault.NoThread → IfSome (R.remaining reader.old)
@@ -114,7 +116,7 @@ pub(crate) fn answer_plan<X: Threads + Wait + Sync, S: System, O: Watcher, W: Wr
     output: &mut W,
 ) -> Result<Outcome, RunFault>
     ensures { AnswersPlan (S.sources system.now) file.now (option_copied table.entry) (rule_of opts.now.rule)
-        opts.now.turns opts.now.workers.number (W.contents output.old) (W.contents output.new) result }
+        (given opts.now.workers.number opts.now.turns) (W.contents output.old) (W.contents output.new) result }
 {
     let table = table_of(alloc, system, table)?;
     let table = table.as_deref();

@@ -1,3 +1,4 @@
+//! The exit status of a refused run: `status` of specs/Status.antt.
 ghost use Rattle.std.specs.Prelude.{◌≡◌};
 ghost use Rattle.torch_plan.specs.Status.{status};
 

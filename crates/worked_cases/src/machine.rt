@@ -1,4 +1,4 @@
-//! A machine whose files lie in memory. A path `locked` can't be made.
+//! A machine whose files lie in memory. A path `locked` can't be made, and `output` is where standard output goes.
 
 use crate::record::{Kept, Record};
 use case_texts::Files;
@@ -44,7 +44,12 @@ pub struct Machine<'a> {
 impl<'a> System for Machine<'a> {
     ghost use Rattle.std.specs.Prelude.{None};
 
-    ghost sources = { λ _. record { files = λ _. None; input = None } };
+    ghost sources = { λ _. record {
+      files = λ _. None;
+      input = None;
+      same = λ _ _. None;
+      over = λ _. None;
+    } };
 
     type File = MemoryFile<'a>;
 
@@ -80,7 +85,11 @@ impl<'a> System for Machine<'a> {
         path == other || (other == "-" && path == self.input)
     }
 
-    fn explain(&self, error: &Error) -> bool {
+    fn is_output(&self, path: &str) -> bool {
+        path == "output"
+    }
+
+    fn print_help(&self, error: &Error) -> bool {
         let how = if error.use_stderr() { "usage" } else { "help" };
         match format!(in self.alloc; "{error}") {
             Ok(text) => self.record.tell(how, without_end(text.as_str())),
@@ -89,11 +98,11 @@ impl<'a> System for Machine<'a> {
         true
     }
 
-    fn object(&self, mistake: &str) {
+    fn print_mistake(&self, mistake: &str) {
         self.record.tell("objection", mistake);
     }
 
-    fn refuse(&self, fault: &RunFault) {
+    fn print_fault(&self, fault: &RunFault) {
         match format!(in self.alloc; "{fault}") {
             Ok(line) => self.record.tell("fault", line.as_str()),
             Err(_) => self.record.tell("fault", "no memory"),

@@ -2,6 +2,7 @@
 use super::planning::workers;
 use super::ring_caves::{corridor, stone_ring};
 use instance_regions::Region;
+use search_core::BranchAndBound;
 use search_moves::Moves;
 use search_pool::{PoolFault, Report, plan_with};
 use std::alloc::{AllocError, Global};
@@ -20,7 +21,7 @@ pub(crate) fn end_of<R: Abort + Threads + Wait + Sync, G: Observer>(
     gate: &G,
     turns: Option<u64>,
 ) -> Result<Report, PoolFault> {
-    plan_with::<Moves, R, G>(rt, alloc, region, workers(rt, count), gate, turns)
+    plan_with::<BranchAndBound<Moves>, R, G>(rt, alloc, region, workers(rt, count), gate, turns)
 }
 
 /// The report of so many workers, with all the turns.

@@ -52,7 +52,7 @@ fn one_turn_stops_the_ring_and_a_failed_write_of_that_leaves_a_beginning_and_no_
     let bytes = RING.bytes(alloc)?;
     let opts = alone(&rt, Rule::new(2, 1), Some(1));
     let whole = plan_run(&rt, alloc, &bytes, None, &opts)?;
-    assert!(rt; matches!(&whole.ended, Ok(Outcome::Stopped)));
+    assert!(rt; matches!(&whole.ended, Ok(Outcome::Stopped { .. })));
     assert!(rt; whole.proof.is_empty());
     assert!(rt; lines_with(&whole.text, b'T') >= 2);
     let first = whole.text.split(|byte| *byte == b'\n').next();

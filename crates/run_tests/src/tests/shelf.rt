@@ -77,7 +77,12 @@ impl Write for &Notes {
 impl<'a> System for Shelf<'a> {
     ghost use Rattle.std.specs.Prelude.{None};
 
-    ghost sources = { λ _. record { files = λ _. None; input = None } };
+    ghost sources = { λ _. record {
+      files = λ _. None;
+      input = None;
+      same = λ _ _. None;
+      over = λ _. None;
+    } };
 
     type File = MemoryFile<'a>;
 
@@ -106,16 +111,20 @@ impl<'a> System for Shelf<'a> {
         path == other
     }
 
-    fn explain(&self, _error: &Error) -> bool {
+    fn is_output(&self, _path: &str) -> bool {
+        false
+    }
+
+    fn print_help(&self, _error: &Error) -> bool {
         self.notes
             .explained
             .set(self.notes.explained.get().wrapping_add(1));
         self.is_heard
     }
 
-    fn object(&self, _mistake: &str) {}
+    fn print_mistake(&self, _mistake: &str) {}
 
-    fn refuse(&self, _fault: &RunFault) {
+    fn print_fault(&self, _fault: &RunFault) {
         self.notes
             .refused
             .set(self.notes.refused.get().wrapping_add(1));

@@ -1,8 +1,9 @@
 //! Regions without the places that others dominate, and their plans carried back.
 use super::rings::{region, ring};
 use proof_tree::Proof;
-use search_core::{BestPlan, carried_cover, carried_plan, core_region, plan_alone};
+use search_core::{carried_cover, carried_plan, core_region, plan_alone};
 use search_moves::Moves;
+use search_traits::BestPlan;
 use std::alloc::AllocError;
 use std::sync::Arc;
 use std::test::Fail;

@@ -5,8 +5,9 @@ use instance_regions::Region;
 use gathering::{Gathered, PoolFault, gather};
 use proof_tree::Closed;
 use schedule_law::Work;
-use search_core::begin;
+use search_core::BranchAndBound;
 use search_moves::Moves;
+use search_traits::Closer;
 use std::alloc::Global;
 use std::sync::Arc;
 use std::test::Fail;
@@ -18,13 +19,15 @@ fn gathered(
     works: Vec<Work>,
     turns: Option<u64>,
 ) -> Result<Result<Gathered, PoolFault>, Fail> {
-    let begun = begin::<Moves>(alloc, region)?;
-    Ok(gather::<Moves>(alloc, region, begun.cover, begun.cell, works, turns))
+    let begun = BranchAndBound::<Moves>::begin(alloc, region)?;
+    Ok(gather::<BranchAndBound<Moves>>(
+        alloc, region, begun.cover, begun.cell, works, turns,
+    ))
 }
 
 /// The first of the root's kids on that cell, closed.
 fn first_kid(alloc: Global, region: &Arc<Region>) -> Result<Vec<Closed>, Fail> {
-    let cell = begin::<Moves>(alloc, region)?.cell;
+    let cell = BranchAndBound::<Moves>::begin(alloc, region)?.cell;
     let mut found = Vec::new(alloc);
     for kid in kids_on(alloc, region, cell)? {
         if found.is_empty() {

@@ -5,8 +5,9 @@ use instance_regions::{Cover, Region};
 use event_core::{Core, Event};
 use pack_bound::first_plan;
 use proof_tree::{Closed, Opened, Piece, Proof};
-use search_core::{AloneDesk, close_piece};
+use search_core::BranchAndBound;
 use search_moves::Moves;
+use search_traits::{AloneDesk, Closer};
 use std::alloc::{AllocError, Global};
 use std::process::Abort;
 use std::sync::Arc;
@@ -33,7 +34,7 @@ pub(crate) fn felt_kids(alloc: Global, cell: Cell) -> Result<Vec<Piece>, Fail> {
 pub(crate) fn closed(alloc: Global, piece: Piece) -> Result<Closed, Fail> {
     let cover = first_plan(alloc, piece.region())?;
     let mut desk = AloneDesk::new(cover, None);
-    match close_piece::<Moves, AloneDesk>(alloc, piece, &mut desk) {
+    match BranchAndBound::<Moves>::close_piece(alloc, piece, &mut desk) {
         Ok(closed) => Ok(closed),
         Err(_) => Err(AllocError.into()),
     }

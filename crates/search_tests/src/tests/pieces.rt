@@ -5,8 +5,9 @@ use cave_base::Cell;
 use instance_regions::Region;
 use pack_bound::{dominated, first_plan, scattered};
 use proof_tree::{Piece, floor_of};
-use search_core::{AloneDesk, CloseFault, close_piece};
+use search_core::BranchAndBound;
 use search_moves::Moves;
+use search_traits::{AloneDesk, CloseFault, Closer};
 use std::alloc::Global;
 use std::sync::Arc;
 use std::test::Fail;
@@ -52,7 +53,7 @@ fn a_ring_of_seven_is_closed_at_four(rt: HostRuntime) -> Result<(), Fail> {
 /// How many places are chosen in the region's root as it comes back for want of a second turn.
 fn chosen_in_what_comes_back(alloc: Global, region: &Arc<Region>) -> Result<usize, Fail> {
     let mut desk = AloneDesk::new(first_plan(alloc, region)?, Some(1));
-    match close_piece::<Moves, AloneDesk>(alloc, Piece::root(alloc, region)?, &mut desk) {
+    match BranchAndBound::<Moves>::close_piece(alloc, Piece::root(alloc, region)?, &mut desk) {
         Err(CloseFault::TurnsSpent(back)) => Ok(back.chosen().len()),
         _ => Err(Fail::from("it doesn't come back")),
     }

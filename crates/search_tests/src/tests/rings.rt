@@ -35,7 +35,7 @@ fn fewest_of(
 ) -> Result<(u64, usize), Fail> {
     match plan_alone::<Moves>(alloc, region, turns) {
         Ok(plan) => Ok((plan.cover.size(), kids_of(&plan.proof))),
-        Err(AloneFault::Stopped { cover, floor }) => Ok((cover.size(), floor as usize)),
+        Err(AloneFault::Stopped { cover, floor, .. }) => Ok((cover.size(), floor as usize)),
         Err(AloneFault::OutOfMemory) => Err(AllocError.into()),
     }
 }

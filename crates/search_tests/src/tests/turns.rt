@@ -7,8 +7,9 @@ use super::rings::ring;
 use instance_regions::Region;
 use pack_bound::first_plan;
 use proof_tree::{Piece, floor_of};
-use search_core::{AloneDesk, AloneFault, CloseFault, close_piece, plan_alone};
+use search_core::{AloneFault, BranchAndBound, plan_alone};
 use search_moves::Moves;
+use search_traits::{AloneDesk, CloseFault, Closer};
 use std::alloc::{AllocError, Global};
 use std::sync::Arc;
 use std::test::Fail;
@@ -18,23 +19,23 @@ use std::test::Fail;
 enum End {
     /// A cover of the fewest places was found.
     Done { size: u64 },
-    /// The turns were spent: the size of the smallest cover, and one that none is below.
-    Stopped { size: u64, floor: u64 },
+    /// The turns were spent: the size of the smallest cover, one that none is below, and how many turns were granted.
+    Stopped { size: u64, floor: u64, turns: u64 },
 }
 
 /// A ring of so many cells, its turns, and how the search ends.
 type Row = (u32, Option<u64>, End);
 
 const ROWS: [Row; 13] = [
-    (5, Some(1), End::Stopped { size: 3, floor: 2 }),
-    (5, Some(2), End::Stopped { size: 3, floor: 2 }),
+    (5, Some(1), End::Stopped { size: 3, floor: 2, turns: 1 }),
+    (5, Some(2), End::Stopped { size: 3, floor: 2, turns: 2 }),
     (5, Some(3), End::Done { size: 3 }),
     (5, Some(4), End::Done { size: 3 }),
     (5, None, End::Done { size: 3 }),
-    (7, Some(1), End::Stopped { size: 4, floor: 3 }),
-    (7, Some(2), End::Stopped { size: 4, floor: 3 }),
+    (7, Some(1), End::Stopped { size: 4, floor: 3, turns: 1 }),
+    (7, Some(2), End::Stopped { size: 4, floor: 3, turns: 2 }),
     (7, Some(3), End::Done { size: 4 }),
-    (9, Some(2), End::Stopped { size: 5, floor: 4 }),
+    (9, Some(2), End::Stopped { size: 5, floor: 4, turns: 2 }),
     (9, Some(3), End::Done { size: 5 }),
     // An even ring is one leaf, and one turn.
     (6, Some(1), End::Done { size: 3 }),
@@ -48,9 +49,14 @@ fn end_of(alloc: Global, region: &Arc<Region>, turns: Option<u64>) -> Result<End
         Ok(plan) => Ok(End::Done {
             size: plan.cover.size(),
         }),
-        Err(AloneFault::Stopped { cover, floor }) => Ok(End::Stopped {
+        Err(AloneFault::Stopped {
+            cover,
+            floor,
+            turns,
+        }) => Ok(End::Stopped {
             size: cover.size(),
             floor,
+            turns,
         }),
         Err(AloneFault::OutOfMemory) => Err(AllocError),
     }
@@ -74,7 +80,7 @@ fn closed_root(
     turns: Option<u64>,
 ) -> Result<(Option<u64>, u64), AllocError> {
     let mut desk = AloneDesk::new(first_plan(alloc, region)?, turns);
-    match close_piece::<Moves, AloneDesk>(alloc, Piece::root(alloc, region)?, &mut desk) {
+    match BranchAndBound::<Moves>::close_piece(alloc, Piece::root(alloc, region)?, &mut desk) {
         Ok(closed) => Ok((Some(floor_of(&closed)), desk.granted())),
         Err(CloseFault::TurnsSpent(_)) => Ok((None, desk.granted())),
         Err(CloseFault::OutOfMemory(_)) => Err(AllocError),

@@ -13,6 +13,7 @@ mod search_traits;
 mod tree_judges;
 
 mod instance_reduction;
+mod number_lists;
 mod linear_relaxation;
 mod local_search;
 mod search_moves;

@@ -43,3 +43,23 @@ pub enum Proof {
     Bar { place: u32, by: u32, kid: Below },
     Omit { cells: Sequence<u32>, kid: Below },
 }
+
+/// A place to leave out, and one that does as well.
+#[derive(Clone, Copy)]
+pub struct Bar {
+    pub place: u32,
+    pub by: u32,
+}
+
+/// The tree below bars, the first of them outermost.
+pub fn wrap(alloc: Global, bars: Vec<Bar>, tree: Proof) -> Result<Proof, AllocError> {
+    let mut whole = tree;
+    for bar in bars.iter().rev() {
+        whole = Proof::Bar {
+            place: bar.place,
+            by: bar.by,
+            kid: Below::of(alloc, whole)?,
+        };
+    }
+    Ok(whole)
+}

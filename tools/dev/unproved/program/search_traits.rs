@@ -3,8 +3,7 @@
 use crate::instance_regions::Region;
 use crate::memory::{AllocError, Global, Vec};
 use crate::pack_bound::Node;
-use crate::proof_tree::Proof;
-use crate::tree_judges::Bar;
+use crate::proof_tree::{Bar, Proof};
 
 #[derive(Clone, Copy)]
 pub struct Task<'a> {

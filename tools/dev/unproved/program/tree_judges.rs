@@ -2,28 +2,8 @@
 //! none of them and is judged over all cells, but for the bars right below.
 
 use crate::instance_regions::{Region, add, bits_of, has};
-use crate::memory::{AllocError, Global, Vec};
 use crate::pack_bound::Node;
-use crate::proof_tree::{Below, Proof};
-
-#[derive(Clone, Copy)]
-pub struct Bar {
-    pub place: u32,
-    pub by: u32,
-}
-
-/// The tree below bars, the first of them outermost.
-pub fn wrap(alloc: Global, bars: Vec<Bar>, tree: Proof) -> Result<Proof, AllocError> {
-    let mut whole = tree;
-    for bar in bars.iter().rev() {
-        whole = Proof::Bar {
-            place: bar.place,
-            by: bar.by,
-            kid: Below::of(alloc, whole)?,
-        };
-    }
-    Ok(whole)
-}
+use crate::proof_tree::{Bar, Proof};
 
 /// Of a place the group that it was met in last, and the weight of that group that it lights.
 #[derive(Clone, Copy)]

@@ -2,6 +2,7 @@ use Rattle.std.proofs.Common.{◌∙◌, sym}
 use Rattle.std.specs.Prelude.{option_copied}
 use Rattle.cave_model.specs.RuleOf.{rule_of}
 use Rattle.torch_plan.specs.Answers.{table_in}
+use Rattle.torch_plan.specs.Given.{given}
 use Rattle.torch_plan.proofs.RunLemmas.{file_in, plan_answered, standard_in, told_as}
 use Rattle.command_words.proofs.WordLemmas.{copied}
 use Rattle.torch_plan.proofs.runs.answer_plan.Goals as goal
@@ -13,7 +14,7 @@ returns-then-eq g c =
     let told = told_as (table_in sources (option_copied c.args.table)) (option_copied rows.result) _
     (sym (copied rows.result) ∙ rows.ensures.value) c.in_ok-table.ensures.known in
     let same = c.standard-input.ensures ∙ sym (standard_in sources file (sym c.eq.ensures ∙ c.if-eq.true)) in
-    plan_answered sources file (option_copied c.args.table) (rule_of opts.rule) opts.turns opts.workers.number
+    plan_answered sources file (option_copied c.args.table) (rule_of opts.rule) (given opts.workers.number opts.turns)
     (g.W.Write.contents c.args.output.now) (g.W.Write.contents run.new.output) _ (option_copied rows.result) run.result
     same told run.ensures.done run.ensures.left run.ensures.fault run.ensures.threads
 
@@ -24,6 +25,6 @@ returns-in-Some g c =
     let told = told_as (table_in sources (option_copied c.args.table)) (option_copied rows.result) _
     (sym (copied rows.result) ∙ rows.ensures.value) c.in_ok-table.ensures.known in
     let same = c.in-Some.ensures ∙ sym (file_in sources file (sym c.eq.ensures ∙ c.if-eq.false)) in
-    plan_answered sources file (option_copied c.args.table) (rule_of opts.rule) opts.turns opts.workers.number
+    plan_answered sources file (option_copied c.args.table) (rule_of opts.rule) (given opts.workers.number opts.turns)
     (g.W.Write.contents c.args.output.now) (g.W.Write.contents run.new.output) _ (option_copied rows.result) run.result
     same told run.ensures.done run.ensures.left run.ensures.fault run.ensures.threads

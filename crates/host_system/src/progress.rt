@@ -9,7 +9,7 @@ const BETWEEN: u64 = 1000;
 
 /// Tells of a run, where that is asked for, and holds no worker back. Of the search in less than a second it is silent.
 #[derive(Drop)]
-pub(crate) struct Progress<'r> {
+pub struct Progress<'r> {
     rt: &'r HostRuntime,
     is_asked: AtomicBool,
     region: AtomicU64,
@@ -22,7 +22,7 @@ pub(crate) struct Progress<'r> {
 
 impl<'r> Progress<'r> {
     /// Nothing was asked for yet.
-    pub(crate) fn new(rt: &'r HostRuntime) -> Progress<'r> {
+    pub fn new(rt: &'r HostRuntime) -> Progress<'r> {
         Progress {
             rt,
             is_asked: AtomicBool::new(false),

@@ -1,0 +1,4 @@
+//! The host over real files.
+
+mod answers;
+mod files;

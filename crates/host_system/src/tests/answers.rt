@@ -1,0 +1,64 @@
+//! Command lines over real files: the exit status, what is printed, and what stands in the proof's file.
+
+use super::files::{folder, path_in};
+use crate::{Host, Progress};
+use cave_files::caves::PILLAR;
+use std::alloc::{AllocError, Global};
+use std::fs;
+use std::test::Fail;
+use torch_plan::{Unobserved, answer};
+
+/// What a pillar's plan says.
+const PLAN: &str = "torches 1\ndark 1\nT 0 1 0 floor\nlayer 1\nT\n";
+
+/// The words of a command line, of which some are paths.
+fn words_of(alloc: Global, words: &[&str]) -> Result<Vec<String>, AllocError> {
+    let mut made = Vec::new(alloc);
+    for word in words {
+        made.push(String::from_str(alloc, word)?)?;
+    }
+    Ok(made)
+}
+
+/// The status of a command line, and what it prints.
+fn ended(rt: &HostRuntime, words: &[&str]) -> Result<(u8, Vec<u8>), AllocError> {
+    let alloc = rt.alloc();
+    let progress = Progress::new(rt);
+    let host = Host::new(rt, &progress);
+    let words = words_of(alloc, words)?;
+    let mut output = Vec::new(alloc);
+    let status = answer(rt, alloc, &host, &Unobserved, &words, &mut output);
+    Ok((status, output))
+}
+
+#[test]
+fn a_pillar_from_its_file_to_its_proof(rt: HostRuntime) -> Result<(), Fail> {
+    let room = folder(&rt, "answers")?;
+    let cave = path_in(&rt, &room, "cave.nbt")?;
+    let link = path_in(&rt, &room, "link.nbt")?;
+    let proof = path_in(&rt, &room, "proof")?;
+    let absent = path_in(&rt, &room, "absent")?;
+    let (cave, link) = (cave.as_str(), link.as_str());
+    let (proof, absent) = (proof.as_str(), absent.as_str());
+    let bytes = PILLAR.bytes(rt.alloc())?;
+    fs::write(&rt, cave, &bytes)?;
+    fs::symlink(&rt, cave, link)?;
+    let planned = ended(&rt, &["torchplan", "plan", cave, "--proof", proof])?;
+    assert_eq!(rt; planned.0, 0);
+    assert_eq!(rt; planned.1.as_slice(), PLAN.as_bytes());
+    let checked = ended(&rt, &["torchplan", "check", cave, proof])?;
+    assert_eq!(rt; checked.0, 0);
+    assert_eq!(rt; checked.1.as_slice(), b"accepted 1\n".as_slice());
+    // A cave is no proof, a proof no cave, and a proof is never written over the cave.
+    assert_eq!(rt; ended(&rt, &["torchplan", "check", cave, cave])?.0, 4);
+    assert_eq!(rt; ended(&rt, &["torchplan", "dark", proof])?.0, 1);
+    assert_eq!(rt; ended(&rt, &["torchplan", "plan", cave, "--proof", link])?.0, 2);
+    assert_eq!(rt; ended(&rt, &["torchplan", "dark", absent])?.0, 6);
+    assert_eq!(rt; ended(&rt, &["torchplan", "plan", cave, "--proof", "/dev/full"])?.0, 6);
+    assert_eq!(rt; fs::read(&rt, cave)?.as_slice(), bytes.as_slice());
+    // A refused input empties the proof's file.
+    assert_eq!(rt; ended(&rt, &["torchplan", "plan", link, "--table", cave, "--proof", proof])?.0, 1);
+    assert_eq!(rt; fs::read(&rt, proof)?.len(), 0);
+    fs::remove_dir_all(&rt, room.as_path())?;
+    Ok(())
+}
