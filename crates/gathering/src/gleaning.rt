@@ -1,6 +1,6 @@
 //! The caller's thread closes the pieces that are left waiting on the event core: `Gleans` of specs/Gathered.antt. It
 //! offers its best cover and looks before each close.
-ghost use Rattle.std.specs.Prelude.{◌≡◌, ◌≤◌, length, IsTrue, IfErr, IfOk};
+ghost use Rattle.std.specs.Prelude.{◌≡◌, length, IsTrue, IfErr, IfOk};
 ghost use Rattle.event_core.specs.Events.{IsWorker};
 ghost use Rattle.event_core.specs.Kept.{state_of};
 ghost use Rattle.event_core.specs.State.{IsDone};

@@ -14,7 +14,7 @@ module _ {T A P : Type 0} where
     pub unspent : (worker_view owner).spent ≡ false
 
   -- the pass is one at the thief's deque, which is first in, first out
-  pub record Reaches (thief : Stealer T A Dealt P) (hand : Pass T Dealt A) : Type 0 where
+  pub record IsPassFor (thief : Stealer T A Dealt P) (pass : Pass T Dealt A) : Type 0 where
     pub first_out : stealer_flavor thief ≡ 0
-    pub pass : IsPassOf (stealer_deque thief) hand
-    pub unspent : (view hand).spent ≡ false
+    pub at_deque : IsPassOf (stealer_deque thief) pass
+    pub unspent : (view pass).spent ≡ false

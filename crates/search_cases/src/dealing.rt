@@ -1,6 +1,6 @@
 //! Pieces in a deque that its owner and a thief take in turn.
 ghost use Rattle.crossbeam_deque.specs.Handles.{SameWorker};
-ghost use Rattle.search_cases.specs.Turns.{IsOwners, Reaches};
+ghost use Rattle.search_cases.specs.Turns.{IsOwners, IsPassFor};
 
 use piece_deque::{Owner, Pass, Take, Thief, lend_pass, open, push, steal, take, take_back};
 use proof_tree::Piece;
@@ -36,8 +36,8 @@ fn taken(owner: &mut Owner) -> Option<u32>
 
 /// What the thief takes.
 fn stolen(thief: &Thief, pass: &mut Pass) -> Option<u32>
-    requires { Reaches thief.now pass.old }
-    ensures { Reaches thief.now pass.new }
+    requires { IsPassFor thief.now pass.old }
+    ensures { IsPassFor thief.now pass.new }
 {
     let answer = steal(thief, pass);
     number_of(answer)

@@ -7,10 +7,10 @@ ghost use Rattle.search_cases.specs.Single.{IsSingleOf};
 
 use cave_model::World;
 use cave_regions::split;
-use instance_regions::Region;
 use certificate_text::{Planned, write_certificate};
 use cover_rows::Problem;
 use event_core::Core;
+use instance_regions::Region;
 use std::alloc::{AllocError, Global};
 use std::sync::Arc;
 use std::test::Fail;

@@ -16,7 +16,7 @@ use worker_results::{Berth, Holdings, Naming, Own, PassAt, PassRow};
 
 /// The first seat, and those that were split off.
 #[derive(Drop)]
-pub(crate) struct Seats {
+pub(crate) struct SplitSeats {
     pub(crate) first: Seat,
     pub(crate) others: Vec<Seat>,
 }
@@ -27,7 +27,7 @@ pub(crate) fn split_seats(
     beacon: &Beacon,
     first: Seat,
     workers: u32,
-) -> Result<Seats, AllocError>
+) -> Result<SplitSeats, AllocError>
     requires { (first.beacon ≡ beacon.now) × (first.knows.first ≡ true) }
     ensures first { IfOk result (λ seats. SplitsOff first workers seats.first) }
     ensures others { IfOk result (λ seats. All (IsNewSeatAt beacon.now) seats.others.items) }
@@ -38,7 +38,7 @@ pub(crate) fn split_seats(
     for number in 0..workers {
         others.push(beacon.split(&mut first))?;
     }
-    Ok(Seats { first, others })
+    Ok(SplitSeats { first, others })
 }
 
 /// The ends of the deques, with their workers' numbers.
@@ -60,13 +60,13 @@ pub(crate) fn owned<B: Naming>(alloc: Global, owners: Vec<Owner>) -> Result<Vec<
 
 /// The ends of the deques, and a pass at each.
 #[derive(Drop)]
-struct Row<B: Naming> {
+struct LentRow<B: Naming> {
     owned: Vec<Own<B>>,
     passes: Vec<PassAt<B>>,
 }
 
 /// Lends a pass at each deque.
-fn lend_row<B: Naming>(alloc: Global, owned: Vec<Own<B>>) -> Result<Row<B>, AllocError>
+fn lend_row<B: Naming>(alloc: Global, owned: Vec<Own<B>>) -> Result<LentRow<B>, AllocError>
     ensures owned { IfOk result (λ row. row.owned.items ≡ map lent owned.items) }
     ensures passes { IfOk result (λ row. row.passes.items ≡ map lent_pass owned.items) }
 {
@@ -76,7 +76,7 @@ fn lend_row<B: Naming>(alloc: Global, owned: Vec<Own<B>>) -> Result<Row<B>, Allo
         passes.push(own.lend_pass())?;
         left.push(own)?;
     }
-    Ok(Row {
+    Ok(LentRow {
         owned: left,
         passes,
     })

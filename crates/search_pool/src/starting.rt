@@ -1,21 +1,15 @@
 //! A run of workers over a root that is opened: `IsRun` of specs/Runs.antt. The beacon is opened, the deques are
 //! stocked, and both are named.
 ghost use Rattle.std.specs.Arc.{arc_value};
-ghost use Rattle.std.specs.Prelude.{◌≡◌, IfOk, length};
-ghost use Rattle.beacon.specs.Marks.{at_first};
-ghost use Rattle.proof_tree.specs.Opened.{kids_of};
-ghost use Rattle.search_pool.specs.Deques.{deque_at, pushed_at};
+ghost use Rattle.std.specs.Prelude.{IfOk};
 ghost use Rattle.search_pool.specs.Runs.{IsRun};
-ghost use Rattle.search_pool.specs.Slots.{AreOwners};
 ghost use Rattle.search_pool.specs.Turns.{AreGranted};
-ghost use Rattle.worker_results.specs.Joining.{IsRootSplit, StartWith};
-ghost use Rattle.worker_results.specs.Naming.{AreThieves};
+ghost use Rattle.worker_results.specs.Joining.{IsRootSplit};
 
 use crate::pool::{Ran, Run, run_named};
 use crate::stock::{Stock, stock_for};
 use crate::unrun::Unrun;
-use beacon::{Beacon, Seat};
-use piece_deque::{Owner, Thief};
+use beacon::Beacon;
 use search_traits::{Closer, Observer};
 use std::marker::Brand;
 use std::sync::Wait;

@@ -16,7 +16,7 @@ use Rattle.schedule_law.proofs.LongLemmas.{kids-append, pieces-append}
 use Rattle.worker_results.specs.Naming.{numbers_from}
 use Rattle.worker_results.specs.Passes.{Owned, KnownPass}
 use Rattle.worker_results.specs.Joining.{IsRootSplit, StartWith, numbers_of, total}
-use Rattle.worker_results.specs.Apart.{AreApart, told_size, weigh_done}
+use Rattle.worker_results.specs.Parting.{AreParted, told_size, weigh_done}
 use Rattle.worker_results.specs.Taking.{AreDrained, TakeRows}
 use Rattle.worker_results.proofs.PartLemmas.{works_less}
 
@@ -69,7 +69,7 @@ root_is region root e = λ i. record { piece = e i; cell = root.cell; places = r
 -- where all seats and passes came back, each piece that came to be is accounted for once
 pub joined : (region : Instance) (start : ℕ → List Subproblem) (workers : ℕ) (root : Split) (word : ℕ) (best : List ℕ)
     (old new : Known) (owners drained : List Owned) (rows : List (List KnownPass)) (works : List Worked)
-    (left : List Subproblem) → AreApart region start workers old new owners rows works → TakeRows owners rows drained
+    (left : List Subproblem) → AreParted region start workers old new owners rows works → TakeRows owners rows drained
     → AreDrained drained left → old.told ≡ Some (length best) → new.told ≡ Some word → word ≤ new.seen
     → numbers_of owners ≡ numbers_from 0 workers → IsRootSplit region root → StartWith start workers (kids_of root)
     → AreJoined region best root.cell root.places works left

@@ -15,7 +15,7 @@ use Rattle.schedule_law.proofs.PieceLemmas.{weigh-append}
 use Rattle.worker_results.specs.Passes.{Owned, KnownPass, all_taken}
 use Rattle.worker_results.specs.Results.{Handed, KeepsTold}
 use Rattle.worker_results.specs.Joining.{numbers_of, total, workers_of, works_of}
-use Rattle.worker_results.specs.Apart.{AreResultParts, IsOneMore, IsRow, AreApart, told_size, weigh_done}
+use Rattle.worker_results.specs.Parting.{AreResultParts, IsOneMore, IsRow, AreParted, told_size, weigh_done}
 
 -- an item more adds its number
 pub total-push : {A : Type 0} (f : A → ℕ) (xs : List A) (x : A) → total f (xs ++ x ∷ []) ≡ total f xs + f x
@@ -94,8 +94,8 @@ works_less region n m works le all =
 module _ (region : Instance) (start : ℕ → List Subproblem) (workers : ℕ) where
   apart_push : (old new : Known) (owners : List Owned) (rows : List (List KnownPass)) (works : List Worked)
       (done : Handed) (own : Owned) (row : List KnownPass) (work : Worked)
-      → AreApart region start workers old new owners rows works → AreResultParts region start workers done own row work
-      → AreApart region start workers old (together new done.knows) (owners ++ own ∷ []) (rows ++ row ∷ [])
+      → AreParted region start workers old new owners rows works → AreResultParts region start workers done own row work
+      → AreParted region start workers old (together new done.knows) (owners ++ own ∷ []) (rows ++ row ∷ [])
       (works ++ work ∷ [])
   apart_push old new owners rows works done own row work p are =
       let size : ℕ = told_size old.told in
@@ -141,11 +141,11 @@ module _ (region : Instance) (start : ℕ → List Subproblem) (workers : ℕ) w
       (works more_works : List Worked)
       (one : IsOneMore region start workers done owners rows works more_owners more_rows more_works) where
     -- one result more was taken apart
-    pub apart_more : (old new next : Known) → AreApart region start workers old new owners rows works
-        → next ≡ together new done.knows → AreApart region start workers old next more_owners more_rows more_works
+    pub apart_more : (old new next : Known) → AreParted region start workers old new owners rows works
+        → next ≡ together new done.knows → AreParted region start workers old next more_owners more_rows more_works
     apart_more old new next p is =
         subst (λ (x : Known × (List Owned × (List (List KnownPass) × List Worked))).
-        AreApart region start workers old x.0 x.1.0 x.1.1.0 x.1.1.1)
+        AreParted region start workers old x.0 x.1.0 x.1.1.0 x.1.1.1)
         (λ i. (sym is i, (sym one.in_owners i, (sym one.in_rows i, sym one.in_works i))))
         (apart_push old new owners rows works done one.own one.row one.work p one.are)
 

@@ -10,7 +10,7 @@ use Rattle.worker_results.specs.Naming.{numbers_from}
 use Rattle.worker_results.specs.Passes.{Owned, KnownPass, all_taken, deques, took_back}
 use Rattle.worker_results.specs.Results.{Handed}
 use Rattle.worker_results.specs.Joining.{AreOfAll, numbers_of, total}
-use Rattle.worker_results.specs.Apart.{AreOut}
+use Rattle.worker_results.specs.Parting.{AreOut}
 use Rattle.worker_results.specs.Taking.{take_back_row}
 
 -- ---- owners and passes by their numbers

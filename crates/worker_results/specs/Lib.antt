@@ -9,5 +9,5 @@ pub mod Tries
 pub mod Joining
 -- private
 pub mod Nothing
-pub mod Apart
+pub mod Parting
 pub mod Taking

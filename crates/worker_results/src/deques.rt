@@ -1,7 +1,7 @@
 //! Owners take back the passes of all workers, and what is left in the deques is taken: `TakeRows` and `AreDrained` of
 //! specs/Taking.antt.
 ghost use Rattle.std.specs.Prelude.{◌≡◌, length, All, IfOk};
-ghost use Rattle.worker_results.specs.Apart.{AreOut, IsRow};
+ghost use Rattle.worker_results.specs.Parting.{AreOut, IsRow};
 ghost use Rattle.worker_results.specs.Joining.{numbers_of};
 ghost use Rattle.worker_results.specs.Naming.{numbers_from};
 ghost use Rattle.worker_results.specs.Taking.{AreDrained, TakeRows, take_back_row};

@@ -1,8 +1,8 @@
-//! Results are taken apart, and their seats joined to the first one: `AreApart` of specs/Apart.antt. The parts stand in
-//! the order of the results.
+//! Results are taken apart, and their seats joined to the first one: `AreParted` of specs/Parting.antt. The parts stand
+//! in the order of the results.
 ghost use Rattle.std.specs.Prelude.{◌≡◌, length, true, IfOk};
 ghost use Rattle.beacon.specs.Marks.{together};
-ghost use Rattle.worker_results.specs.Apart.{AreApart, AreResultParts, IsOneMore};
+ghost use Rattle.worker_results.specs.Parting.{AreParted, AreResultParts, IsOneMore};
 ghost use Rattle.worker_results.specs.Joining.{numbers_of, workers_of, works_of};
 
 use crate::done::{Done, Parts};
@@ -33,7 +33,7 @@ pub(crate) fn part_all<B: Naming>(
     requires beacon { (beacon.now ≡ B.beacon) × (first.beacon ≡ B.beacon) }
     requires first { first.knows.first ≡ true }
     ensures seat { IfOk result (λ parts. parts.first.beacon ≡ B.beacon) }
-    ensures apart { IfOk result (λ parts. AreApart B.region B.start B.workers
+    ensures apart { IfOk result (λ parts. AreParted B.region B.start B.workers
         first.knows parts.first.knows
         parts.owners.items parts.rows.items parts.works.items) }
     ensures numbers { IfOk result (λ parts.

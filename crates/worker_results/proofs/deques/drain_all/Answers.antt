@@ -3,7 +3,7 @@ use Rattle.std.proofs.lemmas.List.Elements.{All-tail}
 use Rattle.proof_tree.specs.Weights.{weigh}
 use Rattle.worker_results.specs.Passes.{Owned}
 use Rattle.worker_results.specs.Joining.{total}
-use Rattle.worker_results.specs.Apart.{AreOut}
+use Rattle.worker_results.specs.Parting.{AreOut}
 use Rattle.worker_results.proofs.deques.drain_all.Goals as goal
 
 pub loop-own-preserved : goal.loop-own-preserved

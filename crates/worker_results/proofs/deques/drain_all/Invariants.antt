@@ -2,7 +2,7 @@ use Rattle.std.proofs.Common.{◌≡◌, ◌+◌, ℕ}
 use Rattle.proof_tree.specs.Piece.{Subproblem}
 use Rattle.proof_tree.specs.Weights.{weigh}
 use Rattle.worker_results.specs.Joining.{total}
-use Rattle.worker_results.specs.Apart.{AreOut}
+use Rattle.worker_results.specs.Parting.{AreOut}
 use Rattle.worker_results.proofs.deques.drain_all.Given as goal
 
 abbrev pub invariant-loop-own : goal.invariant-loop-own

@@ -3,7 +3,7 @@ use Rattle.std.proofs.lemmas.List.Elements.{All-head, All-tail}
 use Rattle.proof_tree.specs.Weights.{weigh}
 use Rattle.worker_results.specs.Passes.{Owned, KnownPass, all_taken}
 use Rattle.worker_results.specs.Joining.{total}
-use Rattle.worker_results.specs.Apart.{AreOut, IsRow}
+use Rattle.worker_results.specs.Parting.{AreOut, IsRow}
 use Rattle.worker_results.proofs.TakeLemmas.{owners_long, row_long, out_in, pushed_in, taken_in}
 use Rattle.worker_results.proofs.deques.take_rows.Goals as goal
 

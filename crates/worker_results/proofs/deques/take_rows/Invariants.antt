@@ -4,7 +4,7 @@ use Rattle.proof_tree.specs.Weights.{weigh}
 use Rattle.worker_results.specs.Naming.{numbers_from}
 use Rattle.worker_results.specs.Passes.{all_taken}
 use Rattle.worker_results.specs.Joining.{numbers_of, total}
-use Rattle.worker_results.specs.Apart.{AreOut, IsRow}
+use Rattle.worker_results.specs.Parting.{AreOut, IsRow}
 use Rattle.worker_results.proofs.deques.take_rows.Given as goal
 
 abbrev pub invariant-loop-row : goal.invariant-loop-row

@@ -1,5 +1,5 @@
 use Rattle.std.proofs.Common.{◌≡◌, ◌∙◌, length, sym, subst, arith}
-use Rattle.worker_results.specs.Apart.{AreOut}
+use Rattle.worker_results.specs.Parting.{AreOut}
 use Rattle.worker_results.proofs.JoinLemmas.{joined}
 use Rattle.worker_results.proofs.TakeLemmas.{results_long}
 use Rattle.worker_results.proofs.joined.close_up.Goals as goal

@@ -32,7 +32,7 @@ told_size None = 0
 told_size (Some size) = size
 
 -- what is known of the parts, where the first seat was so before it took in the others, and is so now
-pub record AreApart (region : Instance) (start : ℕ → List Subproblem) (workers : ℕ) (old new : Known)
+pub record AreParted (region : Instance) (start : ℕ → List Subproblem) (workers : ℕ) (old new : Known)
     (owners : List Owned) (rows : List (List KnownPass)) (works : List Worked) : Type 0 where
   pub first : new.first ≡ true
   pub out : new.out ≡ old.out - length rows
