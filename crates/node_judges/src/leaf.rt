@@ -1,3 +1,5 @@
+//! Leaves: free cells of which no place that isn't barred lights two, as `Good` of proof_rules has them:
+//! specs/Tests.antt.
 ghost use Rattle.std.specs.Prelude.{◌≡◌, [], length, IfOk};
 ghost use Rattle.node_judges.specs.Settings.{left_in};
 ghost use Rattle.node_judges.specs.Tests.{AreInside, DecidesApart};

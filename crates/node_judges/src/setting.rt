@@ -1,3 +1,4 @@
+//! What a node is judged in: specs/Settings.antt.
 use crate::tally::Tally;
 use lit_lists::Lists;
 

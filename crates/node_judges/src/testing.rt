@@ -1,3 +1,4 @@
+//! Tests of single cells and places against a tally: specs/Tests.antt.
 ghost use Rattle.std.specs.List.Sorted.{IsStrictlyIncreasing};
 ghost use Rattle.std.specs.Prelude.{◌≡◌, ℕ, [], ◌++◌, ◌↔◌, ◌<◌, length, All, Contains, IsTrue, IfOk, OnOk};
 ghost use Rattle.node_judges.specs.Settings.{left_in};

@@ -1,3 +1,4 @@
+//! What a plan is made by.
 use crate::workers::Workers;
 use cave_model::Rule;
 

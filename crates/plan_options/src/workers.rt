@@ -1,3 +1,4 @@
+//! How many workers there may be: specs/Crew.antt.
 ghost use Rattle.std.specs.Prelude.{◌≡◌, IsFalse, IsTrue, MatchOption};
 ghost use Rattle.plan_options.specs.Crew.{is_crew};
 

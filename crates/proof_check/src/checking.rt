@@ -1,3 +1,4 @@
+//! The checker's two calls: the verdict on the bytes of a certificate, `IsJudged` of specs/Verdict.antt.
 ghost use Rattle.std.specs.Prelude.{◌≡◌, ◌≢◌, ◌<◌, length, IfOk, IfErr, IfSome, MatchResult, option_copied};
 ghost use Rattle.cave_base.specs.Answer.{IsAnswer, IsRefusal};
 ghost use Rattle.cave_model.specs.RuleOf.{rule_of};

@@ -1,3 +1,4 @@
+//! What is decided once the text of a certificate has ended: specs/Ending.antt.
 ghost use Rattle.std.specs.Prelude.{◌≡◌, IfOk};
 ghost use Rattle.proof_check.specs.Ending.{Ends, node_reason};
 

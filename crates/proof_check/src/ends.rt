@@ -1,3 +1,4 @@
+//! Reasons that lie in whole lists of torches and cells: specs/Ends.antt.
 ghost use Rattle.std.specs.Prelude.{◌≡◌, ◌↔◌, IsTrue};
 ghost use Rattle.proof_check.specs.Ends as ends;
 

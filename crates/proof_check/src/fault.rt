@@ -1,3 +1,4 @@
+//! Why there is no verdict: specs/Faults.antt.
 ghost use Rattle.std.specs.Prelude.{◌≡◌};
 ghost use Rattle.proof_check.specs.Faults.{check_fault_of};
 ghost use Rattle.proof_check.specs.declared.fault.CheckFault.TheVariants.{OutOfMemory};

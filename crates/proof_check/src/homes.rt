@@ -1,3 +1,4 @@
+//! In which region's list each cell stands: specs/Homes.antt.
 ghost use Rattle.std.specs.Prelude.{◌≡◌, ◌↔◌, ◌<◌, ◌+◌, ◌^◌, [], length, slice_index_or, IfOk, IsTrue};
 ghost use Rattle.proof_check.specs.Homes.{AreHomesOf, DecidesTwo, Joins, PutsAll, both_homes};
 ghost use Rattle.proof_check.specs.declared.homes.Home.TheVariants as home_kinds;

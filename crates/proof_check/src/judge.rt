@@ -1,3 +1,4 @@
+//! The judge of a certificate, line by line: specs/Heard.antt.
 ghost use Rattle.std.specs.Prelude.{◌<◌, ◌+◌, ◌^◌, [], IfOk, OnOk};
 ghost use Rattle.node_judges.specs.Tests.{AreAscending};
 ghost use Rattle.proof_check.specs.Heard.{Hears, IsAfter};

@@ -1,3 +1,4 @@
+//! The judge of a region's tree, node by node, with a stack of its own: specs/Kept.antt.
 ghost use Rattle.std.specs.List.Sorted.{IsStrictlyIncreasing};
 ghost use Rattle.std.specs.Option.{option_or};
 ghost use Rattle.std.specs.Prelude.{◌≡◌, ◌+◌, length, nat_lt, if◌then◌else◌, Some, None, IfOk, OnOk};

@@ -1,3 +1,4 @@
+//! Whether the lists of a certificate are the regions of its cave: specs/Ends.antt.
 ghost use Rattle.std.specs.Prelude.{◌≡◌, ◌↔◌, ◌<◌, length, IfOk, IsTrue};
 ghost use Rattle.cave_base.specs.Box.{cell_count};
 ghost use Rattle.lit_lists.specs.Seeded.{AreUnlit};

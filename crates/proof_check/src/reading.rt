@@ -1,3 +1,4 @@
+//! Reading a certificate piece by piece, within a limit: specs/Reading.antt.
 ghost use Rattle.std.specs.Prelude.{◌≡◌, ◌⊎◌, ◌≤◌, ◌<◌, length, IfOk, IfErr, IfSome, MatchResult};
 ghost use Rattle.proof_check.specs.Reading.{Gives, GivesAtMost, GivesNone};
 ghost use Rattle.proof_check.specs.Tried.{IsTheVerdict};

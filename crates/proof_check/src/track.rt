@@ -1,3 +1,4 @@
+//! The branches that are open on the way to a node: specs/Track.antt.
 ghost use Rattle.std.specs.Prelude.{◌≡◌, ◌<◌, ◌+◌, [], length, OnOk};
 ghost use Rattle.proof_check.specs.Track.{ClosesFrames, Enters, IsNextKid, IsSettingOf};
 

@@ -1,3 +1,4 @@
+//! A certificate that is judged as its bytes come: specs/Tried.antt.
 ghost use Rattle.std.specs.Prelude.{◌≡◌, ◌∷◌, [], ◌↔◌, IsTrue, length, IfOk, OnOk, MatchOption};
 ghost use Rattle.certificate_lines.specs.declared.kind.LineKind.TheVariants.{Size};
 ghost use Rattle.proof_check.specs.Tried.{AgreesOn, Catches, Concludes, HasRoom, HearsAll, HearsTo, IsBehind, Tried};

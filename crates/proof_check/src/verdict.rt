@@ -1,3 +1,4 @@
+//! The verdict on a certificate, and its words: specs/Verdict.antt and specs/Texts.antt.
 use crate::reason::Reason;
 use std::fmt;
 

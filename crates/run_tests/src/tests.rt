@@ -1,3 +1,4 @@
+//! The tests, by what they run.
 mod answering;
 mod counted;
 mod dark_streams;

@@ -1,3 +1,4 @@
+//! The tests, by what they search.
 mod beacons;
 mod certificates;
 mod cores;

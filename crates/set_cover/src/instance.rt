@@ -1,3 +1,4 @@
+//! Set cover instances: `IsInstance` of specs/Instance.antt.
 ghost use Rattle.std.specs.Prelude.{◌≡◌, ◌<◌, ◌↔◌, Contains, IsTrue, length};
 ghost use Rattle.set_cover.specs.Instance.{IsInstance, IsRowAt, LightsIn, row_of};
 

@@ -1,3 +1,4 @@
+//! Indices of cells among ascending cells: specs/Numbering.antt.
 ghost use Rattle.std.specs.List.Sorted.{IsStrictlyIncreasing};
 ghost use Rattle.std.specs.Prelude.{◌<◌, ◌≤◌, ◌^◌, length, All};
 ghost use Rattle.set_cover.specs.Numbering.{Numbers};

@@ -1,3 +1,4 @@
+//! Binary search among ascending cells.
 ghost use Rattle.std.specs.List.Sorted.{IsStrictlyIncreasing};
 ghost use Rattle.std.specs.Prelude.{MatchOption, Contains};
 ghost use Rattle.set_cover.specs.Instance.{StandsAt};

@@ -1,15 +1,17 @@
 -- What a run over files gives, as far as these are known.
 use Rattle.std.proofs.Common.{◌≡◌, ◌≢◌, ◌<◌, ◌∙◌, ℕ, Bool, true, false, List, Option, Some, None, Result, Ok, Err}
-use Rattle.std.proofs.Common.{sym, ap, subst}
+use Rattle.std.proofs.Common.{sym, ap, subst, ◌⊎◌, inl, inr}
+use Rattle.std.specs.Io.KnownBytes.{Keeps}
 use Rattle.std.specs.Prelude.{IfErr, IfOk, IfSome, OnOk, bytes_eq, codes, if◌then◌else◌}
 use Rattle.cave_model.specs.Rule.{Rule}
 use Rattle.cave_runs.specs.PlanRuns.{IsNoPlanOfInput}
-use Rattle.cave_runs.specs.Runs.{IsFaultOfInput, IsOfInput, WritesDark}
+use Rattle.cave_runs.specs.Runs.{BeginsDark, IsFaultOfInput, IsOfInput, WritesDark}
 use Rattle.cave_runs.specs.declared.fault.RunFault.{RunFault}
 use Rattle.cave_runs.specs.declared.fault.RunFault.TheVariants as faults
 use Rattle.cave_runs.specs.declared.plan.Outcome.{Outcome}
 use Rattle.search_traits.specs.declared.planner.Allowance.{Allowance}
-use Rattle.torch_plan.specs.Answers.{AnswersDark, AnswersPlan, LeavesOutput, PlansSome, structure_in, table_in}
+use Rattle.torch_plan.specs.Answers.{AnswersDark, AnswersPlan, BeginsSome, LeavesOutput, PlansSome, structure_in}
+use Rattle.torch_plan.specs.Answers.{table_in}
 use Rattle.torch_plan.specs.Sources.{Sources}
 
 -- standard input, where that is named
@@ -42,17 +44,21 @@ pub dark_answered : (sources : Sources) (file : List ℕ) (table : Option (List 
     (old new remaining read : Option (List ℕ)) (result : Result (Unit {0}) RunFault)
     → remaining ≡ structure_in sources file → IfSome (table_in sources table) (λ r. read ≡ r)
     → OnOk result (IfSome remaining (λ bytes. WritesDark bytes read rule old new)) → LeavesOutput result old new
+    → IfErr result (λ e. e ≡ faults.WriteFailed → IfSome remaining (λ bytes. BeginsDark bytes read rule old new))
     → IfErr result (λ e. IsOfInput e → IfSome remaining (λ bytes. IsFaultOfInput bytes read e))
     → AnswersDark sources file table rule old new result
-dark_answered sources file table rule old new remaining read (Ok u) same told done left fault = record {
+dark_answered sources file table rule old new remaining read (Ok u) same told done left begun fault = record {
   done = known (structure_in sources file) remaining (table_in sources table) read
       (λ bytes rows. WritesDark bytes rows rule old new) same told done;
   left = left;
+  begun = tt;
   fault = tt;
 }
-dark_answered sources file table rule old new remaining read (Err e) same told done left fault = record {
+dark_answered sources file table rule old new remaining read (Err e) same told done left begun fault = record {
   done = tt;
   left = left;
+  begun = λ failed. known (structure_in sources file) remaining (table_in sources table) read
+      (λ bytes rows. BeginsDark bytes rows rule old new) same told (begun failed);
   fault = λ of. known (structure_in sources file) remaining (table_in sources table) read
       (λ bytes rows. IsFaultOfInput bytes rows e) same told (fault of.0);
 }
@@ -63,22 +69,30 @@ pub plan_answered : (sources : Sources) (file : List ℕ) (table : Option (List 
     → remaining ≡ structure_in sources file → IfSome (table_in sources table) (λ r. read ≡ r)
     → IfOk result (λ outcome. IfSome remaining (λ bytes. PlansSome bytes read rule allowance outcome old new))
     → LeavesOutput result old new
+    → IfErr result (λ e. e ≡ faults.WriteFailed → Keeps old new
+    ⊎ IfSome remaining (λ bytes. BeginsSome bytes read rule allowance old new))
     → IfErr result (λ e. IsOfInput e → e ≢ faults.NoThread
     → IfSome remaining (λ bytes. IsNoPlanOfInput bytes read rule e))
     → IfErr result (λ e. e ≡ faults.NoThread → 1 < allowance.workers)
     → AnswersPlan sources file table rule allowance old new result
-plan_answered sources file table rule allowance old new remaining read (Ok outcome) same told done left fault
-    threads = record {
+plan_answered sources file table rule allowance old new remaining read (Ok outcome) same told done left begun
+    fault threads = record {
       done = known (structure_in sources file) remaining (table_in sources table) read
           (λ bytes rows. PlansSome bytes rows rule allowance outcome old new) same told done;
       left = left;
+      begun = tt;
       fault = tt;
       threads = tt;
     }
-plan_answered sources file table rule allowance old new remaining read (Err e) same told done left fault threads
-    = record {
+plan_answered sources file table rule allowance old new remaining read (Err e) same told done left begun fault
+    threads = record {
       done = tt;
       left = left;
+      begun = λ failed. (elim (begun failed) [
+        | inl kept ↦ inl kept
+        | inr some ↦ inr (known (structure_in sources file) remaining (table_in sources table) read
+            (λ bytes rows. BeginsSome bytes rows rule allowance old new) same told some)
+      ]);
       fault = λ of more. known (structure_in sources file) remaining (table_in sources table) read
           (λ bytes rows. IsNoPlanOfInput bytes rows rule e) same told (fault of.0 more);
       threads = threads;

@@ -5,9 +5,9 @@ use Rattle.std.specs.Io.KnownBytes.{Keeps}
 use Rattle.cave_model.specs.Rule.{Rule}
 use Rattle.cave_model.specs.RuleOf.{rule_of}
 use Rattle.proof_check.specs.declared.verdict.Verdict.{Verdict}
-use Rattle.cave_runs.specs.CheckRuns.{IsNoVerdict, WritesVerdict}
-use Rattle.cave_runs.specs.PlanRuns.{IsNoPlanOfInput, Plans}
-use Rattle.cave_runs.specs.Runs.{IsFaultOfInput, IsOfInput, WritesDark}
+use Rattle.cave_runs.specs.CheckRuns.{IsNoVerdict, LeavesLine, WritesVerdict}
+use Rattle.cave_runs.specs.PlanRuns.{BeginsPlan, IsNoPlanOfInput, Plans}
+use Rattle.cave_runs.specs.Runs.{BeginsDark, IsFaultOfInput, IsOfInput, WritesDark}
 use Rattle.cave_runs.specs.declared.fault.Input.TheVariants.{TableInput}
 use Rattle.cave_runs.specs.declared.fault.RunFault.{RunFault}
 use Rattle.cave_runs.specs.declared.fault.RunFault.TheVariants as faults
@@ -15,7 +15,7 @@ use Rattle.cave_runs.specs.declared.plan.Outcome.{Outcome}
 use Rattle.command_words.specs.Requests.{IsAsked}
 use Rattle.search_traits.specs.declared.planner.Allowance.{Allowance}
 use Rattle.torch_plan.specs.Given.{given}
-use Rattle.torch_plan.specs.Sources.{Sources}
+use Rattle.torch_plan.specs.Sources.{Sources, MayOverwrite, MayStandApart}
 use Rattle.torch_plan.specs.Status.{end_status, judged, status}
 use Rattle.command_words.specs.Mistakes.{AreWellFormed}
 use Rattle.torch_plan.specs.Usage.{IsExplained}
@@ -56,6 +56,8 @@ pub record AnswersDark (sources : Sources) (file : List ℕ) (table : Option (Li
     (old new : Option (List ℕ)) (result : Result (Unit {0}) RunFault) : Type 0 where
   pub done : OnOk result (Known sources file table (λ bytes rows. WritesDark bytes rows rule old new))
   pub left : LeavesOutput result old new
+  pub begun : IfErr result (λ fault. fault ≡ faults.WriteFailed → Known sources file table (λ bytes rows.
+      BeginsDark bytes rows rule old new))
   pub fault : IfErr result (λ fault. IsOfStructure fault → Known sources file table (λ bytes rows.
       IsFaultOfInput bytes rows fault))
 
@@ -74,12 +76,22 @@ pub record PlansSome (bytes : List ℕ) (table : Option (List ℕ)) (rule : Rule
   pub after : Option (List ℕ)
   pub plans : Plans bytes table rule allowance outcome old new before after
 
+-- a beginning of the plan was written, and of its proof
+pub record BeginsSome (bytes : List ℕ) (table : Option (List ℕ)) (rule : Rule) (allowance : Allowance)
+    (old new : Option (List ℕ)) : Type 0 where
+  -- what was written of the proof before
+  pub before : Option (List ℕ)
+  pub after : Option (List ℕ)
+  pub begins : BeginsPlan bytes table rule allowance old new before after
+
 -- the plan was written, and its proof to some file or to none, or the fault is the structure's
 pub record AnswersPlan (sources : Sources) (file : List ℕ) (table : Option (List ℕ)) (rule : Rule)
     (allowance : Allowance) (old new : Option (List ℕ)) (result : Result Outcome RunFault) : Type 0 where
   pub done : IfOk result (λ outcome. Known sources file table (λ bytes rows.
       PlansSome bytes rows rule allowance outcome old new))
   pub left : LeavesOutput result old new
+  pub begun : IfErr result (λ fault. fault ≡ faults.WriteFailed → Keeps old new ⊎ Known sources file table
+      (λ bytes rows. BeginsSome bytes rows rule allowance old new))
   pub fault : IfErr result (λ fault. IsOfStructure fault → fault ≢ faults.NoThread
       → Known sources file table (λ bytes rows. IsNoPlanOfInput bytes rows rule fault))
   pub threads : IfErr result (λ fault. fault ≡ faults.NoThread → 1 < allowance.workers)
@@ -97,6 +109,8 @@ pub record AnswersCheck (sources : Sources) (file proof : List ℕ) (table : Opt
   pub done : IfOk result (λ verdict. IfSome (table_in sources table) (λ rows.
       WritesVerdict (structure_in sources file) rows rule (sources.files proof) old new verdict))
   pub left : LeavesOutput result old new
+  pub begun : IfErr result (λ fault. fault ≡ faults.WriteFailed → IfSome (table_in sources table) (λ rows.
+      LeavesLine fault (structure_in sources file) rows rule (sources.files proof) old new))
   pub fault : IfErr result (λ fault. IsOfStructure fault → IfSome (table_in sources table) (λ rows.
       IsNoVerdict (structure_in sources file) rows (sources.files proof) fault))
 
@@ -120,13 +134,15 @@ RunsCheck sources file proof table rule old new code = (result : Result Verdict 
     × (code ≡ check_status result) × AnswersCheck sources file proof table rule old new result
 
 -- what was asked for was done: the run of these files, by this table and rule, ended with this status; or the file for
--- the proof is one that is read, and nothing was done
+-- the proof may be one that is read, or the output, and nothing was done
 abbrev pub Does : Sources → Request → Option (List ℕ) → Option (List ℕ) → ℕ → Type 0
 Does sources (Dark file table rule progress) old new code =
     RunsDark sources file.now (option_copied table) (rule_of rule) old new code
-Does sources (Plan file table opts proof progress) old new code = (IsSome proof × (code ≡ 2) × Keeps old new)
-    ⊎ RunsPlan sources file.now (option_copied table) (rule_of opts.rule) (given opts.workers.number opts.turns)
-        old new code
+Does sources (Plan file table opts proof progress) old new code =
+    (MayOverwrite sources (option_copied proof) file.now (option_copied table) × (code ≡ 2) × Keeps old new)
+    ⊎ (MayStandApart sources (option_copied proof) file.now (option_copied table)
+    × RunsPlan sources file.now (option_copied table) (rule_of opts.rule) (given opts.workers.number opts.turns)
+    old new code)
 Does sources (Check file proof table rule) old new code =
     RunsCheck sources file.now proof.now (option_copied table) (rule_of rule) old new code
 

@@ -1,8 +1,9 @@
 //! A run of the program: what the words of its command line ask for is done, and an exit status answered.
 ghost use Rattle.std.specs.Io.KnownBytes.{Keeps};
-ghost use Rattle.std.specs.Prelude.{◌≡◌, ◌⊎◌, IsSome, IsTrue, map, string_bytes};
+ghost use Rattle.std.specs.Prelude.{◌≡◌, ◌⊎◌, IsFalse, IsTrue, map, option_copied, string_bytes};
 ghost use Rattle.clap.specs.Words.{kind_of};
 ghost use Rattle.torch_plan.specs.Answers.{Answers, Does};
+ghost use Rattle.torch_plan.specs.Sources.{MayOverwrite, MayStandApart};
 ghost use Rattle.torch_plan.specs.Status.{IsRefused, end_status, judged, status};
 ghost use Rattle.torch_plan.specs.Usage.{explained_status};
 
@@ -22,7 +23,7 @@ use std::thread::Threads;
 fn refused<S: System>(system: &S, fault: &RunFault) -> u8
     ensures { result ≡ status fault.now }
 {
-    system.refuse(fault);
+    system.print_fault(fault);
     status_of(fault)
 }
 
@@ -54,19 +55,30 @@ fn explained<S: System>(system: &S, error: &Error) -> u8
     if error.kind() == ErrorKind::OutOfMemory {
         return refused(system, &RunFault::OutOfMemory);
     }
-    if !system.explain(error) {
+    if !system.print_help(error) {
         return refused(system, &RunFault::WriteFailed);
     }
     if error.use_stderr() { 2 } else { 0 }
 }
 
-/// Whether the file for the proof is one that is read.
-fn is_input<S: System>(system: &S, proof: Option<&str>, file: &str, table: Option<&str>) -> bool
-    ensures { IsTrue result → IsSome proof.entry }
+/// Whether writing to the file for the proof would write over one that is read, or over standard output.
+fn is_overwriting<S: System>(
+    system: &S,
+    proof: Option<&str>,
+    file: &str,
+    table: Option<&str>,
+) -> bool
+    ensures over { IsTrue result → MayOverwrite (S.sources system.now) (option_copied proof.entry) file.now
+        (option_copied table.entry) }
+    ensures apart { IsFalse result → MayStandApart (S.sources system.now) (option_copied proof.entry) file.now
+        (option_copied table.entry) }
 {
     let Some(proof) = proof else {
         return false;
     };
+    if system.is_output(proof) {
+        return true;
+    }
     if system.is_same(proof, file) {
         return true;
     }
@@ -108,8 +120,8 @@ fn answered<X: Threads + Wait + Sync, S: System, O: Watcher, W: Write>(
             proof,
             progress,
         } => {
-            if is_input(system, proof, file, table) {
-                system.object("--proof would write over a file that is read");
+            if is_overwriting(system, proof, file, table) {
+                system.print_mistake("--proof would write over a file that is read, or over the output");
                 return 2;
             }
             system.watch(progress);

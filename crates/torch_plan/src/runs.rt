@@ -1,11 +1,13 @@
 //! The runs over the files of a system.
+ghost use Rattle.std.specs.Io.KnownBytes.{Keeps};
 ghost use Rattle.std.specs.Prelude.{◌≡◌, ◌≢◌, ◌<◌, ◌⊎◌, IfErr, IfOk, IfSome, option_copied, option_map};
 ghost use Rattle.cave_model.specs.RuleOf.{rule_of};
 ghost use Rattle.cave_runs.specs.PlanRuns.{IsNoPlanOfInput};
 ghost use Rattle.cave_runs.specs.Runs.{IsOfInput};
 ghost use Rattle.cave_runs.specs.declared.fault.Input.TheVariants.{TableInput};
 ghost use Rattle.cave_runs.specs.declared.fault.RunFault.{RunFault};
-ghost use Rattle.torch_plan.specs.Answers.{AnswersCheck, AnswersDark, AnswersPlan, LeavesOutput, PlansSome, table_in};
+ghost use Rattle.torch_plan.specs.Answers.{AnswersCheck, AnswersDark, AnswersPlan, BeginsSome, LeavesOutput, PlansSome};
+ghost use Rattle.torch_plan.specs.Answers.{table_in};
 ghost use Rattle.torch_plan.specs.Given.{given};
 
 use crate::planner::run_plan;
@@ -79,6 +81,9 @@ fn plan_from<X: Threads + Wait + Sync, S: System, O: Watcher, R: Read, W: Write>
         (given opts.now.workers.number opts.now.turns) outcome
         (W.contents output.old) (W.contents output.new))) }
     ensures left { LeavesOutput result (W.contents output.old) (W.contents output.new) }
+    ensures begun { IfErr result (λ e. e ≡ RunFault.WriteFailed → Keeps (W.contents output.old) (W.contents output.new)
+        ⊎ IfSome (R.remaining reader.old) (λ bytes. BeginsSome bytes (option_copied table.entry) (rule_of opts.now.rule)
+        (given opts.now.workers.number opts.now.turns) (W.contents output.old) (W.contents output.new))) }
     ensures fault { IfErr result (λ e. IsOfInput e → e ≢ RunFault.NoThread → IfSome (R.remaining reader.old)
         (λ bytes. IsNoPlanOfInput bytes (option_copied table.entry) (rule_of opts.now.rule) e)) }
     ensures threads { IfErr result (λ e. e ≡ RunFault.NoThread → 1 < opts.now.workers.number) }

@@ -32,17 +32,22 @@ pub trait System {
     fn create(&self, path: &str) -> Option<Self::Kept>;
 
     /// Whether writing to the one file would write over the other. `-` is standard input.
-    fn is_same(&self, path: &str, other: &str) -> bool;
+    fn is_same(&self, path: &str, other: &str) -> bool
+        ensures { IfSome ((sources self.now).same path.now other.now) (λ known. result ≡ known) };
+
+    /// Whether writing to the file would write over standard output.
+    fn is_output(&self, path: &str) -> bool
+        ensures { IfSome ((sources self.now).over path.now) (λ known. result ≡ known) };
 
     /// Prints the help that was asked for on standard output, or the mistake in usage on standard error. False where
     /// that fails.
-    fn explain(&self, error: &Error) -> bool;
+    fn print_help(&self, error: &Error) -> bool;
 
     /// Prints a mistake in usage on standard error.
-    fn object(&self, mistake: &str);
+    fn print_mistake(&self, mistake: &str);
 
     /// Prints the line of a fault on standard error.
-    fn refuse(&self, fault: &RunFault);
+    fn print_fault(&self, fault: &RunFault);
 
     /// A plan is made next, or dark cells are sought. Whether it was asked for that standard error tells of it.
     fn watch(&self, is_asked: bool);

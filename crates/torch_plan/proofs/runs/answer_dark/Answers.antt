@@ -15,7 +15,7 @@ returns-then-eq g c =
     let same = c.standard.ensures ∙ sym (standard_in sources file (sym c.eq.ensures ∙ c.if-eq.true)) in
     dark_answered sources file (option_copied c.args.table) (rule_of c.args.rule) (g.W.Write.contents c.args.output.now)
     (g.W.Write.contents run.new.writer) _ (option_copied rows.result) run.result same told run.ensures.done
-    run.ensures.untouched run.ensures.fault
+    run.ensures.untouched run.ensures.begun run.ensures.fault
 
 pub returns-in-Some : goal.returns-in-Some
 returns-in-Some g c =
@@ -26,4 +26,4 @@ returns-in-Some g c =
     let same = c.in-Some.ensures ∙ sym (file_in sources file (sym c.eq.ensures ∙ c.if-eq.false)) in
     dark_answered sources file (option_copied c.args.table) (rule_of c.args.rule) (g.W.Write.contents c.args.output.now)
     (g.W.Write.contents run.new.writer) _ (option_copied rows.result) run.result same told run.ensures.done
-    run.ensures.untouched run.ensures.fault
+    run.ensures.untouched run.ensures.begun run.ensures.fault

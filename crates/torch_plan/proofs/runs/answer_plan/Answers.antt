@@ -16,7 +16,7 @@ returns-then-eq g c =
     let same = c.standard-input.ensures ∙ sym (standard_in sources file (sym c.eq.ensures ∙ c.if-eq.true)) in
     plan_answered sources file (option_copied c.args.table) (rule_of opts.rule) (given opts.workers.number opts.turns)
     (g.W.Write.contents c.args.output.now) (g.W.Write.contents run.new.output) _ (option_copied rows.result) run.result
-    same told run.ensures.done run.ensures.left run.ensures.fault run.ensures.threads
+    same told run.ensures.done run.ensures.left run.ensures.begun run.ensures.fault run.ensures.threads
 
 pub returns-in-Some : goal.returns-in-Some
 returns-in-Some g c =
@@ -27,4 +27,4 @@ returns-in-Some g c =
     let same = c.in-Some.ensures ∙ sym (file_in sources file (sym c.eq.ensures ∙ c.if-eq.false)) in
     plan_answered sources file (option_copied c.args.table) (rule_of opts.rule) (given opts.workers.number opts.turns)
     (g.W.Write.contents c.args.output.now) (g.W.Write.contents run.new.output) _ (option_copied rows.result) run.result
-    same told run.ensures.done run.ensures.left run.ensures.fault run.ensures.threads
+    same told run.ensures.done run.ensures.left run.ensures.begun run.ensures.fault run.ensures.threads
