@@ -4,7 +4,7 @@ use Rattle.std.specs.Prelude.{Option, Some, None, IfSome}
 use Rattle.worker_results.specs.Results.{Handed}
 use Rattle.worker_results.specs.Spendings.{IsSpending}
 
--- they are of the workers from this number on; the first one had its own budget, each other one the other
+-- they are of the workers from this number on; the first had the first of the budgets, each other one the second
 abbrev pub AreFrom : ℕ → Option ℕ → Option ℕ → List Handed → Type 0
 AreFrom first own each [] = Unit {0}
 AreFrom first own each (handed ∷ rest) = (handed.holdings.worker ≡ first) × (handed.turns.limit ≡ own)
