@@ -11,8 +11,8 @@ ghost use Rattle.search_traits.specs.Turns.{IsShareSpent, IsWithin};
 
 use crate::fault::PlanFault;
 use cave_base::Cell;
-use instance_regions::{Cover, Region};
 use certificate_text::Planned;
+use instance_regions::{Cover, Region};
 use search_traits::{Allowance, BestPlan, Observer, Planner, RegionFault, RegionPlan};
 use std::alloc::{AllocError, Global};
 use std::sync::Arc;
@@ -109,11 +109,13 @@ impl Course {
     {
         match (planner.plan)(&region) {
             Ok(plan) => Ok(self.add_best(planner.allowance, region, plan)?),
-            Err(RegionFault::Stopped {
-                cover,
-                floor,
-                turns,
-            }) => Ok(self.add_stopped(planner.allowance, &cover, floor, turns)?),
+            Err(
+                RegionFault::Stopped {
+                    cover,
+                    floor,
+                    turns,
+                },
+            ) => Ok(self.add_stopped(planner.allowance, &cover, floor, turns)?),
             Err(RegionFault::NoThread) => Err(PlanFault::NoThread),
             Err(RegionFault::OutOfMemory) => Err(PlanFault::OutOfMemory),
         }

@@ -4,9 +4,9 @@
 
 mod host;
 mod progress;
-mod words;
 #[cfg(test)]
 mod tests;
+mod words;
 
 pub use host::Host;
 pub use progress::Progress;

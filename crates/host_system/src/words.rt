@@ -1,9 +1,8 @@
 //! What a program is started with: the words of its command line, and its descriptors.
 
 use crate::host::Host;
-use std::env;
 use std::fs::File;
-use std::io;
+use std::{env, io};
 use torch_plan::{RunFault, System, status_of};
 
 /// The words of the command line. One that is no text is a mistake in usage.

@@ -1,7 +1,7 @@
 //! Rows of what a node leaves of the reduced instance.
 
-use number_lists::{clear_all, is_set, set_bit};
 use crate::reduced_instance::ReducedInstance;
+use number_lists::{clear_all, is_set, set_bit};
 use pack_bound::Node;
 
 impl ReducedInstance {

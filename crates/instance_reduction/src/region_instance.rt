@@ -1,8 +1,8 @@
 //! A region beside its reduced instance: what its places light, of the cells that are asked for.
 
-use number_lists::{has_each, is_set, set_bit};
 use crate::reduced_instance::{InRegion, ReducedInstance};
 use instance_regions::Region;
+use number_lists::{has_each, is_set, set_bit};
 use std::alloc::{AllocError, Global};
 
 /// A region, and its reduced instance at the node where the search began. Cells and places go by their indices in the

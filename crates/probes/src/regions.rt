@@ -2,8 +2,8 @@
 
 use cave_model::{OutOfMemory, World};
 use cave_regions::split;
-use instance_regions::Region;
 use cover_rows::{CoverFault, Problem};
+use instance_regions::Region;
 use proof_tree::Proof;
 use search_core::{AloneFault, plan_alone};
 use search_moves::Moves;

@@ -121,7 +121,9 @@ fn answered<X: Threads + Wait + Sync, S: System, O: Watcher, W: Write>(
             progress,
         } => {
             if is_overwriting(system, proof, file, table) {
-                system.print_mistake("--proof would write over a file that is read, or over the output");
+                system.print_mistake(
+                    "--proof would write over a file that is read, or over the output",
+                );
                 return 2;
             }
             system.watch(progress);

@@ -1,10 +1,10 @@
 //! Many workers, who plan regions in threads of their own. What they answer of a region is `IsRegionPlan` of
 //! search_traits' specs/Planning.antt.
 ghost use Rattle.std.specs.Arc.{arc_value};
-ghost use Rattle.std.specs.Prelude.{◌≡◌, ◌<◌, ◌≤◌, ◌⊎◌, IfOk, IfSome, Some, length};
+ghost use Rattle.std.specs.Prelude.{◌≡◌, ◌<◌, ◌≤◌, ◌+◌, ◌⊎◌, IfOk, IfSome, IsTrue, Some, length};
 ghost use Rattle.search_traits.specs.Planned.{IsFloor};
 ghost use Rattle.search_traits.specs.Planning.{IsRegionPlan};
-ghost use Rattle.search_traits.specs.Turns.{AreSpent, IsWithin};
+ghost use Rattle.search_traits.specs.Turns.{AreSpent, IsShareSpent, IsWithin};
 ghost use Rattle.torch_plan.specs.Crew.{of_pool, rest};
 
 use cave_model::OutOfMemory;
@@ -86,7 +86,7 @@ impl<'e, X: Threads + Wait + Sync, S: Strategy + Send + Sync, O: Observer> Crew<
         requires floor { IsFloor (arc_value region.now) floor }
         ensures { IsRegionPlan self.now.workers.number turns (arc_value region.now) result }
     {
-        if turns == Some(granted) {
+        if are_spent(turns, granted) {
             return Err(RegionFault::Stopped {
                 cover,
                 floor,
@@ -94,7 +94,14 @@ impl<'e, X: Threads + Wait + Sync, S: Strategy + Send + Sync, O: Observer> Crew<
             });
         }
         let plan = self.plan_by_core(alloc, region, rest_of(turns, granted));
-        let plan = with_known(region, self.workers, rest_of(turns, granted), plan, cover, floor);
+        let plan = with_known(
+            region,
+            self.workers,
+            rest_of(turns, granted),
+            plan,
+            cover,
+            floor,
+        );
         with_earlier(region, self.workers, turns, granted, plan)
     }
 
@@ -133,11 +140,13 @@ impl<'e, X: Threads + Wait + Sync, S: Strategy + Send + Sync, O: Observer> Crew<
             turns,
         ) {
             Ok(report) => self.plan_carried(alloc, region, turns, plan_of(report)),
-            Err(PoolFault::Stopped {
-                cover,
-                turns: granted,
-                ..
-            }) => {
+            Err(
+                PoolFault::Stopped {
+                    cover,
+                    turns: granted,
+                    ..
+                },
+            ) => {
                 let (cover, floor) = known::<S>(alloc, region, &cover)?;
                 Err(RegionFault::Stopped {
                     cover,
@@ -215,17 +224,46 @@ fn rest_of(turns: Option<u64>, granted: u64) -> Option<u64>
     }
 }
 
+/// Whether all turns were granted.
+fn are_spent(turns: Option<u64>, granted: u64) -> bool
+    ensures { IsTrue result → AreSpent turns granted }
+{
+    match turns {
+        Some(limit) => limit == granted,
+        None => false,
+    }
+}
+
+/// The sum of two numbers, where that is within the limit.
+fn sum_within(limit: u64, granted: u64, later: u64) -> u64
+    ensures { granted + later ≤ limit → result ≡ granted + later }
+{
+    limit.min(granted.saturating_add(later))
+}
+
+/// The turns of two searches, of which the later one spent a share of what the earlier one had left.
+fn sum_of(turns: Option<u64>, granted: u64, later: u64, _workers: Workers) -> u64
+    requires within { IsWithin turns granted }
+    requires later { IsShareSpent _workers.number (rest turns granted) later }
+    ensures { IsShareSpent _workers.number turns result }
+{
+    match turns {
+        Some(limit) => sum_within(limit, granted, later),
+        None => granted,
+    }
+}
+
 /// A plan with the turns that are left, as one with all turns: so many were granted before.
 fn with_earlier(
     _region: &Arc<Region>,
-    _workers: Workers,
-    _turns: Option<u64>,
+    workers: Workers,
+    turns: Option<u64>,
     granted: u64,
     plan: RegionPlan,
 ) -> RegionPlan
-    requires within { IsWithin _turns granted }
-    requires plan { IsRegionPlan _workers.number (rest _turns granted) (arc_value _region.now) plan }
-    ensures { IsRegionPlan _workers.number _turns (arc_value _region.now) result }
+    requires within { IsWithin turns granted }
+    requires plan { IsRegionPlan workers.number (rest turns granted) (arc_value _region.now) plan }
+    ensures { IsRegionPlan workers.number turns (arc_value _region.now) result }
 {
     match plan {
         Ok(plan) => Ok(BestPlan {
@@ -233,14 +271,16 @@ fn with_earlier(
             proof: plan.proof,
             turns: plan.turns.saturating_add(granted),
         }),
-        Err(RegionFault::Stopped {
+        Err(
+            RegionFault::Stopped {
+                cover,
+                floor,
+                turns: later,
+            },
+        ) => Err(RegionFault::Stopped {
             cover,
             floor,
-            turns,
-        }) => Err(RegionFault::Stopped {
-            cover,
-            floor,
-            turns: turns.saturating_add(granted),
+            turns: sum_of(turns, granted, later, workers),
         }),
         Err(fault) => Err(fault),
     }
@@ -261,11 +301,13 @@ fn with_known(
     ensures { IsRegionPlan _workers.number _turns (arc_value _region.now) result }
 {
     match plan {
-        Err(RegionFault::Stopped {
-            cover: other,
-            floor: more,
-            turns,
-        }) => Err(RegionFault::Stopped {
+        Err(
+            RegionFault::Stopped {
+                cover: other,
+                floor: more,
+                turns,
+            },
+        ) => Err(RegionFault::Stopped {
             cover: smaller_of(cover, Some(other)),
             floor: floor.max(more),
             turns,

@@ -2,8 +2,8 @@
 
 use cave_base::Sequence;
 use instance_reduction::RowsLeft;
-use number_lists::is_set;
 use linear_relaxation::WholeWeights;
+use number_lists::is_set;
 use proof_rules::{Group, Share};
 use std::alloc::{AllocError, Global};
 

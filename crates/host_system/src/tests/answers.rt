@@ -52,12 +52,25 @@ fn a_pillar_from_its_file_to_its_proof(rt: HostRuntime) -> Result<(), Fail> {
     // A cave is no proof, a proof no cave, and a proof is never written over the cave.
     assert_eq!(rt; ended(&rt, &["torchplan", "check", cave, cave])?.0, 4);
     assert_eq!(rt; ended(&rt, &["torchplan", "dark", proof])?.0, 1);
-    assert_eq!(rt; ended(&rt, &["torchplan", "plan", cave, "--proof", link])?.0, 2);
+    assert_eq!(rt;
+        ended(&rt, &["torchplan", "plan", cave, "--proof", link])?.0,
+        2
+    );
     assert_eq!(rt; ended(&rt, &["torchplan", "dark", absent])?.0, 6);
-    assert_eq!(rt; ended(&rt, &["torchplan", "plan", cave, "--proof", "/dev/full"])?.0, 6);
+    assert_eq!(rt;
+        ended(&rt, &["torchplan", "plan", cave, "--proof", "/dev/full"])?.0,
+        6
+    );
     assert_eq!(rt; fs::read(&rt, cave)?.as_slice(), bytes.as_slice());
     // A refused input empties the proof's file.
-    assert_eq!(rt; ended(&rt, &["torchplan", "plan", link, "--table", cave, "--proof", proof])?.0, 1);
+    assert_eq!(rt;
+        ended(
+            &rt,
+            &["torchplan", "plan", link, "--table", cave, "--proof", proof]
+        )?
+        .0,
+        1
+    );
     assert_eq!(rt; fs::read(&rt, proof)?.len(), 0);
     fs::remove_dir_all(&rt, room.as_path())?;
     Ok(())

@@ -1,11 +1,10 @@
 //! Files of the host, in a temporary folder.
 
 use crate::{Host, Progress};
-use std::fs;
 use std::io::{Read, Write};
 use std::path::PathBuf;
-use std::process;
 use std::test::Fail;
+use std::{fs, process};
 use torch_plan::System;
 
 /// A new folder for the test of this name.

@@ -1,8 +1,8 @@
 //! Results of workers, gathered on the stone ring: the root has 52 kids, and each is closed at a floor of 2.
 use super::felt::{felt_ring, stone_ring};
 use super::kids::{closed, kids_on};
-use instance_regions::Region;
 use gathering::{Gathered, PoolFault, gather};
+use instance_regions::Region;
 use proof_tree::Closed;
 use schedule_law::Work;
 use search_core::BranchAndBound;
@@ -20,9 +20,7 @@ fn gathered(
     turns: Option<u64>,
 ) -> Result<Result<Gathered, PoolFault>, Fail> {
     let begun = BranchAndBound::<Moves>::begin(alloc, region)?;
-    Ok(gather::<BranchAndBound<Moves>>(
-        alloc, region, begun.cover, begun.cell, works, turns,
-    ))
+    Ok(gather::<BranchAndBound<Moves>>(alloc, region, begun.cover, begun.cell, works, turns))
 }
 
 /// The first of the root's kids on that cell, closed.

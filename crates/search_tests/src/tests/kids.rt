@@ -1,8 +1,8 @@
 //! The kids of an opened root, each taken and closed, and the tree that is assembled from them.
 use super::felt::{core_of, felt_ring, kid_name, play, root_name};
 use cave_base::Cell;
-use instance_regions::{Cover, Region};
 use event_core::{Core, Event};
+use instance_regions::{Cover, Region};
 use pack_bound::first_plan;
 use proof_tree::{Closed, Opened, Piece, Proof};
 use search_core::BranchAndBound;

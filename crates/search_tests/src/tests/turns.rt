@@ -27,15 +27,55 @@ enum End {
 type Row = (u32, Option<u64>, End);
 
 const ROWS: [Row; 13] = [
-    (5, Some(1), End::Stopped { size: 3, floor: 2, turns: 1 }),
-    (5, Some(2), End::Stopped { size: 3, floor: 2, turns: 2 }),
+    (
+        5,
+        Some(1),
+        End::Stopped {
+            size: 3,
+            floor: 2,
+            turns: 1,
+        },
+    ),
+    (
+        5,
+        Some(2),
+        End::Stopped {
+            size: 3,
+            floor: 2,
+            turns: 2,
+        },
+    ),
     (5, Some(3), End::Done { size: 3 }),
     (5, Some(4), End::Done { size: 3 }),
     (5, None, End::Done { size: 3 }),
-    (7, Some(1), End::Stopped { size: 4, floor: 3, turns: 1 }),
-    (7, Some(2), End::Stopped { size: 4, floor: 3, turns: 2 }),
+    (
+        7,
+        Some(1),
+        End::Stopped {
+            size: 4,
+            floor: 3,
+            turns: 1,
+        },
+    ),
+    (
+        7,
+        Some(2),
+        End::Stopped {
+            size: 4,
+            floor: 3,
+            turns: 2,
+        },
+    ),
     (7, Some(3), End::Done { size: 4 }),
-    (9, Some(2), End::Stopped { size: 5, floor: 4, turns: 2 }),
+    (
+        9,
+        Some(2),
+        End::Stopped {
+            size: 5,
+            floor: 4,
+            turns: 2,
+        },
+    ),
     (9, Some(3), End::Done { size: 5 }),
     // An even ring is one leaf, and one turn.
     (6, Some(1), End::Done { size: 3 }),
@@ -49,11 +89,13 @@ fn end_of(alloc: Global, region: &Arc<Region>, turns: Option<u64>) -> Result<End
         Ok(plan) => Ok(End::Done {
             size: plan.cover.size(),
         }),
-        Err(AloneFault::Stopped {
-            cover,
-            floor,
-            turns,
-        }) => Ok(End::Stopped {
+        Err(
+            AloneFault::Stopped {
+                cover,
+                floor,
+                turns,
+            },
+        ) => Ok(End::Stopped {
             size: cover.size(),
             floor,
             turns,
