@@ -5,7 +5,10 @@ use crate::{Host, Progress};
 use cave_files::caves::PILLAR;
 use std::alloc::{AllocError, Global};
 use std::fs;
+use std::os::unix::fs::symlink;
+use std::sync::Wait;
 use std::test::Fail;
+use std::thread::Threads;
 use torch_plan::{Unobserved, answer};
 
 /// What a pillar's plan says.
@@ -21,13 +24,17 @@ fn words_of(alloc: Global, words: &[&str]) -> Result<Vec<String>, AllocError> {
 }
 
 /// The status of a command line, and what it prints.
-fn ended(rt: &HostRuntime, words: &[&str]) -> Result<(u8, Vec<u8>), AllocError> {
+fn ended<X: Threads + Wait + Sync>(
+    threads: &X,
+    rt: &HostRuntime,
+    words: &[&str],
+) -> Result<(u8, Vec<u8>), AllocError> {
     let alloc = rt.alloc();
     let progress = Progress::new(rt);
     let host = Host::new(rt, &progress);
     let words = words_of(alloc, words)?;
     let mut output = Vec::new(alloc);
-    let status = answer(rt, alloc, &host, &Unobserved, &words, &mut output);
+    let status = answer(threads, alloc, &host, &Unobserved, &words, &mut output);
     Ok((status, output))
 }
 
@@ -42,35 +49,28 @@ fn a_pillar_from_its_file_to_its_proof(rt: HostRuntime) -> Result<(), Fail> {
     let (proof, absent) = (proof.as_str(), absent.as_str());
     let bytes = PILLAR.bytes(rt.alloc())?;
     fs::write(&rt, cave, &bytes)?;
-    fs::symlink(&rt, cave, link)?;
-    let planned = ended(&rt, &["torchplan", "plan", cave, "--proof", proof])?;
+    symlink(&rt, cave, link)?;
+    let planned = ended(&rt, &rt, &["torchplan", "plan", cave, "--proof", proof])?;
     assert_eq!(rt; planned.0, 0);
     assert_eq!(rt; planned.1.as_slice(), PLAN.as_bytes());
-    let checked = ended(&rt, &["torchplan", "check", cave, proof])?;
+    let checked = ended(&rt, &rt, &["torchplan", "check", cave, proof])?;
     assert_eq!(rt; checked.0, 0);
     assert_eq!(rt; checked.1.as_slice(), b"accepted 1\n".as_slice());
     // A cave is no proof, a proof no cave, and a proof is never written over the cave.
-    assert_eq!(rt; ended(&rt, &["torchplan", "check", cave, cave])?.0, 4);
-    assert_eq!(rt; ended(&rt, &["torchplan", "dark", proof])?.0, 1);
-    assert_eq!(rt;
-        ended(&rt, &["torchplan", "plan", cave, "--proof", link])?.0,
-        2
-    );
-    assert_eq!(rt; ended(&rt, &["torchplan", "dark", absent])?.0, 6);
-    assert_eq!(rt;
-        ended(&rt, &["torchplan", "plan", cave, "--proof", "/dev/full"])?.0,
-        6
-    );
+    let refused: [(&[&str], u8); 5] = [
+        (&["torchplan", "check", cave, cave], 4),
+        (&["torchplan", "dark", proof], 1),
+        (&["torchplan", "dark", absent], 6),
+        (&["torchplan", "plan", cave, "--proof", link], 2),
+        (&["torchplan", "plan", cave, "--proof", "/dev/full"], 6),
+    ];
+    for (words, status) in refused {
+        assert_eq!(rt; ended(&rt, &rt, words)?.0, status);
+    }
     assert_eq!(rt; fs::read(&rt, cave)?.as_slice(), bytes.as_slice());
-    // A refused input empties the proof's file.
-    assert_eq!(rt;
-        ended(
-            &rt,
-            &["torchplan", "plan", link, "--table", cave, "--proof", proof]
-        )?
-        .0,
-        1
-    );
+    // A refused table leaves the proof's file empty.
+    let words = ["torchplan", "plan", cave, "--table", cave, "--proof", proof];
+    assert_eq!(rt; ended(&rt, &rt, &words)?.0, 1);
     assert_eq!(rt; fs::read(&rt, proof)?.len(), 0);
     fs::remove_dir_all(&rt, room.as_path())?;
     Ok(())

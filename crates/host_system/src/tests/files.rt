@@ -2,6 +2,7 @@
 
 use crate::{Host, Progress};
 use std::io::{Read, Write};
+use std::os::unix::fs::symlink;
 use std::path::PathBuf;
 use std::test::Fail;
 use std::{fs, process};
@@ -85,7 +86,7 @@ fn a_file_is_itself_by_each_of_its_names(rt: HostRuntime) -> Result<(), Fail> {
     let absent = path_in(&rt, &room, "absent")?;
     fs::write(&rt, path.as_str(), "abc")?;
     fs::write(&rt, other.as_str(), "abc")?;
-    fs::symlink(&rt, path.as_str(), link.as_str())?;
+    symlink(&rt, path.as_str(), link.as_str())?;
     fs::hard_link(&rt, path.as_str(), name.as_str())?;
     for same in [path.as_str(), link.as_str(), name.as_str()] {
         assert!(rt; host.is_same(same, path.as_str()));
