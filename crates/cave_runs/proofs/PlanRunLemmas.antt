@@ -80,9 +80,9 @@ all_is_part old new text taken = (text, [], sym (append-nil text), taken)
 -- the certificate wasn't written whole
 pub certificate_failed : (fault : WriteFault) (cave : Cave) (text : List ℕ) (plans : List Plan)
     (same proof_old proof_new : Option (List ℕ)) → IsPlanned cave text plans
-    → AppendsPart proof_old proof_new (certificate_text cave plans)
+    → AppendsFront proof_old proof_new (certificate_text cave plans)
     → LeavesProved (of_write fault) cave same same proof_old proof_new
-certificate_failed fault cave text plans same proof_old proof_new is part = record
+certificate_failed fault cave text plans same proof_old proof_new is front = record
     { each = λ allowance. by fault (begun allowance) }
   where
     begun : (allowance : Allowance) → BeginsTexts cave allowance same same proof_old proof_new
@@ -91,7 +91,7 @@ certificate_failed fault cave text plans same proof_old proof_new is part = reco
       proof = certificate_text cave plans;
       are = inl (plans, is, refl);
       written = front_none same text (text_is_some cave is.torches None text is.prints);
-      proved = part;
+      proved = (front.0, front.1, front.3, front.4);
     }
 
     by : (fault : WriteFault) {allowance : Allowance} → BeginsTexts cave allowance same same proof_old proof_new

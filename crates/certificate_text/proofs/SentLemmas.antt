@@ -1,34 +1,39 @@
 -- What is on its way to a writer, one text after another.
 use Rattle.std.proofs.Common.{◌≡◌, ℕ, List, [], ◌++◌, Option, Result, Ok, Err, refl, sym, ap, subst, ◌∙◌, append_assoc}
-use Rattle.std.proofs.Common.{string_bytes}
+use Rattle.std.specs.String.{string_capacity, string_len}
+use Rattle.std.specs.declared.string.String.{String}
+use Rattle.std.proofs.Common.{◌<◌, ◌+◌, length, length-append, arith, string_bytes}
 use Rattle.std.proofs.lemmas.List.{append-nil}
+use Rattle.std.specs.Io.KnownBytes.{Appends}
 use Rattle.certificate_text.specs.Sending.{IsSameSink, SendsAll, SendsPart, IsSent}
-use Rattle.certificate_text.specs.Writing.{AppendsPart, Passes}
+use Rattle.certificate_text.specs.Writing.{AppendsFront, AppendsPart, Passes}
 use Rattle.certificate_text.specs.declared.sink.Sink.{Sink}
 use Rattle.certificate_text.proofs.WritingLemmas.{then_appends, none_taken}
 
 -- a beginning of a text is one of a longer one
-pub part_longer : (a b : Option (List ℕ)) (text more : List ℕ) → AppendsPart a b text → AppendsPart a b (text ++ more)
-part_longer a b text more (front, rest, parts, taken) =
-    (front, rest ++ more, ap (λ (l : List ℕ). l ++ more) parts ∙ append_assoc front rest more, taken)
-
--- a part of what was sent is a part of a longer text
-pub part_more : (a b : Option (List ℕ)) (had text more : List ℕ) → AppendsPart a b (had ++ text)
-    → AppendsPart a b (had ++ (text ++ more))
-part_more a b had text more (front, rest, parts, taken) = (
+pub front_longer : (a b : Option (List ℕ)) (text more : List ℕ) → AppendsFront a b text
+    → AppendsFront a b (text ++ more)
+front_longer a b text more (front, rest, left, parts, taken) = (
   front,
   rest ++ more,
-  sym (append_assoc had text more) ∙ ap (λ (l : List ℕ). l ++ more) parts
-      ∙ append_assoc front rest more,
+  omega (arith, left, length-append rest more),
+  ap (λ (l : List ℕ). l ++ more) parts ∙ append_assoc front rest more,
   taken,
 )
 
+-- a beginning of what was sent is one of a longer text
+pub front_more : (a b : Option (List ℕ)) (had text more : List ℕ) → AppendsFront a b (had ++ text)
+    → AppendsFront a b (had ++ (text ++ more))
+front_more a b had text more taken = subst (AppendsFront a b) (append_assoc had text more)
+    (front_longer a b (had ++ text) more taken)
+
 -- a text passed, and of the next one a beginning was taken
-pub part_then : (a b c : Option (List ℕ)) (had has text more : List ℕ) → Passes a had b has text
-    → AppendsPart b c (has ++ more) → AppendsPart a c (had ++ (text ++ more))
-part_then a b c had has text more p (front, rest, parts, taken) = (
+pub front_then : (a b c : Option (List ℕ)) (had has text more : List ℕ) → Passes a had b has text
+    → AppendsFront b c (has ++ more) → AppendsFront a c (had ++ (text ++ more))
+front_then a b c had has text more p (front, rest, left, parts, taken) = (
   p.front ++ front,
   rest,
+  left,
   sym (append_assoc had text more) ∙ ap (λ (l : List ℕ). l ++ more) p.parts ∙ append_assoc p.front has more
       ∙ ap (λ (l : List ℕ). p.front ++ l) parts ∙ sym (append_assoc p.front front rest),
   then_appends a b c p.front front p.taken taken,
@@ -44,9 +49,18 @@ passes_then a b c had has holds text more p q = record {
       ∙ ap (λ (l : List ℕ). p.front ++ l) q.parts ∙ sym (append_assoc p.front q.front holds);
 }
 
--- nothing was taken yet
+-- nothing was taken yet of a text that isn't empty
+pub front_none : (a : Option (List ℕ)) (had text : List ℕ) → 0 < length text → AppendsFront a a (had ++ text)
+front_none a had text some = ([], had ++ text, omega (arith, length-append had text), refl, none_taken a)
+
+-- and nothing of any
 pub part_none : (a : Option (List ℕ)) (text : List ℕ) → AppendsPart a a text
 part_none a text = ([], text, refl, none_taken a)
+
+-- what the buffer had was taken, and nothing of a text that isn't empty
+pub front_taken : (a b : Option (List ℕ)) (had text : List ℕ) → 0 < length text → Appends a b had
+    → AppendsFront a b (had ++ text)
+front_taken a b had text some taken = (had, text, some, refl, taken)
 
 -- an empty text is on its way with nothing done
 pub passes_none : (a : Option (List ℕ)) (had : List ℕ) → Passes a had a had []
@@ -79,7 +93,7 @@ pub sends_part : {W : Type 0} (contents : W → Option (List ℕ)) (a b c : Sink
     → SendsAll contents a b text → SendsPart contents b c more → SendsPart contents a c (text ++ more)
 sends_part contents a b c text more p q = record {
   same = same_then a b c p.same q.same;
-  taken = part_then (contents a.writer.now) (contents b.writer.now) (contents c.writer.now)
+  taken = front_then (contents a.writer.now) (contents b.writer.now) (contents c.writer.now)
       (string_bytes a.buffer.now) (string_bytes b.buffer.now) text more p.passed q.taken;
 }
 
@@ -88,7 +102,7 @@ pub sends_more : {W : Type 0} (contents : W → Option (List ℕ)) (a b : Sink W
     → SendsPart contents a b text → SendsPart contents a b (text ++ more)
 sends_more contents a b text more p = record {
   same = p.same;
-  taken = part_more (contents a.writer.now) (contents b.writer.now) (string_bytes a.buffer.now) text more p.taken;
+  taken = front_more (contents a.writer.now) (contents b.writer.now) (string_bytes a.buffer.now) text more p.taken;
 }
 
 -- the first text wasn't sent, and nor was the whole
@@ -110,3 +124,16 @@ pub then_sent : {W X E : Type 0} (contents : W → Option (List ℕ)) (r : Resul
     → text ++ rest ≡ whole → SendsAll contents a b text → IsSent contents r b c rest → IsSent contents r a c whole
 then_sent contents r a b c text rest whole is p q =
     subst (IsSent contents r a c) is (sent_then contents r a b c text rest p q)
+
+-- nothing was sent of a text that isn't empty
+pub failed_before : {W X F : Type 0} (contents : W → Option (List ℕ)) (r : Result X F) (e : F) (a : Sink W)
+    (text : List ℕ) → r ≡ Err e → 0 < length text → IsSent contents r a a text
+failed_before contents r e a text failed some = rw failed (record {
+  same = record { writer = refl; buffer = refl };
+  taken = front_none (contents a.writer.now) (string_bytes a.buffer.now) text some;
+})
+
+-- a string that has no room for a text more was asked to take some
+pub asked_some : {Z : Type 0} (s : String Z) (text : List ℕ) → string_capacity s < string_len s + length text
+    → 0 < length text
+asked_some s text full = omega (arith, s.bytes.ok.1, full)

@@ -1,6 +1,6 @@
 -- The text of a certificate from that of its parts.
 use Rattle.std.proofs.Common.{◌≡◌, ℕ, List, [], ◌∷◌, ◌++◌, length, map, Option, Result, Ok, Err, codes, refl, sym, ap}
-use Rattle.std.proofs.Common.{subst, ◌∙◌, append_assoc}
+use Rattle.std.proofs.Common.{◌<◌, subst, ◌∙◌, append_assoc, length-append, arith}
 use Rattle.std.specs.Prelude.{OnErr}
 use Rattle.std.specs.List.{flat_map}
 use Rattle.std.specs.Io.KnownBytes.{Appends}
@@ -18,7 +18,7 @@ use Rattle.certificate_text.specs.Heading.{heading_text}
 use Rattle.certificate_text.specs.Lines.{HasDistinctCells, HaveDistinctCells}
 use Rattle.certificate_text.specs.Planned.{Plan, section_of, version_of, certificate_text, IsBestOf, AreBestOf}
 use Rattle.certificate_text.specs.Sections.{IsWritable, AreWritable, section_text, sections_text, body_text}
-use Rattle.certificate_text.specs.Writing.{AppendsPart, Passes}
+use Rattle.certificate_text.specs.Writing.{AppendsFront, Passes}
 use Rattle.certificate_text.proofs.WritingLemmas.{then_appends}
 
 -- the sections and the last line
@@ -64,6 +64,20 @@ certificate_is cave plans =
     (line (codes "headroom") (cave.rule.headroom ∷ []))
     ++ line (codes "regions") (n ∷ []) ∷ (flat_map section_lines (map section_of plans) ++ codes "end" ∷ [])))
     (sym (length-map plans section_of))
+
+-- it isn't empty
+pub certificate_some : (cave : Cave) (plans : List Plan) → 0 < length (certificate_text cave plans)
+certificate_some cave plans =
+    let heading = heading_text cave (length plans) (version_of cave.rule.need plans) in
+    let body = ap length (body_is plans) in
+    let end : 0 < length (codes "end\n") = omega arith in
+    omega (
+      arith,
+      ap length (certificate_is cave plans),
+      length-append heading (body_text plans),
+      body,
+      length-append (sections_text plans) (codes "end\n"),
+    )
 
 -- ---- what a good tree keeps
 
@@ -113,11 +127,12 @@ all_taken a b c had has text empty p taken =
     (then_appends a b c p.front has p.taken taken)
 
 -- and where a beginning of the rest is taken, a beginning of the text is
-pub part_taken : (a b c : Option (List ℕ)) (had has text : List ℕ) → had ≡ [] → Passes a had b has text
-    → AppendsPart b c has → AppendsPart a c text
-part_taken a b c had has text empty p (front, rest, parts, taken) = (
+pub front_of_rest : (a b c : Option (List ℕ)) (had has text : List ℕ) → had ≡ [] → Passes a had b has text
+    → AppendsFront b c has → AppendsFront a c text
+front_of_rest a b c had has text empty p (front, rest, left, parts, taken) = (
   p.front ++ front,
   rest,
+  left,
   ap (λ (l : List ℕ). l ++ text) (sym empty) ∙ p.parts
       ∙ ap (λ (l : List ℕ). p.front ++ l) parts
       ∙ sym (append_assoc p.front front rest),
@@ -125,12 +140,12 @@ part_taken a b c had has text empty p (front, rest, parts, taken) = (
 )
 
 -- with nothing in the buffer before, a beginning of both is one of the text
-pub part_of_empty : (a b : Option (List ℕ)) (had text : List ℕ) → had ≡ [] → AppendsPart a b (had ++ text)
-    → AppendsPart a b text
-part_of_empty a b had text empty part = subst (λ (l : List ℕ). AppendsPart a b (l ++ text)) empty part
+pub front_of_empty : (a b : Option (List ℕ)) (had text : List ℕ) → had ≡ [] → AppendsFront a b (had ++ text)
+    → AppendsFront a b text
+front_of_empty a b had text empty part = subst (λ (l : List ℕ). AppendsFront a b (l ++ text)) empty part
 
 -- where the writer fails at the rest, a beginning of the text was taken
-pub part_where_failed : {X E : Type 0} (r : Result X E) (a b c : Option (List ℕ)) (had has text : List ℕ) → had ≡ []
-    → Passes a had b has text → OnErr r (AppendsPart b c has) → OnErr r (AppendsPart a c text)
-part_where_failed (Ok x) a b c had has text empty p failed = tt
-part_where_failed (Err e) a b c had has text empty p failed = part_taken a b c had has text empty p failed
+pub front_where_failed : {X E : Type 0} (r : Result X E) (a b c : Option (List ℕ)) (had has text : List ℕ) → had ≡ []
+    → Passes a had b has text → OnErr r (AppendsFront b c has) → OnErr r (AppendsFront a c text)
+front_where_failed (Ok x) a b c had has text empty p failed = tt
+front_where_failed (Err e) a b c had has text empty p failed = front_of_rest a b c had has text empty p failed

@@ -6,7 +6,7 @@ ghost use Rattle.certificate_text.specs.Planned as planned;
 ghost use Rattle.certificate_text.specs.Sections.{AreWritable, IsWritable, body_text};
 ghost use Rattle.certificate_text.specs.Sections.{section_text};
 ghost use Rattle.certificate_text.specs.Sending.{IsSent};
-ghost use Rattle.certificate_text.specs.Writing.{AppendsPart};
+ghost use Rattle.certificate_text.specs.Writing.{AppendsFront};
 
 use crate::fault::WriteFault;
 use crate::heading::heading;
@@ -91,8 +91,8 @@ pub fn write_certificate<W: Write>(
     // The writer took that text and nothing else.
     ensures done { OnOk result (Appends (W.contents writer.old) (W.contents writer.new)
         (planned.certificate_text world.now (plans_of parts.now))) }
-    // A fault leaves a beginning of it.
-    ensures begun { OnErr result (AppendsPart (W.contents writer.old) (W.contents writer.new)
+    // A fault leaves a beginning of it, and not all.
+    ensures begun { OnErr result (AppendsFront (W.contents writer.old) (W.contents writer.new)
         (planned.certificate_text world.now (plans_of parts.now))) }
 {
     let mut buffer = String::new(alloc);

@@ -2,7 +2,7 @@
 ghost use Rattle.std.specs.Io.KnownBytes.{Appends};
 ghost use Rattle.std.specs.Prelude.{◌≡◌, ◌++◌, ◌∷◌, [], OnOk, OnErr, string_bytes};
 ghost use Rattle.certificate_text.specs.Sending.{IsSameSink, IsSent};
-ghost use Rattle.certificate_text.specs.Writing.{AppendsPart};
+ghost use Rattle.certificate_text.specs.Writing.{AppendsFront};
 ghost use Rattle.proof_rules.specs.Text.{line};
 
 use crate::fault::WriteFault;
@@ -29,7 +29,7 @@ impl<W: Write> Sink<'_, W> {
         ensures done { OnOk result (Appends (W.contents self.old.writer.now) (W.contents self.new.writer.now)
             (string_bytes self.old.buffer.now)) }
         ensures empty { OnOk result (string_bytes self.new.buffer.now ≡ []) }
-        ensures begun { OnErr result (AppendsPart (W.contents self.old.writer.now) (W.contents self.new.writer.now)
+        ensures begun { OnErr result (AppendsFront (W.contents self.old.writer.now) (W.contents self.new.writer.now)
             (string_bytes self.old.buffer.now)) }
     {
         put_all(self.writer, self.buffer.as_bytes())?;

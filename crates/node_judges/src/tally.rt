@@ -1,5 +1,5 @@
 ghost use Rattle.std.specs.Prelude.{OnOk};
-ghost use Rattle.std.specs.Prelude.{◌≡◌, ◌<◌, [], ◌∷◌, ◌++◌, ◌-◌, ◌↔◌, length, take, Contains, IsTrue, IfOk};
+ghost use Rattle.std.specs.Prelude.{◌≡◌, ◌<◌, ◌≤◌, [], ◌∷◌, ◌++◌, ◌-◌, ◌↔◌, length, take, Contains, IsTrue, IfOk};
 
 use cave_base::Cell;
 use std::alloc::{AllocError, Global};
@@ -49,6 +49,7 @@ impl Tally {
     /// Puts a cell of the box at the end; one outside it is passed over.
     pub fn push(&mut self, cell: Cell) -> Result<(), AllocError>
         ensures items { OnOk result (cell < length self.old.counts → self.new.items ≡ self.old.items ++ cell ∷ []) }
+        ensures outside { length self.old.counts ≤ cell → self.new ≡ self.old }
         ensures whole { length self.new.counts ≡ length self.old.counts }
     {
         if cell as usize >= self.counts.len() {

@@ -2,7 +2,9 @@
 pub mod Indices
 pub mod Nodes
 pub mod Judged
+pub mod Packing
 pub mod Naming
 pub mod Pieces
 -- private
+pub mod Greedy
 pub mod Pairs

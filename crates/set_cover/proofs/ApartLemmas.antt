@@ -1,12 +1,13 @@
 -- A row grows by what another has, word by word, as long as none of it is there.
-use Rattle.std.proofs.Common.{◌≡◌, ◌≢◌, ℕ, ◌+◌, ◌/◌, ◌%◌, ◌^◌, ◌<◌, ◌≤◌, List, length, slice_index, refl, sym, ap, ◌∙◌}
-use Rattle.std.proofs.Common.{arith, inl, inr, max, min, ◌-◌, set, get_or-set_same, get_or-set_other}
-use Rattle.std.specs.Int.{bit_at, bit_not, w64}
-use lib.Bits.{bit_and, bit_or}
+use Rattle.std.proofs.Common.{◌≡◌, ◌≢◌, ℕ, ◌+◌, ◌/◌, ◌%◌, ◌^◌, ◌<◌, ◌≤◌, ◌*◌, List, length, slice_index, refl, sym, ap}
+use Rattle.std.proofs.Common.{◌∙◌, subst, arith, inl, inr, max, min, ◌-◌, set, get_or-set_same, get_or-set_other}
+use Rattle.std.specs.Int.{bit_at, bit_not, trailing_zeros, w64}
+use lib.Bits.{bit_and, bit_or, and_le_l}
 use Rattle.std.proofs.lemmas.Bool.{cases_lt, cases_eq}
 use Rattle.std.proofs.lemmas.Nat.Bits.{bit_at-zero, bit_at-lt, bit_at_and, bit_at_or, bit_at_not}
-use Rattle.set_cover.specs.Bits.{Has, IsWithApart}
-use Rattle.set_cover.proofs.BitLemmas.{one_if, has_if, has_or_not, not_past}
+use Rattle.std.proofs.lemmas.Nat.Bits.{bit_at-trailing_zeros}
+use Rattle.set_cover.specs.Bits.{Has, IsApart, IsWithApart}
+use Rattle.set_cover.proofs.BitLemmas.{one_if, has_if, has_at, at_has, cleared_bit, has_or_not, not_past}
 
 -- what the row has in a word and the other hasn't
 abbrev pub more_of : List ℕ → List ℕ → ℕ → ℕ
@@ -47,6 +48,26 @@ grown_more old row other new count inside s none = record {
     here : slice_index next count ≡ bit_or (slice_index old count) (more_of row other count)
     here = get_or-set_same new count _ 0 inside ∙ ap (λ (n : ℕ). bit_or n (more_of row other count))
         (s.rest count (omega arith))
+
+-- a word with some of it
+pub met_here : (old row other new : List ℕ) (k : ℕ) → HasGrown old row other new k → slice_index new k < 2 ^ 64
+    → slice_index other k < 2 ^ 64 → 0 < bit_and (slice_index new k) (more_of row other k) → ¬ IsApart old row other
+met_here old row other new k s small fits pos apart =
+    let word = bit_and (slice_index new k) (more_of row other k) in
+    let low : word < 2 ^ 64 = omega (arith, and_le_l (slice_index new k) (more_of row other k)) in
+    let lowest = bit_at-trailing_zeros w64 word pos low in
+    let i = trailing_zeros w64 word in
+    let is = bit_at_and (slice_index new k) (more_of row other k) i in
+    let cleared = cleared_bit (slice_index row k) (slice_index other k) i fits lowest.0 in
+    let was = bit_at-lt (slice_index new k) i in
+    let in_row = bit_at-lt (slice_index row k) i in
+    let more = bit_at-lt (more_of row other k) i in
+    let same : slice_index new k ≡ slice_index old k = s.rest k (omega arith) in
+    apart (64 * k + i) (has_at row k i (64 * k + i) lowest.0 refl (omega (arith, cleared, is, lowest.1, in_row, more)))
+    (λ h. (let in_other = at_has other k i (64 * k + i) lowest.0 refl h in
+    absurd (omega (arith, cleared, is, lowest.1, more, in_other))))
+    (has_at old k i (64 * k + i) lowest.0 refl (subst (λ (w : ℕ). bit_at w i ≡ 1) same
+    (omega (arith, is, lowest.1, was))))
 
 -- after the last word the row has grown
 pub grown_all : (old row other new : List ℕ) → length new ≡ length old → length row ≡ length old

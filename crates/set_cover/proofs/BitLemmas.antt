@@ -35,6 +35,15 @@ has_at words k i bit lt e h =
     has_if words bit (subst (λ (n : ℕ). bit_at (slice_index words (bit / 64)) n ≡ 1) place
     (subst (λ (n : ℕ). bit_at (slice_index words n) i ≡ 1) word h))
 
+-- a bit of the row is one in its word, by the word's index
+pub at_has : (words : List ℕ) (k i bit : ℕ) → i < 64 → bit ≡ 64 * k + i → Has words bit
+    → bit_at (slice_index words k) i ≡ 1
+at_has words k i bit lt e h =
+    let word : bit / 64 ≡ k = omega arith in
+    let place : bit % 64 ≡ i = omega arith in
+    subst (λ (n : ℕ). bit_at (slice_index words k) n ≡ 1) place
+    (subst (λ (n : ℕ). bit_at (slice_index words n) (bit % 64) ≡ 1) word (one_if words bit h))
+
 -- a bit of a word is one or zero
 zero_or_one : (n i : ℕ) → (bit_at n i ≡ 1) ⊎ (bit_at n i ≡ 0)
 zero_or_one n i = (let small = bit_at-lt n i in
@@ -132,7 +141,7 @@ cleared_more old row new count h s = record {
         (s.rest count (omega arith))
 
 -- a bit and-ed with what is not in another word is cleared by it
-cleared_bit : (a b i : ℕ) → b < 2 ^ 64 → i < 64
+pub cleared_bit : (a b i : ℕ) → b < 2 ^ 64 → i < 64
     → bit_at (bit_and a (bit_not w64 b)) i ≡ min (bit_at a i) (1 - bit_at b i)
 cleared_bit a b i small lt = bit_at_and a (bit_not w64 b) i ∙ ap (λ (n : ℕ). min (bit_at a i) n)
     (bit_at_not w64 b i small lt)

@@ -8,3 +8,4 @@ pub mod OrderLemmas
 pub mod NumberLemmas
 pub mod LightLemmas
 pub mod RowLemmas
+pub mod ListedLemmas

@@ -40,7 +40,7 @@ pub fn meet(one: &[u64], two: &[u64]) -> bool
 pub fn is_within(row: &[u64], part: &[u64], other: &[u64]) -> bool
     requires part { length part.now ≡ length row.now }
     requires other { length other.now ≡ length row.now }
-    ensures { IsTrue result → IsWithin row.now part.now other.now }
+    ensures { IsTrue result ↔ IsWithin row.now part.now other.now }
 {
     for index in 0..row.len() {
         if row[index] & part[index] & !other[index] != 0 {

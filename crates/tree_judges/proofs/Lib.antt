@@ -5,3 +5,6 @@ pub mod ThinLemmas
 pub mod OpenLemmas
 pub mod WeightedLemmas
 pub mod OmissionLemmas
+pub mod SameLemmas
+pub mod DecidedLemmas
+pub mod ClosingLemmas

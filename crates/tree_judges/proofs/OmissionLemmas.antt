@@ -1,10 +1,10 @@
 -- Trees that speak of none of the cells that are left out.
-use Rattle.std.proofs.Common.{◌≡◌, ◌≢◌, ℕ, ◌+◌, ◌<◌, List, [], ◌∷◌, ◌++◌, length, Contains, slice_index}
-use Rattle.std.proofs.Common.{refl, sym, ap, subst, ◌∙◌, inl, inr, get_or, take}
+use Rattle.std.proofs.Common.{◌≡◌, ℕ, ◌+◌, ◌<◌, List, [], ◌∷◌, ◌++◌, length, Contains, slice_index}
+use Rattle.std.proofs.Common.{zero, suc, arith, refl, sym, ap, subst, ◌∙◌, inl, inr, get_or, take}
 use Rattle.std.proofs.lemmas.List.{take_more}
 use Rattle.std.proofs.lemmas.List.Elements.{All-head, All-tail, All-from_get_or, Contains-append_cases}
-use Rattle.set_cover.specs.Bits.{Has, IsRowOf, IsWith, IsWithout, IsWithin}
-use Rattle.set_cover.specs.Instance.{Instance, of_indices, row_of}
+use Rattle.set_cover.specs.Bits.{Has, IsRowOf, IsWith, IsWithout}
+use Rattle.set_cover.specs.Instance.{Instance, of_indices}
 use Rattle.set_cover.proofs.BitLemmas.{has_or_not, row_push}
 use Rattle.cave_model.specs.Coverage.{Coverage}
 use Rattle.proof_rules.specs.declared.groups.Share.{Share}
@@ -18,11 +18,10 @@ use Rattle.proof_rules.proofs.OmitLemmas.{bool_cases, left_from, left_is_other, 
 use Rattle.proof_tree.specs.declared.proof.Proof.{Proof}
 use Rattle.proof_tree.specs.Shape.{tree_of, forest_of}
 use Rattle.pack_bound.specs.Indices.{cell_indices}
-use Rattle.pack_bound.specs.Judged.{MayGiveWay}
 use Rattle.pack_bound.specs.Nodes.{NodeState, IsStateOf, Closes}
-use Rattle.pack_bound.proofs.NodeLemmas.{row_of_state, lit_outside}
+use Rattle.pack_bound.proofs.NodeLemmas.{row_of_state, lit_outside, dark_of}
 use Rattle.pack_bound.proofs.NumberLemmas.{number_in, below_number}
-use Rattle.tree_judges.specs.Omission.{CellsAvoid, SharesAvoid, GroupsAvoid, Avoids, AllAvoid, AreLeft}
+use Rattle.tree_judges.specs.Omission.{CellsAvoid, SharesAvoid, GroupsAvoid, Avoids, AllAvoid}
 use Rattle.tree_judges.specs.Omission.{MayBeBarredOver, ClosesWithout}
 
 -- ---- what is left
@@ -167,6 +166,13 @@ avoid_push : (omitted : List ℕ) (proofs : List Proof) (proof : Proof) → AllA
 avoid_push omitted [] proof all one = (one, tt)
 avoid_push omitted (p ∷ ps) proof all one = (all.0, avoid_push omitted ps proof all.1 one)
 
+-- and so each of them does
+pub avoid_at : (omitted : List ℕ) (proofs : List Proof) (i : ℕ) (d : Proof) → i < length proofs
+    → AllAvoid omitted (forest_of proofs) → Avoids omitted (tree_of (get_or proofs i d))
+avoid_at omitted [] i d h all = absurd (omega arith)
+avoid_at omitted (p ∷ ps) zero d h all = all.0
+avoid_at omitted (p ∷ ps) (suc i) d h all = avoid_at omitted ps i d (omega arith) all.1
+
 -- the tree at the next index does
 pub avoid_next : (omitted : List ℕ) (proofs : List Proof) (i : ℕ) (proof : Proof) → i < length proofs
     → proof ≡ get_or proofs i proof → AllAvoid omitted (forest_of (take i proofs)) → Avoids omitted (tree_of proof)
@@ -198,36 +204,49 @@ pub omitted_below : (region : Instance) (cells : List ℕ) (cell : ℕ) → MayB
 omitted_below region cells cell m h =
     below_number (length region.cells) cell (at_member (Contains (cell_indices region)) cells cell m.of_them h)
 
--- a place that lights no more of the row than another may be left out where no more is left
-pub barred_over : (region : Instance) (state : NodeState) (left : List ℕ) (place by : ℕ)
-    → MayGiveWay region state place by
-    → IsWithin (row_of region place) left (row_of region by) → MayBeBarredOver region state left place by
-barred_over region state left place by gives within = record {
-  inside = gives.inside;
-  dominated = λ barred cells listed are. record {
-    legal = gives.inside;
-    by_legal = gives.by_inside;
-    other = gives.other;
-    free = λ c. gives.free ((listed.exact place).1 c);
-    by_free = λ c. gives.by_free ((listed.exact by).1 c);
-    unchosen = gives.unchosen;
-    does_as_well = λ cell of_it lights. elim (are cell of_it) [
-      | inl lit ↦ inl lit
-      | inr unlit ↦ inr (within cell lights unlit)
-    ];
-  };
+-- a place that may be left out over a row is dominated, where no cell but those of the row is left
+pub barred_over : (region : Instance) (state : NodeState) (these omitted left barred : List ℕ) (place by : ℕ)
+    → IsStateOf region state → IsRowOf these omitted → IsWithout state.unlit omitted left
+    → IsRowOf barred state.barred → MayBeBarredOver region state left place by
+    → IsDominated (of_indices region) (left_without these (cell_indices region)) state.chosen barred place by
+barred_over region state these omitted left barred place by s row w listed may = record {
+  legal = may.gives.inside;
+  by_legal = may.gives.by_inside;
+  other = may.gives.other;
+  free = λ c. may.gives.free ((listed.exact place).1 c);
+  by_free = λ c. may.gives.by_free ((listed.exact by).1 c);
+  unchosen = may.gives.unchosen;
+  does_as_well = λ cell of_it lights. elim (has_or_not state.unlit cell) [
+    | inl unlit ↦ inr (may.within cell lights ((w.exact cell).1
+        (unlit, λ o. left_is_other these (cell_indices region) cell of_it ((row.exact cell).0 o))))
+    | inr not ↦ inl (lit_outside region state.chosen state.unlit cell (row_of_state region state s)
+        (left_from these (cell_indices region) cell of_it) not)
+  ];
 }
 
--- of what is left each cell is lit or in the row of what is unlit and left
-left_over : (region : Instance) (state : NodeState) (these omitted left : List ℕ) → IsStateOf region state
-    → IsRowOf these omitted → IsWithout state.unlit omitted left
-    → AreLeft region state left (left_without these (cell_indices region))
-left_over region state these omitted left s listed w cell h = elim (has_or_not state.unlit cell) [
-  | inl unlit ↦ inr ((w.exact cell).1
-      (unlit, λ o. left_is_other these (cell_indices region) cell h ((listed.exact cell).0 o)))
-  | inr not ↦ inl (lit_outside region state.chosen state.unlit cell (row_of_state region state s)
-      (left_from these (cell_indices region) cell h) not)
-]
+-- and one that is dominated may be left out over it
+pub over_barred : (region : Instance) (state : NodeState) (these omitted left barred : List ℕ) (place by : ℕ)
+    → IsStateOf region state → IsRowOf these omitted → IsWithout state.unlit omitted left
+    → IsRowOf barred state.barred
+    → IsDominated (of_indices region) (left_without these (cell_indices region)) state.chosen barred place by
+    → MayBeBarredOver region state left place by
+over_barred region state these omitted left barred place by s row w listed d = record {
+  gives = record {
+    inside = d.legal;
+    by_inside = d.by_legal;
+    other = d.other;
+    free = λ h. d.free ((listed.exact place).0 h);
+    by_free = λ h. d.by_free ((listed.exact by).0 h);
+    unchosen = d.unchosen;
+  };
+  within = λ cell lights there.
+      (let was = (w.exact cell).0 there in let u = (s.unlit cell).0 was.0 in
+      elim (d.does_as_well cell (other_is_left these (cell_indices region) cell u.of_it
+      (λ c. was.1 ((row.exact cell).1 c))) lights) [
+        | inl lit ↦ absurd (dark_of region state.chosen cell lit.0 u lit.1 lit.2)
+        | inr as_well ↦ as_well
+      ]);
+}
 
 -- a bar above a tree that closes what is left without the cells
 pub bar_without : (region : Instance) (old new : NodeState) (omitted left : List ℕ) (place by floor : ℕ) (tree : Tree)
@@ -236,8 +255,7 @@ pub bar_without : (region : Instance) (old new : NodeState) (omitted left : List
     → ClosesWithout region old omitted floor (bar place by tree)
 bar_without region old new omitted left place by floor tree s w may chosen with_it closed = record {
   good = λ barred these listed row. (
-    may.dominated barred (left_without these (cell_indices region)) listed
-        (left_over region old these omitted left s row w),
+    barred_over region old these omitted left barred place by s row w listed may,
     subst (λ (l : List ℕ). Good (of_indices region) (left_without these (cell_indices region)) l (barred ++ place ∷ [])
         floor tree) chosen
         (closed.good (barred ++ place ∷ []) these (row_push barred old.barred new.barred place listed with_it) row),

@@ -1,14 +1,14 @@
 -- Cells that are left out, and trees that speak of none of them. This is this project's own.
-use Rattle.std.specs.Prelude.{◌⊎◌, ℕ, ◌<◌, List, length, All, Contains}
-use Rattle.cave_model.specs.Coverage.{IsLitBy}
-use Rattle.set_cover.specs.Bits.{Has, IsRowOf}
-use Rattle.set_cover.specs.Instance.{Instance, of_indices}
+use Rattle.std.specs.Prelude.{ℕ, List, All}
+use Rattle.set_cover.specs.Bits.{Has, IsRowOf, IsWithin}
+use Rattle.set_cover.specs.Instance.{Instance, of_indices, row_of}
 use Rattle.proof_rules.specs.declared.groups.Share.{Share}
 use Rattle.proof_rules.specs.declared.groups.Group.{Group}
 use Rattle.proof_rules.specs.Tree.{Tree, Forest, leaf, weighted, branch, bar, omit, none, more}
 use Rattle.proof_rules.specs.Omitted.{left_without}
-use Rattle.proof_rules.specs.Good.{IsDominated, Good}
+use Rattle.proof_rules.specs.Good.{Good}
 use Rattle.pack_bound.specs.Indices.{cell_indices}
+use Rattle.pack_bound.specs.Judged.{MayGiveWay}
 use Rattle.pack_bound.specs.Nodes.{NodeState}
 
 -- none of the cells is in the row
@@ -37,16 +37,10 @@ abbrev mutual
   AllAvoid omitted none = Unit {0}
   AllAvoid omitted (more tree trees) = Avoids omitted tree × AllAvoid omitted trees
 
--- each of the cells is in the row, or lit
-abbrev pub AreLeft : Instance → NodeState → List ℕ → List ℕ → Type 0
-AreLeft region state left cells = (cell : ℕ) → Contains cells cell
-    → IsLitBy (of_indices region) state.chosen cell ⊎ Has left cell
-
--- the place may be left out, where no more than the cells of the row is left
+-- the place may give way, and the other lights all that it lights of the cells of the row
 pub record MayBeBarredOver (region : Instance) (state : NodeState) (left : List ℕ) (place by : ℕ) : Type 0 where
-  pub inside : place < length region.places
-  pub dominated : (barred cells : List ℕ) → IsRowOf barred state.barred → AreLeft region state left cells
-      → IsDominated (of_indices region) cells state.chosen barred place by
+  pub gives : MayGiveWay region state place by
+  pub within : IsWithin (row_of region place) left (row_of region by)
 
 -- the tree closes what is left without the cells of the row, whichever way these and the barred places are listed
 pub record ClosesWithout (region : Instance) (state : NodeState) (omitted : List ℕ) (floor : ℕ) (tree : Tree) : Type 0

@@ -1,6 +1,6 @@
 //! Cells that are left out. What closes a node with all of its cells, and speaks of none of those that are left out,
-//! closes it without them. The judges answer for their `true` alone.
-ghost use Rattle.std.specs.Prelude.{◌≡◌, ◌*◌, ◌<◌, [], ℕ, Contains, IsTrue, IfOk, length};
+//! closes it without them.
+ghost use Rattle.std.specs.Prelude.{◌≡◌, ◌↔◌, ◌*◌, ◌<◌, [], ℕ, Contains, IsTrue, IfOk, length};
 ghost use Rattle.pack_bound.specs.Indices.{cell_indices};
 ghost use Rattle.pack_bound.specs.Nodes.{IsStateOf};
 ghost use Rattle.proof_rules.specs.Omitted.{MayBeOmitted};
@@ -17,7 +17,7 @@ use std::alloc::{AllocError, Global};
 
 /// Whether the cells may be left out: some of the region's, ascending.
 pub(crate) fn may_be_omitted(region: &Region, cells: &[u32]) -> bool
-    ensures { IsTrue result → MayBeOmitted (cell_indices region.now) cells.now }
+    ensures { IsTrue result ↔ MayBeOmitted (cell_indices region.now) cells.now }
 {
     if cells.len() == 0 {
         return false;
@@ -67,7 +67,7 @@ pub(crate) fn unlit_without(
 pub(crate) fn is_bar_over(region: &Region, node: &Node, left: &[u64], place: u32, by: u32) -> bool
     requires state { IsStateOf region.now node.now }
     requires left { length left.now ≡ region.now.width }
-    ensures { IsTrue result → MayBeBarredOver region.now node.now left.now place by }
+    ensures { IsTrue result ↔ MayBeBarredOver region.now node.now left.now place by }
 {
     may_give_way(region, node, place, by)
         && is_within(
@@ -80,7 +80,7 @@ pub(crate) fn is_bar_over(region: &Region, node: &Node, left: &[u64], place: u32
 /// Whether the tree speaks of no cell of a row.
 #[cycle(avoiding)]
 pub(crate) fn avoids(tree: &Proof, omitted: &[u64]) -> bool
-    ensures { IsTrue result → Avoids omitted.now (tree_of tree.now) }
+    ensures { IsTrue result ↔ Avoids omitted.now (tree_of tree.now) }
 {
     match tree {
         Proof::Leaf(cells) => cells_avoid(cells.as_slice(), omitted),
@@ -104,7 +104,7 @@ pub(crate) fn avoids(tree: &Proof, omitted: &[u64]) -> bool
 /// Whether each of the trees speaks of no cell of a row.
 #[cycle(avoiding)]
 fn all_avoid(trees: &[Proof], omitted: &[u64]) -> bool
-    ensures { IsTrue result → AllAvoid omitted.now (forest_of trees.now) }
+    ensures { IsTrue result ↔ AllAvoid omitted.now (forest_of trees.now) }
 {
     for index in 0..trees.len() {
         if !avoids(&trees[index], omitted) {
@@ -116,7 +116,7 @@ fn all_avoid(trees: &[Proof], omitted: &[u64]) -> bool
 
 /// Whether none of the cells is in a row.
 fn cells_avoid(cells: &[u32], omitted: &[u64]) -> bool
-    ensures { IsTrue result → CellsAvoid omitted.now cells.now }
+    ensures { IsTrue result ↔ CellsAvoid omitted.now cells.now }
 {
     for index in 0..cells.len() {
         if !is_other(cells[index], omitted) {
@@ -128,7 +128,7 @@ fn cells_avoid(cells: &[u32], omitted: &[u64]) -> bool
 
 /// Whether no group has a cell in a row.
 fn groups_avoid(groups: &[Group], omitted: &[u64]) -> bool
-    ensures { IsTrue result → GroupsAvoid omitted.now groups.now }
+    ensures { IsTrue result ↔ GroupsAvoid omitted.now groups.now }
 {
     for index in 0..groups.len() {
         if !shares_avoid(groups[index].shares.as_slice(), omitted) {
@@ -140,7 +140,7 @@ fn groups_avoid(groups: &[Group], omitted: &[u64]) -> bool
 
 /// Whether no share is of a cell in a row.
 fn shares_avoid(shares: &[Share], omitted: &[u64]) -> bool
-    ensures { IsTrue result → SharesAvoid omitted.now shares.now }
+    ensures { IsTrue result ↔ SharesAvoid omitted.now shares.now }
 {
     for index in 0..shares.len() {
         if !is_other(shares[index].cell, omitted) {
@@ -152,7 +152,7 @@ fn shares_avoid(shares: &[Share], omitted: &[u64]) -> bool
 
 /// Whether the cell isn't in a row.
 fn is_other(cell: u32, omitted: &[u64]) -> bool
-    ensures { IsTrue result → ¬ Has omitted.now cell }
+    ensures { IsTrue result ↔ (¬ Has omitted.now cell) }
 {
     let cell = cell as usize;
     if cell / 64 >= omitted.len() {

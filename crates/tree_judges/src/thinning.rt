@@ -1,10 +1,10 @@
 //! A region with some of its places alone.
 ghost use Rattle.std.specs.List.Sorted.{IsStrictlyIncreasing};
-ghost use Rattle.std.specs.Prelude.{◌≡◌, IsTrue, IfOk, IfSome, map, flat_map, slice_index};
+ghost use Rattle.std.specs.Prelude.{◌≡◌, ◌↔◌, IsTrue, IfOk, MatchOption, map, flat_map, slice_index};
 ghost use Rattle.instance_regions.specs.Region.{IsRegion};
 ghost use Rattle.pack_bound.specs.Indices.{IsCoverAt};
 ghost use Rattle.set_cover.specs.Instance.{row_of};
-ghost use Rattle.tree_judges.specs.Thinning.{thinned};
+ghost use Rattle.tree_judges.specs.Thinning.{MayBeKept, thinned};
 
 use cave_base::Cell;
 use instance_regions::Region;
@@ -15,17 +15,22 @@ use std::alloc::{AllocError, Global};
 /// The region with the places of these indices alone. None where they don't ascend, or some cell is lit by none of
 /// them.
 pub fn thin(alloc: Global, region: &Region, kept: &[u32]) -> Result<Option<Region>, AllocError>
-    ensures { IfOk result (λ found. IfSome found (λ less. less ≡ thinned region.now kept.now)) }
+    ensures { IfOk result (λ found. MatchOption found (¬ MayBeKept region.now kept.now)
+        (λ less. less ≡ thinned region.now kept.now)) }
 {
-    if !ascend(kept) || !is_cover(alloc, region, kept)? {
+    if !ascend(kept) {
+        return Ok(None);
+    }
+    if !is_cover(alloc, region, kept)? {
         return Ok(None);
     }
     let less = with_places(alloc, region, kept)?;
     Ok(Some(less))
 }
 
+/// Whether the numbers ascend.
 fn ascend(indices: &[u32]) -> bool
-    ensures { IsTrue result → IsStrictlyIncreasing indices.now }
+    ensures { IsTrue result ↔ IsStrictlyIncreasing indices.now }
 {
     for i in 1..indices.len() {
         if indices[i - 1] >= indices[i] {

@@ -1,11 +1,10 @@
 //! Judging a whole tree, as a copied or a pruned one.
-ghost use Rattle.std.specs.Prelude.{IsTrue, IfOk};
+ghost use Rattle.std.specs.Prelude.{IfOk};
 ghost use Rattle.pack_bound.specs.Judged.{AreKidPlaces};
-ghost use Rattle.pack_bound.specs.Nodes.{IsStateOf, Closes};
+ghost use Rattle.pack_bound.specs.Nodes.{IsStateOf};
 ghost use Rattle.proof_tree.specs.Shape.{tree_of, forest_of};
 ghost use Rattle.set_cover.specs.Bits.{Has, IsWithout};
-ghost use Rattle.tree_judges.specs.Kids.{ClosesKids};
-ghost use Rattle.tree_judges.specs.Omission.{ClosesWithout};
+ghost use Rattle.tree_judges.specs.Decided.{Decides, DecidesWithout, DecidesKids};
 
 use crate::omission::{avoids, is_bar_over, may_be_omitted, omitted_row, unlit_without};
 use crate::weighted_leaf::is_weighted_leaf;
@@ -15,7 +14,8 @@ use proof_tree::Proof;
 use set_cover::{add, has};
 use std::alloc::{AllocError, Global};
 
-/// Whether the tree closes what is left, at the floor. The node is used up.
+/// Whether the tree closes what is left, at the floor. It may refuse one that does where that leaves a place out deep
+/// below an omission, and not right below it. The node is used up.
 #[cycle(judging)]
 pub fn is_good(
     alloc: Global,
@@ -25,7 +25,7 @@ pub fn is_good(
     floor: u64,
 ) -> Result<bool, AllocError>
     requires { IsStateOf region.now node.old }
-    ensures { IfOk result (λ yes. IsTrue yes → Closes region.now node.old floor (tree_of tree.now)) }
+    ensures { IfOk result (Decides region.now node.old floor (tree_of tree.now)) }
 {
     match tree {
         Proof::Leaf(cells) => {
@@ -33,7 +33,8 @@ pub fn is_good(
             if size < floor {
                 return Ok(false);
             }
-            is_leaf(alloc, region, node, cells.as_slice())
+            let fits = is_leaf(alloc, region, node, cells.as_slice())?;
+            Ok(fits)
         }
         Proof::Weighted(groups) => {
             let good = is_weighted_leaf(alloc, region, node, groups.as_slice(), floor)?;
@@ -44,7 +45,8 @@ pub fn is_good(
                 return Ok(false);
             }
             let places = open_places(alloc, region, node, *cell)?;
-            are_good(alloc, region, node, *cell, &places, kids.trees(), floor)
+            let good = are_good(alloc, region, node, *cell, &places, kids.trees(), floor)?;
+            Ok(good)
         }
         Proof::Bar { place, by, kid } => {
             if !is_bar(region, node, *place, *by) {
@@ -81,7 +83,7 @@ fn is_good_without(
 ) -> Result<bool, AllocError>
     requires state { IsStateOf region.now node.old }
     requires left { IsWithout node.old.unlit omitted.now left.now }
-    ensures { IfOk result (λ yes. IsTrue yes → ClosesWithout region.now node.old omitted.now floor (tree_of tree.now)) }
+    ensures { IfOk result (DecidesWithout region.now node.old omitted.now floor (tree_of tree.now)) }
 {
     match tree {
         Proof::Bar { place, by, kid } => {
@@ -116,7 +118,7 @@ fn are_good(
     requires state { IsStateOf region.now node.now }
     requires cell { Has node.now.unlit cell }
     requires places { AreKidPlaces region.now node.now cell places.now }
-    ensures { IfOk result (λ yes. IsTrue yes → ClosesKids region.now node.now floor places.now (forest_of trees.now)) }
+    ensures { IfOk result (DecidesKids region.now node.now floor places.now (forest_of trees.now)) }
 {
     if places.len() != trees.len() {
         return Ok(false);

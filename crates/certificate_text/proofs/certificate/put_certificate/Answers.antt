@@ -5,8 +5,8 @@ use Rattle.certificate_text.specs.Heading.{heading_text}
 use Rattle.certificate_text.specs.PlanOf.{plan_of, plans_of}
 use Rattle.certificate_text.specs.Planned.{version_at, version_of, certificate_text}
 use Rattle.certificate_text.specs.Sections.{body_text}
-use Rattle.certificate_text.proofs.SentLemmas.{err_sent, then_sent}
-use Rattle.certificate_text.proofs.WholeLemmas.{certificate_is}
+use Rattle.certificate_text.proofs.SentLemmas.{err_sent, then_sent, failed_before}
+use Rattle.certificate_text.proofs.WholeLemmas.{certificate_is, certificate_some}
 use Rattle.certificate_text.proofs.certificate.put_certificate.Goals as goal
 
 pub returns-in_err-put_text : goal.returns-in_err-put_text
@@ -35,3 +35,10 @@ returns g c =
     ∙ certificate_is c.args.world.now plans in
     then_sent g.W.Write.contents c.put_body.result c.args.sink.now c.put_text.new.self c.put_body.new.sink
     c.as_str.result.now body (certificate_text c.args.world.now plans) text c.in_ok-put_text.ensures c.put_body.ensures
+
+pub returns-in_err-heading : goal.returns-in_err-heading
+returns-in_err-heading g c =
+    let p = err_from_is_err_and c.from_residual.result c.from_residual.ensures.1 in
+    let plans = plans_of c.args.parts.now in
+    failed_before g.W.Write.contents c.from_residual.result p.0 c.args.sink.now
+    (certificate_text c.args.world.now plans) p.1 (certificate_some c.args.world.now plans)

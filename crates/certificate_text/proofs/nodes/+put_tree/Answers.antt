@@ -1,4 +1,4 @@
-use Rattle.std.proofs.Common.{◌∙◌, ◌∷◌, [], ◌++◌, List, ℕ, length, codes, subst, sym, ap, arith, rules}
+use Rattle.std.proofs.Common.{◌∙◌, ◌∷◌, [], ◌++◌, List, ℕ, length, codes, subst, sym, ap, arith, rules, length-append}
 use Rattle.std.proofs.lemmas.Result.{err_from_is_err_and}
 use Rattle.proof_rules.specs.declared.groups.Group.{Group}
 use Rattle.proof_rules.specs.Tree.{Tree, Forest, leaf, weighted, branch, bar, omit}
@@ -10,7 +10,7 @@ use Rattle.certificate_text.specs.Sending.{IsSent, SendsAll, SendsPart}
 use Rattle.proof_tree.specs.declared.proof.Proof.{Proof}
 use Rattle.certificate_text.proofs.NodeLemmas.{one_line, branch_text, count_trees, none_sent}
 use Rattle.certificate_text.proofs.NodeLemmas.{next_distinct, one_sent, failed_sent, tree_below}
-use Rattle.certificate_text.proofs.SentLemmas.{err_sent, then_sent}
+use Rattle.certificate_text.proofs.SentLemmas.{err_sent, then_sent, failed_before}
 use Rattle.certificate_text.proofs.nodes.+put_tree.Goals as goal
 
 pub put_tree-returns-in_ok-numbers-in-Leaf : goal.put_tree-returns-in_ok-numbers-in-Leaf
@@ -132,3 +132,12 @@ put_trees-loop-tree-preserved g t c =
     (tree_text (tree_of q))) c.tree-item.is c.in_ok-put_tree.ensures in
     one_sent g.W.Write.contents c.args.sink.now c.loop-tree.sink c.put_tree.new.sink c.args.trees.now
     c.loop-tree.tree-index c.tree-item.result c.loop-tree-test.true c.loop-tree.invariant sent
+
+pub put_tree-returns-in_err-numbers-in-Leaf : goal.put_tree-returns-in_err-numbers-in-Leaf
+put_tree-returns-in_err-numbers-in-Leaf g t c =
+    let p = err_from_is_err_and c.from_residual.result c.from_residual.ensures.1 in
+    let cells = c.in-Leaf.cells in
+    let first = line (codes "L") (length (in_order cells) ∷ in_order cells) in
+    let text = one_line first ∙ ap (λ (q : Proof). tree_text (tree_of q)) (sym c.in-Leaf.is) in
+    failed_before g.W.Write.contents c.from_residual.result p.0 c.args.sink.now
+    (tree_text (tree_of c.args.proof.now)) p.1 (omega (arith, ap length text, length-append first (10 ∷ [])))

@@ -1,9 +1,10 @@
-use Rattle.std.proofs.Common.{◌≤◌, ℕ, List, length, take, take_all, slice_index, refl, sym, subst, arith}
+use Rattle.std.proofs.Common.{◌≤◌, ℕ, List, length, take, take_all, slice_index, refl, sym, subst, ◌∙◌, arith}
+use Rattle.std.proofs.lemmas.Bool.{true≢false, false≢true}
 use Rattle.std.proofs.lemmas.List.{take_more}
-use Rattle.set_cover.specs.Bits.{IsWithApart}
+use Rattle.set_cover.specs.Bits.{IsApart, IsWithApart}
 use Rattle.set_cover.proofs.OrderLemmas.{element_of}
 use Rattle.pack_bound.specs.Judged.{AreApart}
-use Rattle.pack_bound.proofs.JudgeLemmas.{AreLitApart, apart_begin, apart_more, unlit_inside}
+use Rattle.pack_bound.proofs.JudgeLemmas.{AreLitApart, apart_begin, apart_more, apart_only, unlit_inside}
 use Rattle.pack_bound.proofs.judge.are_apart.Goals as goal
 
 pub loop-cell-init : goal.loop-cell-init
@@ -28,10 +29,23 @@ loop-cell-preserved c =
     (apart_more c.args.region.now c.args.node.now.barred (take i cells) c.loop-cell.lighting c.column.result.now
     c.add_apart.new.words (slice_index cells i) c.loop-cell.invariant c.column.ensures.column
     (subst (λ (row : List ℕ). IsWithApart c.loop-cell.lighting c.column.result.now row c.add_apart.new.words)
-    c.barred.ensures (c.add_apart.ensures c.if-not-add_apart.false)))
+    c.barred.ensures (c.add_apart.ensures.grown c.if-not-add_apart.false)))
+
+pub returns-then-not-add_apart : goal.returns-then-not-add_apart
+returns-then-not-add_apart c =
+    let cells = c.args.cells.now in let barred = c.args.node.now.barred in let column = c.column.result.now in (
+      λ t. absurd (false≢true t),
+      λ a. absurd (true≢false (sym (c.add_apart.ensures.apart.1
+          (subst (IsApart c.loop-cell.lighting column) (sym c.barred.ensures)
+          (apart_only c.args.region.now barred cells c.loop-cell.lighting column c.loop-cell.cell-index
+          c.requires.marked.distinct c.loop-cell-test.true c.loop-cell.invariant c.column.ensures.column a)))
+          ∙ c.if-not-add_apart.true)),
+    )
 
 pub returns : goal.returns
-returns c = λ t.
-    (let all : length c.args.cells.now ≤ c.loop-cell.cell-index = omega arith in
-    subst (AreApart c.args.region.now c.args.node.now.barred) (take_all c.loop-cell.cell-index c.args.cells.now all)
-    c.loop-cell.invariant.apart)
+returns c =
+    let all : length c.args.cells.now ≤ c.loop-cell.cell-index = omega arith in (
+      λ t. subst (AreApart c.args.region.now c.args.node.now.barred)
+          (take_all c.loop-cell.cell-index c.args.cells.now all) c.loop-cell.invariant.apart,
+      λ a. refl,
+    )

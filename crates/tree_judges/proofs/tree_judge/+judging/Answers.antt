@@ -1,13 +1,21 @@
 use Rattle.std.proofs.Common.{◌<◌, ◌∙◌, length, subst, sym, ap, arith, List, ℕ}
-use Rattle.proof_rules.specs.Tree.{Tree, bar}
+use Rattle.std.proofs.Common.{take, false}
+use Rattle.std.proofs.lemmas.Bool.{true≢false}
+use Rattle.proof_rules.specs.Omitted.{MayBeOmitted}
+use Rattle.proof_rules.specs.Tree.{Tree, Forest}
 use Rattle.proof_tree.specs.declared.proof.Proof.{Proof}
-use Rattle.proof_tree.specs.Shape.{tree_of, tree_size}
-use Rattle.set_cover.specs.Bits.{IsWithout}
-use Rattle.pack_bound.specs.Nodes.{Closes}
-use Rattle.tree_judges.specs.Omission.{ClosesWithout}
-use Rattle.tree_judges.proofs.BarLemmas.{same_state, barred_state, closes_bar}
+use Rattle.proof_tree.specs.Shape.{tree_of, forest_of, tree_size}
+use Rattle.set_cover.specs.Bits.{Has, IsRowOf, IsWithout}
+use Rattle.pack_bound.specs.Indices.{cell_indices}
+use Rattle.pack_bound.proofs.JudgeLemmas.{unlit_inside, not_has}
+use Rattle.tree_judges.specs.Decided.{Decides, DecidesWithout, DecidesKids}
+use Rattle.tree_judges.proofs.BarLemmas.{same_state, barred_state}
 use Rattle.tree_judges.proofs.KidLemmas.{kid_place, kid_state, tree_below, judged_next}
-use Rattle.tree_judges.proofs.OmissionLemmas.{bar_without, closes_without}
+use Rattle.tree_judges.proofs.ClosingLemmas.{leaf_few, branch_lit, branch_decides, bar_refused, bar_decides}
+use Rattle.tree_judges.proofs.ClosingLemmas.{omit_refused, omit_decides, over_refused, over_decides, not_avoiding}
+use Rattle.tree_judges.proofs.ClosingLemmas.{avoiding_decides, kids_refused, kid_refused, top_bare}
+use Rattle.tree_judges.proofs.tree_judge.+judging.Goals.{is_good-then-cell-cells-via-then-cell-cells}
+use Rattle.tree_judges.proofs.tree_judge.+judging.Goals.{is_good-then-cell-cells-via-else-cell-cells+then-not-has}
 use Rattle.tree_judges.proofs.tree_judge.+judging.Goals as goal
 
 pub are_good-become_kid-requires-clause-place : goal.are_good-become_kid-requires-clause-place
@@ -38,7 +46,7 @@ are_good-loop-index-preserved t c =
     judged_next c.args.region.now c.args.node.now c.become_kid.new.self c.args.floor c.args.places.now i
     c.loop-index.barred c.add.new.words c.args.trees.now c.index-trees-index.result
     (omega arith) (omega (arith, c.if-places-trees.false)) c.index-trees-index.is c.loop-index.invariant
-    c.in_ok-become_kid.ensures (c.in_ok-is_good.ensures c.if-not-branch.false) c.add.ensures
+    c.in_ok-become_kid.ensures (c.in_ok-is_good.ensures.right c.if-not-branch.false) c.add.ensures
 
 pub is_good-is_good-requires : goal.is_good-is_good-requires
 is_good-is_good-requires t c =
@@ -47,16 +55,8 @@ is_good-is_good-requires t c =
     let part = ap tree_size c.tree.ensures in (
       omega (arith, whole, part, c.decreases),
       barred_state c.args.region.now c.args.node.now c.bar.new.self c.in-Bar.place c.in-Bar.by c.requires
-          (c.is_bar.ensures c.if-not-is_bar.false) made.chosen made.unlit made.barred,
+          (c.is_bar.ensures.0 c.if-not-is_bar.false) made.chosen made.unlit made.barred,
     )
-
-pub is_good-returns-in_ok-good-in-Bar : goal.is_good-returns-in_ok-good-in-Bar
-is_good-returns-in_ok-good-in-Bar t c = λ yes.
-    (let region = c.args.region.now in let node = c.args.node.now in let made = c.bar.ensures in
-    let whole = ap tree_of c.in-Bar.is ∙ ap (λ (k : Tree). bar c.in-Bar.place c.in-Bar.by k) (sym c.tree.ensures) in
-    subst (Closes region node c.args.floor) (sym whole)
-    (closes_bar region node c.bar.new.self c.in-Bar.place c.in-Bar.by c.args.floor (tree_of c.tree.result.now)
-    (c.is_bar.ensures c.if-not-is_bar.false) made.chosen made.unlit made.barred (c.in_ok-good-in-Bar.ensures yes)))
 
 pub is_good_without-is_good_without-requires : goal.is_good_without-is_good_without-requires
 is_good_without-is_good_without-requires t c =
@@ -71,17 +71,127 @@ is_good_without-is_good_without-requires t c =
       ),
     )
 
-pub is_good_without-returns-in_ok-good-in-Bar : goal.is_good_without-returns-in_ok-good-in-Bar
-is_good_without-returns-in_ok-good-in-Bar t c = λ yes.
-    (let region = c.args.region.now in let node = c.args.node.now in let made = c.bar.ensures in
+-- ---- kids
+
+pub are_good-returns-then-places-trees : goal.are_good-returns-then-places-trees
+are_good-returns-then-places-trees t c = kids_refused c.args.region.now c.args.node.now c.args.floor c.args.places.now
+    c.args.trees.now (λ e. omega (arith, c.if-places-trees.true))
+
+pub are_good-returns-then-not-branch : goal.are_good-returns-then-not-branch
+are_good-returns-then-not-branch t c =
+    let i = c.loop-index.index in
+    kid_refused c.args.region.now c.args.node.now c.args.floor c.args.places.now c.args.trees.now c.become_kid.new.self
+    c.loop-index.barred i c.index-trees-index.result (forest_of (take i c.args.trees.now)) c.in_ok-is_good.field-0
+    (omega arith) (omega (arith, c.if-places-trees.false)) c.index-trees-index.is c.loop-index.invariant
+    c.in_ok-become_kid.ensures c.in_ok-is_good.ensures c.if-not-branch.true
+
+-- ---- a tree
+
+pub is_good-returns-then-size-floor : goal.is_good-returns-then-size-floor
+is_good-returns-then-size-floor t c =
+    let region = c.args.region.now in let node = c.args.node.now in let floor = c.args.floor in
+    subst (λ (k : Tree). Decides region node floor k false) (sym (ap tree_of c.in-Leaf.is))
+    (leaf_few region node floor c.in-Leaf.cells (omega (
+      arith,
+      ap length c.chosen.ensures,
+      ap length c.as_slice.ensures,
+      c.saturating_add-size.ensures,
+      c.if-size-floor.true,
+      c.ranges.floor.fits,
+    )))
+
+pub is_good-returns-then-cell-cells : goal.is_good-returns-then-cell-cells
+is_good-returns-then-cell-cells t c =
+    let region = c.args.region.now in let node = c.args.node.now in let floor = c.args.floor in
+    let cell = c.in-Branch.cell in
+    let lit : ¬ Has node.unlit cell = elim c.then-cell-cells.branch [
+      | is_good-then-cell-cells-via-then-cell-cells w ↦ (λ h.
+          (let inside = unlit_inside region node cell c.requires h in
+          absurd (omega (arith, inside, ap length c.cells.ensures.cells, w.if-cell-cells.true))))
+      | is_good-then-cell-cells-via-else-cell-cells+then-not-has w ↦
+          not_has node.unlit w.unlit.result.now cell w.has.result w.unlit.ensures w.has.ensures w.if-not-has.true
+    ] in
+    subst (λ (k : Tree). Decides region node floor k false) (sym (ap tree_of c.in-Branch.is))
+    (branch_lit region node floor cell c.in-Branch.kids c.requires lit)
+
+pub is_good-returns-then-not-is_bar : goal.is_good-returns-then-not-is_bar
+is_good-returns-then-not-is_bar t c =
+    let region = c.args.region.now in let node = c.args.node.now in let floor = c.args.floor in
+    subst (λ (k : Tree). Decides region node floor k false) (sym (ap tree_of c.in-Bar.is))
+    (bar_refused region node floor c.in-Bar.place c.in-Bar.by c.in-Bar.kid
+    (λ m. true≢false (sym (c.is_bar.ensures.1 m) ∙ c.if-not-is_bar.true)))
+
+pub is_good-returns-then-not-may_be_omitted : goal.is_good-returns-then-not-may_be_omitted
+is_good-returns-then-not-may_be_omitted t c =
+    let region = c.args.region.now in let node = c.args.node.now in let floor = c.args.floor in
+    subst (λ (k : Tree). Decides region node floor k false) (sym (ap tree_of c.in-Omit.is))
+    (omit_refused region node floor c.in-Omit.cells c.in-Omit.kid
+    (λ m. true≢false (sym (c.may_be_omitted.ensures.1
+    (subst (MayBeOmitted (cell_indices region)) (sym c.as_slice-in-Omit.ensures) m)) ∙ c.if-not-may_be_omitted.true)))
+
+pub is_good-returns-in_ok-good-in-Branch : goal.is_good-returns-in_ok-good-in-Branch
+is_good-returns-in_ok-good-in-Branch t c =
+    let region = c.args.region.now in let node = c.args.node.now in let floor = c.args.floor in
+    let good = c.in_ok-good-in-Branch.good in let places = c.in_ok-places-in-Branch.places.items in
+    let unlit = subst (λ (row : List ℕ). Has row c.in-Branch.cell) c.unlit.ensures
+    (c.has.ensures.0 c.if-not-has.false) in
+    let kids = subst (λ (l : List ℕ). DecidesKids region node floor l (forest_of c.trees.result.now) good)
+    c.deref.ensures.value c.in_ok-good-in-Branch.ensures in
+    subst (λ (k : Tree). Decides region node floor k good) (sym (ap tree_of c.in-Branch.is))
+    (branch_decides region node floor c.in-Branch.cell c.in-Branch.kids places good c.requires unlit
+    c.in_ok-places-in-Branch.ensures
+    (subst (λ (f : Forest). DecidesKids region node floor places f good) (sym c.trees.ensures) kids))
+
+pub is_good-returns-in_ok-good-in-Bar : goal.is_good-returns-in_ok-good-in-Bar
+is_good-returns-in_ok-good-in-Bar t c =
+    let region = c.args.region.now in let node = c.args.node.now in let floor = c.args.floor in
+    let made = c.bar.ensures in let good = c.in_ok-good-in-Bar.good in
+    subst (λ (k : Tree). Decides region node floor k good) (sym (ap tree_of c.in-Bar.is))
+    (bar_decides region node floor c.in-Bar.place c.in-Bar.by c.in-Bar.kid c.bar.new.self good
+    (c.is_bar.ensures.0 c.if-not-is_bar.false) made.chosen made.unlit made.barred
+    (subst (λ (k : Tree). Decides region c.bar.new.self floor k good) c.tree.ensures c.in_ok-good-in-Bar.ensures))
+
+pub is_good-returns-in_ok-good-in-Omit : goal.is_good-returns-in_ok-good-in-Omit
+is_good-returns-in_ok-good-in-Omit t c =
+    let region = c.args.region.now in let node = c.args.node.now in let floor = c.args.floor in
+    let good = c.in_ok-good-in-Omit.good in let omitted = c.in_ok-omitted-in-Omit.omitted.items in
+    let may = subst (MayBeOmitted (cell_indices region)) c.as_slice-in-Omit.ensures
+    (c.may_be_omitted.ensures.0 c.if-not-may_be_omitted.false) in
+    let row = subst (λ (l : List ℕ). IsRowOf l omitted) c.as_slice-in-Omit-2.ensures
+    c.in_ok-omitted-in-Omit.ensures.row in
+    let below = subst (λ (l : List ℕ). DecidesWithout region node l floor (tree_of c.tree-in-Omit.result.now) good)
+    c.deref-in-Omit-2.ensures.value c.in_ok-good-in-Omit.ensures in
+    subst (λ (k : Tree). Decides region node floor k good) (sym (ap tree_of c.in-Omit.is))
+    (omit_decides region node floor c.in-Omit.cells omitted c.in-Omit.kid good may row
+    (subst (λ (k : Tree). DecidesWithout region node omitted floor k good) c.tree-in-Omit.ensures below))
+
+-- ---- a tree below an omission
+
+pub is_good_without-returns-then-not-is_bar_over : goal.is_good_without-returns-then-not-is_bar_over
+is_good_without-returns-then-not-is_bar_over t c =
+    let region = c.args.region.now in let node = c.args.node.now in let floor = c.args.floor in
     let omitted = c.args.omitted.now in
-    let whole = ap tree_of c.in-Bar.is ∙ ap (λ (k : Tree). bar c.in-Bar.place c.in-Bar.by k) (sym c.tree.ensures) in
-    subst (ClosesWithout region node omitted c.args.floor) (sym whole)
-    (bar_without region node c.bar.new.self omitted c.args.left.now c.in-Bar.place c.in-Bar.by c.args.floor
-    (tree_of c.tree.result.now) c.requires.state c.requires.left (c.is_bar_over.ensures c.if-not-is_bar_over.false)
-    made.chosen made.barred (c.in_ok-good-in-Bar.ensures yes)))
+    subst (λ (k : Tree). DecidesWithout region node omitted floor k false) (sym (ap tree_of c.in-Bar.is))
+    (over_refused region node omitted c.args.left.now floor c.in-Bar.place c.in-Bar.by c.in-Bar.kid c.requires.state
+    c.requires.left (λ m. true≢false (sym (c.is_bar_over.ensures.1 m) ∙ c.if-not-is_bar_over.true)))
+
+pub is_good_without-returns-in_ok-good-in-Bar : goal.is_good_without-returns-in_ok-good-in-Bar
+is_good_without-returns-in_ok-good-in-Bar t c =
+    let region = c.args.region.now in let node = c.args.node.now in let floor = c.args.floor in
+    let omitted = c.args.omitted.now in let made = c.bar.ensures in let good = c.in_ok-good-in-Bar.good in
+    subst (λ (k : Tree). DecidesWithout region node omitted floor k good) (sym (ap tree_of c.in-Bar.is))
+    (over_decides region node omitted c.args.left.now floor c.in-Bar.place c.in-Bar.by c.in-Bar.kid c.bar.new.self good
+    c.requires.state c.requires.left (c.is_bar_over.ensures.0 c.if-not-is_bar_over.false) made.chosen made.barred
+    (subst (λ (k : Tree). DecidesWithout region c.bar.new.self omitted floor k good) c.tree.ensures
+    c.in_ok-good-in-Bar.ensures))
+
+pub is_good_without-returns-then-not-avoids : goal.is_good_without-returns-then-not-avoids
+is_good_without-returns-then-not-avoids t c = not_avoiding c.args.region.now c.args.node.now c.args.omitted.now
+    c.args.left.now c.args.floor (tree_of c.args.tree.now)
+    (λ a. true≢false (sym (c.avoids.ensures.1 a) ∙ c.if-not-avoids.true))
 
 pub is_good_without-returns-in_ok-good-in_default : goal.is_good_without-returns-in_ok-good-in_default
-is_good_without-returns-in_ok-good-in_default t c = λ yes.
-    closes_without c.args.region.now c.args.node.now c.args.omitted.now c.args.floor (tree_of c.args.tree.now)
-    (c.avoids.ensures c.if-not-avoids.false) (c.in_ok-good-in_default.ensures yes)
+is_good_without-returns-in_ok-good-in_default t c = avoiding_decides c.args.region.now c.args.node.now
+    c.args.omitted.now c.args.left.now c.args.floor (tree_of c.args.tree.now) c.in_ok-good-in_default.good
+    (c.avoids.ensures.0 c.if-not-avoids.false) (top_bare c.args.tree.now c.in_default.not-Bar)
+    c.in_ok-good-in_default.ensures
