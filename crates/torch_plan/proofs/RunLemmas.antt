@@ -59,8 +59,8 @@ dark_answered sources file table rule old new remaining read (Err e) same told d
   left = left;
   begun = λ failed. known (structure_in sources file) remaining (table_in sources table) read
       (λ bytes rows. BeginsDark bytes rows rule old new) same told (begun failed);
-  fault = λ of. known (structure_in sources file) remaining (table_in sources table) read
-      (λ bytes rows. IsFaultOfInput bytes rows e) same told (fault of.0);
+  fault = λ of. inr (known (structure_in sources file) remaining (table_in sources table) read
+      (λ bytes rows. IsFaultOfInput bytes rows e) same told (fault of));
 }
 
 -- a run of a plan over what is known
@@ -93,7 +93,7 @@ plan_answered sources file table rule allowance old new remaining read (Err e) s
         | inr some ↦ inr (known (structure_in sources file) remaining (table_in sources table) read
             (λ bytes rows. BeginsSome bytes rows rule allowance old new) same told some)
       ]);
-      fault = λ of more. known (structure_in sources file) remaining (table_in sources table) read
-          (λ bytes rows. IsNoPlanOfInput bytes rows rule e) same told (fault of.0 more);
+      fault = λ of more. inr (known (structure_in sources file) remaining (table_in sources table) read
+          (λ bytes rows. IsNoPlanOfInput bytes rows rule e) same told (fault of more));
       threads = threads;
     }

@@ -1,11 +1,12 @@
 -- What a run of the program reads, its exit status and what it writes. This is this project's own.
-use Rattle.std.specs.Prelude.{◌≡◌, ◌≢◌, ◌<◌, ◌⊎◌, ℕ, List, Option, Some, None, Result, Ok, Err, OnOk, IfOk}
+use Rattle.std.specs.Prelude.{◌≡◌, ◌≢◌, ◌<◌, ◌⊎◌, ℕ, List, length, Option, Some, None, Result, Ok, Err, OnOk, IfOk}
 use Rattle.std.specs.Prelude.{IfErr, IfSome, IsSome, bytes_eq, codes, option_copied, option_map, if◌then◌else◌}
 use Rattle.std.specs.Io.KnownBytes.{Keeps}
 use Rattle.cave_model.specs.Rule.{Rule}
 use Rattle.cave_model.specs.RuleOf.{rule_of}
 use Rattle.proof_check.specs.declared.verdict.Verdict.{Verdict}
 use Rattle.cave_runs.specs.CheckRuns.{IsNoVerdict, LeavesLine, WritesVerdict}
+use Rattle.cave_runs.specs.Limits.{table_limit}
 use Rattle.cave_runs.specs.PlanRuns.{BeginsPlan, IsNoPlanOfInput, Plans}
 use Rattle.cave_runs.specs.Runs.{BeginsDark, IsFaultOfInput, IsOfInput, WritesDark}
 use Rattle.cave_runs.specs.declared.fault.Input.TheVariants.{TableInput}
@@ -36,9 +37,14 @@ abbrev pub Known : Sources → List ℕ → Option (List ℕ) → (List ℕ → 
 Known sources file table what =
     IfSome (table_in sources table) (λ rows. IfSome (structure_in sources file) (λ bytes. what bytes rows))
 
--- the fault lies in the structure or what it names, and not in the length of the table
-abbrev pub IsOfStructure : RunFault → Type 0
-IsOfStructure fault = IsOfInput fault × (fault ≢ faults.TooLong TableInput)
+-- a table is named, and as far as its bytes are known they are too many
+abbrev pub IsLong : Sources → Option (List ℕ) → Type 0
+IsLong sources None = ⊥
+IsLong sources (Some path) = IfSome (sources.files path) (λ rows. table_limit < length rows)
+
+-- the fault is that of such a table
+abbrev pub IsOfTable : Sources → Option (List ℕ) → RunFault → Type 0
+IsOfTable sources table fault = (fault ≡ faults.TooLong TableInput) × IsLong sources table
 
 -- a fault but of writing leaves the output as it was
 abbrev pub LeavesOutput : {X : Type 0} → Result X RunFault → Option (List ℕ) → Option (List ℕ) → Type 0
@@ -51,15 +57,15 @@ abbrev pub dark_status : Result (Unit {0}) RunFault → ℕ
 dark_status (Ok done) = 0
 dark_status (Err fault) = status fault
 
--- the dark cells were written, or the fault is the structure's
+-- the dark cells were written, or the fault is that of a long table or the structure's
 pub record AnswersDark (sources : Sources) (file : List ℕ) (table : Option (List ℕ)) (rule : Rule)
     (old new : Option (List ℕ)) (result : Result (Unit {0}) RunFault) : Type 0 where
   pub done : OnOk result (Known sources file table (λ bytes rows. WritesDark bytes rows rule old new))
   pub left : LeavesOutput result old new
   pub begun : IfErr result (λ fault. fault ≡ faults.WriteFailed → Known sources file table (λ bytes rows.
       BeginsDark bytes rows rule old new))
-  pub fault : IfErr result (λ fault. IsOfStructure fault → Known sources file table (λ bytes rows.
-      IsFaultOfInput bytes rows fault))
+  pub fault : IfErr result (λ fault. IsOfInput fault → IsOfTable sources table fault
+      ⊎ Known sources file table (λ bytes rows. IsFaultOfInput bytes rows fault))
 
 -- ---- plans
 
@@ -84,7 +90,7 @@ pub record BeginsSome (bytes : List ℕ) (table : Option (List ℕ)) (rule : Rul
   pub after : Option (List ℕ)
   pub begins : BeginsPlan bytes table rule allowance old new before after
 
--- the plan was written, and its proof to some file or to none, or the fault is the structure's
+-- the plan was written, and its proof to some file or to none, or the fault is that of a long table or the structure's
 pub record AnswersPlan (sources : Sources) (file : List ℕ) (table : Option (List ℕ)) (rule : Rule)
     (allowance : Allowance) (old new : Option (List ℕ)) (result : Result Outcome RunFault) : Type 0 where
   pub done : IfOk result (λ outcome. Known sources file table (λ bytes rows.
@@ -92,8 +98,8 @@ pub record AnswersPlan (sources : Sources) (file : List ℕ) (table : Option (Li
   pub left : LeavesOutput result old new
   pub begun : IfErr result (λ fault. fault ≡ faults.WriteFailed → Keeps old new ⊎ Known sources file table
       (λ bytes rows. BeginsSome bytes rows rule allowance old new))
-  pub fault : IfErr result (λ fault. IsOfStructure fault → fault ≢ faults.NoThread
-      → Known sources file table (λ bytes rows. IsNoPlanOfInput bytes rows rule fault))
+  pub fault : IfErr result (λ fault. IsOfInput fault → fault ≢ faults.NoThread → IsOfTable sources table fault
+      ⊎ Known sources file table (λ bytes rows. IsNoPlanOfInput bytes rows rule fault))
   pub threads : IfErr result (λ fault. fault ≡ faults.NoThread → 1 < allowance.workers)
 
 -- ---- verdicts
@@ -103,7 +109,7 @@ abbrev pub check_status : Result Verdict RunFault → ℕ
 check_status (Ok verdict) = judged verdict
 check_status (Err fault) = status fault
 
--- the verdict was written, or the fault is that of the structure or of the certificate's length
+-- the verdict was written, or the fault is that of a long table, of the structure or of the certificate's length
 pub record AnswersCheck (sources : Sources) (file proof : List ℕ) (table : Option (List ℕ)) (rule : Rule)
     (old new : Option (List ℕ)) (result : Result Verdict RunFault) : Type 0 where
   pub done : IfOk result (λ verdict. IfSome (table_in sources table) (λ rows.
@@ -111,7 +117,8 @@ pub record AnswersCheck (sources : Sources) (file proof : List ℕ) (table : Opt
   pub left : LeavesOutput result old new
   pub begun : IfErr result (λ fault. fault ≡ faults.WriteFailed → IfSome (table_in sources table) (λ rows.
       LeavesLine fault (structure_in sources file) rows rule (sources.files proof) old new))
-  pub fault : IfErr result (λ fault. IsOfStructure fault → IfSome (table_in sources table) (λ rows.
+  pub fault : IfErr result (λ fault. IsOfInput fault → IsOfTable sources table fault
+      ⊎ IfSome (table_in sources table) (λ rows.
       IsNoVerdict (structure_in sources file) rows (sources.files proof) fault))
 
 -- ---- requests

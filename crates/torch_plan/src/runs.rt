@@ -7,7 +7,7 @@ ghost use Rattle.cave_runs.specs.Runs.{IsOfInput};
 ghost use Rattle.cave_runs.specs.declared.fault.Input.TheVariants.{TableInput};
 ghost use Rattle.cave_runs.specs.declared.fault.RunFault.{RunFault};
 ghost use Rattle.torch_plan.specs.Answers.{AnswersCheck, AnswersDark, AnswersPlan, BeginsSome, LeavesOutput, PlansSome};
-ghost use Rattle.torch_plan.specs.Answers.{table_in};
+ghost use Rattle.torch_plan.specs.Answers.{IsOfTable, table_in};
 ghost use Rattle.torch_plan.specs.Given.{given};
 
 use crate::planner::run_plan;
@@ -30,6 +30,8 @@ fn table_of<S: System>(
         (λ rows. option_map (λ v. v.items) read ≡ rows)) }
     ensures fault { IfErr result (λ e. (e ≡ RunFault.ReadFailed) ⊎ (e ≡ RunFault.TooLong TableInput)
         ⊎ (e ≡ RunFault.OutOfMemory)) }
+    ensures long { IfErr result (λ e. IsOfInput e
+        → IsOfTable (S.sources system.now) (option_copied table.entry) e) }
 {
     let Some(path) = table else {
         return Ok(None);
