@@ -2,7 +2,7 @@
 use Rattle.std.proofs.Common.{ℕ, ◌<◌, List, [], ◌∷◌, ◌++◌, length, Contains, get_or, inl, inr, subst, arith}
 use Rattle.std.proofs.lemmas.List.Elements.{Contains-append_cases}
 use Rattle.cave_model.specs.Coverage.{Coverage, Agrees}
-use Rattle.proof_rules.specs.Tree.{Tree, Forest, leaf, weighted, branch, bar, omit, none, more}
+use Rattle.proof_rules.specs.Tree.{Tree, Forest, leaf, weighted, branch, bar, omit, pick, none, more}
 use Rattle.proof_rules.specs.Omitted.{left_without}
 use Rattle.proof_rules.specs.declared.groups.Share.{Share}
 use Rattle.proof_rules.specs.declared.groups.Group.{Group}
@@ -130,6 +130,12 @@ mutual
   )
   carries a b cells same chosen barred floor (omit these kid) of g =
       (g.0, carries a b (left_without these cells) (agrees_less a b cells these same) chosen barred floor kid of g.1)
+  carries a b cells same chosen barred floor (pick place with without) of g = (
+    record { legal = same.wider place g.0.legal; unchosen = g.0.unchosen; free = g.0.free },
+    carries a b cells same (chosen ++ place ∷ []) barred floor with
+        (with_one a b cells same chosen place of g.0.legal) g.1,
+    carries a b cells same chosen (barred ++ place ∷ []) floor without of g.2,
+  )
 
   -- and so are good kids
   pub all_carry : (a b : Coverage) (cells : List ℕ) → Agrees a b cells → (chosen barred : List ℕ) (floor : ℕ)

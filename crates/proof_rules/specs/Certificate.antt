@@ -5,7 +5,7 @@ use Rattle.cave_base.specs.Box.{Point, cell_count, is_small}
 use Rattle.cave_model.specs.Regions.{all_cells}
 use Rattle.proof_rules.specs.declared.groups.Group.{Group}
 use Rattle.proof_rules.specs.Groups.{all_cells_of, AreGroups}
-use Rattle.proof_rules.specs.Tree.{Tree, Forest, leaf, weighted, branch, bar, omit, none, more, tree_count}
+use Rattle.proof_rules.specs.Tree.{Tree, Forest, leaf, weighted, branch, bar, omit, pick, none, more, tree_count}
 
 -- a region, its torches, and a tree that proves them the fewest
 pub record Section : Type 0 where
@@ -14,23 +14,26 @@ pub record Section : Type 0 where
   pub tree : Tree
 
 -- which version of the text it has: the first speaks of no need and no place left out, the second of no weights and no
--- cells left out
+-- cells left out, the third of no pick
 pub data Version : Type 0 where
   first : Version
   second : ℕ → Version
   third : ℕ → Version
+  fourth : ℕ → Version
 
 -- its number
 abbrev pub rank_of : Version → ℕ
 rank_of first = 1
 rank_of (second need) = 2
 rank_of (third need) = 3
+rank_of (fourth need) = 4
 
 -- the level that is needed
 abbrev pub need_of : Version → ℕ
 need_of first = 1
 need_of (second need) = need
 need_of (third need) = need
+need_of (fourth need) = need
 
 -- the version of its text, the box and headroom of its cave, and a section for each region
 pub record Certificate : Type 0 where
@@ -72,6 +75,7 @@ abbrev mutual
   IsTreeIn count (branch cell kids) = (cell < count) × (tree_count kids ≤ count) × AreTreesIn count kids
   IsTreeIn count (bar place by kid) = (place < count) × (by < count) × IsTreeIn count kid
   IsTreeIn count (omit cells kid) = AreListed count cells × (0 < length cells) × IsTreeIn count kid
+  IsTreeIn count (pick place with without) = (place < count) × IsTreeIn count with × IsTreeIn count without
 
   -- each of the trees is such
   pub AreTreesIn : ℕ → Forest → Type 0
@@ -80,13 +84,14 @@ abbrev mutual
 
 abbrev mutual
   -- the version with this number knows each node of the tree: bars from the second on, weighted leaves and omissions
-  -- from the third on
+  -- from the third on, picks from the fourth on
   pub IsKnownTo : ℕ → Tree → Type 0
   IsKnownTo rank (leaf cells) = Unit {0}
   IsKnownTo rank (weighted groups) = 3 ≤ rank
   IsKnownTo rank (branch cell kids) = AreKnownTo rank kids
   IsKnownTo rank (bar place by kid) = (2 ≤ rank) × IsKnownTo rank kid
   IsKnownTo rank (omit cells kid) = (3 ≤ rank) × IsKnownTo rank kid
+  IsKnownTo rank (pick place with without) = (4 ≤ rank) × IsKnownTo rank with × IsKnownTo rank without
 
   -- it knows those of each of the trees
   pub AreKnownTo : ℕ → Forest → Type 0

@@ -2,8 +2,8 @@
 use Rattle.std.specs.Prelude.{◌≡◌, ℕ, ◌+◌, List, [], ◌∷◌, ◌++◌, length, codes, decimal, map}
 use Rattle.std.specs.Prelude.{flat_map}
 use Rattle.proof_rules.specs.declared.groups.Group.{Group}
-use Rattle.proof_rules.specs.Tree.{Tree, Forest, leaf, weighted, branch, bar, omit, none, more, tree_count}
-use Rattle.proof_rules.specs.Certificate.{Section, Version, first, second, third, Certificate, IsInRange}
+use Rattle.proof_rules.specs.Tree.{Tree, Forest, leaf, weighted, branch, bar, omit, pick, none, more, tree_count}
+use Rattle.proof_rules.specs.Certificate.{Section, Version, first, second, third, fourth, Certificate, IsInRange}
 
 -- a word, and numbers, each after a space
 abbrev pub line : List ℕ → List ℕ → List ℕ
@@ -16,13 +16,14 @@ group_line group = line (codes "G")
 
 abbrev mutual
   -- a line for each node, a node before its kids, and the kids in order; after that of a weighted leaf one for each of
-  -- its groups
+  -- its groups; after that of a pick the tree with its place chosen, then that with it barred
   pub tree_lines : Tree → List (List ℕ)
   tree_lines (leaf cells) = line (codes "L") (length cells ∷ cells) ∷ []
   tree_lines (weighted groups) = line (codes "W") (length groups ∷ []) ∷ map group_line groups
   tree_lines (branch cell kids) = line (codes "B") (cell ∷ tree_count kids ∷ []) ∷ forest_lines kids
   tree_lines (bar place by kid) = line (codes "E") (place ∷ by ∷ []) ∷ tree_lines kid
   tree_lines (omit cells kid) = line (codes "D") (length cells ∷ cells) ∷ tree_lines kid
+  tree_lines (pick place with without) = line (codes "P") (place ∷ []) ∷ (tree_lines with ++ tree_lines without)
 
   -- the lines of the trees, one tree after another
   pub forest_lines : Forest → List (List ℕ)
@@ -41,6 +42,7 @@ abbrev pub head_lines : Version → List ℕ → List ℕ → List (List ℕ)
 head_lines first box headroom = codes "torchproof 1" ∷ box ∷ headroom ∷ []
 head_lines (second need) box headroom = codes "torchproof 2" ∷ box ∷ headroom ∷ line (codes "need") (need ∷ []) ∷ []
 head_lines (third need) box headroom = codes "torchproof 3" ∷ box ∷ headroom ∷ line (codes "need") (need ∷ []) ∷ []
+head_lines (fourth need) box headroom = codes "torchproof 4" ∷ box ∷ headroom ∷ line (codes "need") (need ∷ []) ∷ []
 
 -- all lines of a certificate: the first ones, how many regions there are, those of each region, and `end`
 abbrev pub lines_of : Certificate → List (List ℕ)
