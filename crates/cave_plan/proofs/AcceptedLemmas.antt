@@ -34,7 +34,7 @@ use Rattle.proof_rules.proofs.OmitLemmas.{bool_cases}
 use Rattle.proof_rules.proofs.CarryLemmas.{carries}
 use Rattle.proof_rules.proofs.BoundLemmas.{bounds, piece_serves}
 use Rattle.proof_tree.specs.Order.{in_order, ordered_tree, ordered_trees}
-use Rattle.certificate_text.specs.Planned.{Plan, rank_for, ranks_for, plans_rank, need_rank, rank_needed}
+use Rattle.certificate_text.specs.Planned.{Plan, version_for, versions_for, plans_version, need_version, version_needed}
 use Rattle.certificate_text.specs.Planned.{version_of, section_of, certificate_of}
 use Rattle.certificate_text.specs.Planned.{certificate_text, IsBestOf, AreBestOf}
 use Rattle.proof_tree.proofs.OrderLemmas.{has_ordered, ordered_has, length_ordered}
@@ -107,42 +107,42 @@ best_are_bounded cave plans best = record {
 
 mutual
   -- no version has a greater number than 3
-  rank_most : (tree : Tree) → rank_for tree ≤ 3
-  rank_most (leaf cells) = omega arith
-  rank_most (weighted groups) = omega arith
-  rank_most (branch cell kids) = ranks_most kids
-  rank_most (bar place by kid) = (let below = rank_most kid in omega (arith, below))
-  rank_most (omit cells kid) = omega arith
+  version_most : (tree : Tree) → version_for tree ≤ 3
+  version_most (leaf cells) = omega arith
+  version_most (weighted groups) = omega arith
+  version_most (branch cell kids) = versions_most kids
+  version_most (bar place by kid) = (let below = version_most kid in omega (arith, below))
+  version_most (omit cells kid) = omega arith
 
-  ranks_most : (trees : Forest) → ranks_for trees ≤ 3
-  ranks_most none = omega arith
-  ranks_most (more t ts) = (let first = rank_most t in let rest = ranks_most ts in omega (arith, first, rest))
+  versions_most : (trees : Forest) → versions_for trees ≤ 3
+  versions_most none = omega arith
+  versions_most (more t ts) = (let first = version_most t in let rest = versions_most ts in omega (arith, first, rest))
 
 -- nor has one that plans ask for
-plans_most : (plans : List Plan) → plans_rank plans ≤ 3
+plans_most : (plans : List Plan) → plans_version plans ≤ 3
 plans_most [] = omega arith
-plans_most (p ∷ ps) = (let first = rank_most p.tree in let rest = plans_most ps in omega (arith, first, rest))
+plans_most (p ∷ ps) = (let first = version_most p.tree in let rest = plans_most ps in omega (arith, first, rest))
 
 mutual
   -- a version with the number of a tree or a greater one knows the tree
-  known_tree : (rank : ℕ) (tree : Tree) → rank_for tree ≤ rank → IsKnownTo rank (ordered_tree tree)
-  known_tree rank (leaf cells) le = tt
-  known_tree rank (weighted groups) le = le
-  known_tree rank (branch cell kids) le = known_trees rank kids le
-  known_tree rank (bar place by kid) le = (omega (arith, le), known_tree rank kid (omega (arith, le)))
-  known_tree rank (omit cells kid) le =
-      (le, known_tree rank kid (let most = rank_most kid in omega (arith, le, most)))
+  known_tree : (version : ℕ) (tree : Tree) → version_for tree ≤ version → IsKnownTo version (ordered_tree tree)
+  known_tree version (leaf cells) le = tt
+  known_tree version (weighted groups) le = le
+  known_tree version (branch cell kids) le = known_trees version kids le
+  known_tree version (bar place by kid) le = (omega (arith, le), known_tree version kid (omega (arith, le)))
+  known_tree version (omit cells kid) le =
+      (le, known_tree version kid (let most = version_most kid in omega (arith, le, most)))
 
-  known_trees : (rank : ℕ) (trees : Forest) → ranks_for trees ≤ rank → AreKnownTo rank (ordered_trees trees)
-  known_trees rank none le = tt
-  known_trees rank (more t ts) le = (known_tree rank t (omega (arith, le)), known_trees rank ts (omega (arith, le)))
+  known_trees : (version : ℕ) (trees : Forest) → versions_for trees ≤ version → AreKnownTo version (ordered_trees trees)
+  known_trees version none le = tt
+  known_trees version (more t ts) le = (known_tree version t (omega (arith, le)), known_trees version ts (omega (arith, le)))
 
 -- and those of plans where it has theirs
-known_sections : (rank : ℕ) (plans : List Plan) → plans_rank plans ≤ rank
-    → All (λ (section : Section). IsKnownTo rank section.tree) (map section_of plans)
-known_sections rank [] le = All-nil (λ (section : Section). IsKnownTo rank section.tree)
-known_sections rank (p ∷ ps) le = All-cons (λ (section : Section). IsKnownTo rank section.tree) (section_of p)
-    (map section_of ps) (known_tree rank p.tree (omega (arith, le))) (known_sections rank ps (omega (arith, le)))
+known_sections : (version : ℕ) (plans : List Plan) → plans_version plans ≤ version
+    → All (λ (section : Section). IsKnownTo version section.tree) (map section_of plans)
+known_sections version [] le = All-nil (λ (section : Section). IsKnownTo version section.tree)
+known_sections version (p ∷ ps) le = All-cons (λ (section : Section). IsKnownTo version section.tree) (section_of p)
+    (map section_of ps) (known_tree version p.tree (omega (arith, le))) (known_sections version ps (omega (arith, le)))
 
 -- a number that is one of two is the first or the second
 eq_cases : (a b c : ℕ) → IsTrue (nat_eq a b || nat_eq a c) → (a ≡ b) ⊎ (a ≡ c)
@@ -153,10 +153,10 @@ eq_cases a b c is = elim (bool_cases (nat_eq a b)) [
 ]
 
 -- a need for which the first version would do is one
-need_is_one : (need : ℕ) → need_rank need < 2 → need ≡ 1
+need_is_one : (need : ℕ) → need_version need < 2 → need ≡ 1
 need_is_one need lt = elim (bool_cases (nat_eq need 1)) [
   | inl t ↦ grind (arith, nat_tests, t)
-  | inr f ↦ absurd (let two : need_rank need ≡ 2 = ap (λ (b : Bool). if b then 1 else 2) f in omega (arith, lt, two))
+  | inr f ↦ absurd (let two : need_version need ≡ 2 = ap (λ (b : Bool). if b then 1 else 2) f in omega (arith, lt, two))
 ]
 
 -- a version that fits sections and a need, and says the need
@@ -165,20 +165,20 @@ pub record Fits (sections : List Section) (need : ℕ) (version : Version) : Typ
   pub says : need_of version ≡ need
 
 -- the version of a number fits what has that number
-version_fits : (need : ℕ) (plans : List Plan) (t u : Bool) → nat_le 3 (rank_needed need plans) ≡ t
-    → nat_le 2 (rank_needed need plans) ≡ u → IsTrue (is_need need)
+version_fits : (need : ℕ) (plans : List Plan) (t u : Bool) → nat_le 3 (version_needed need plans) ≡ t
+    → nat_le 2 (version_needed need plans) ≡ u → IsTrue (is_need need)
     → Fits (map section_of plans) need (if t then third need else (if u then second need else first))
 version_fits need plans true u e f is = record {
   fits = record { known = known_sections 3 plans (plans_most plans); needed = eq_cases need 1 8 is };
   says = refl;
 }
 version_fits need plans false true e f is =
-    let below : rank_needed need plans < 3 = grind (arith, nat_tests, e) in record {
+    let below : version_needed need plans < 3 = grind (arith, nat_tests, e) in record {
       fits = record { known = known_sections 2 plans (omega (arith, below)); needed = eq_cases need 1 8 is };
       says = refl;
     }
 version_fits need plans false false e f is =
-    let below : rank_needed need plans < 2 = grind (arith, nat_tests, f) in record {
+    let below : version_needed need plans < 2 = grind (arith, nat_tests, f) in record {
       fits = record { known = known_sections 1 plans (omega (arith, below)); needed = inl refl };
       says = sym (need_is_one need (omega (arith, below)));
     }
@@ -285,8 +285,8 @@ module _ (cave : Cave) (plans : List Plan) (world : IsWorld cave) (best : AreBes
           omega (arith, rest, one, length-append l (all_cells ls))
 
   version : Fits (map section_of plans) cave.rule.need (version_of cave.rule.need plans)
-  version = version_fits cave.rule.need plans (nat_le 3 (rank_needed cave.rule.need plans))
-      (nat_le 2 (rank_needed cave.rule.need plans)) refl refl world.ruled.needed
+  version = version_fits cave.rule.need plans (nat_le 3 (version_needed cave.rule.need plans))
+      (nat_le 2 (version_needed cave.rule.need plans)) refl refl world.ruled.needed
 
   in_range : IsInRange (certificate_of cave plans)
   in_range = record {

@@ -2,7 +2,7 @@
 use Rattle.std.specs.Prelude.{◌≡◌, ℕ, ◌≤◌, List, map, Contains, slice_index}
 use Rattle.std.specs.List.Sorted.{IsStrictlyIncreasing}
 use Rattle.cave_model.specs.Listing.{ListsAll}
-use Rattle.proof_rules.specs.Certificate.{Section, Version, Certificate, rank_of, need_of, IsVersionOf, torches_of}
+use Rattle.proof_rules.specs.Certificate.{Section, Version, Certificate, version_number, need_of, IsVersionOf, torches_of}
 use Rattle.certificate_text.specs.Planned.{Plan, section_of}
 
 -- just the torches of the certificate, in the order of their cells
@@ -16,4 +16,4 @@ AreByLeastCell sections = IsStrictlyIncreasing (map (λ section. slice_index sec
 -- each version that can speak of the certificate's sections, under its need, has at least the number of its own
 pub record IsInLeastVersion (certificate : Certificate) : Type 0 where
   pub least : (version : Version) → IsVersionOf certificate.sections version
-      → need_of version ≡ need_of certificate.version → rank_of certificate.version ≤ rank_of version
+      → need_of version ≡ need_of certificate.version → version_number certificate.version ≤ version_number version

@@ -63,15 +63,15 @@ groups_few count gs i =
     let m : length (first_cells gs) ≡ length gs = length-map gs (λ (o : Group). first_cell o) in
     omega (arith, ascend_few count (first_cells gs) 0 a firsts (omega (arith, f.filled)))
 
-module _ (rank count to_come : ℕ) where
+module _ (version count to_come : ℕ) where
   -- the lines of groups
   pub leads_groups : (gs : List Group) → All IsGroup gs → All (λ cell. cell < count) (all_cells_of gs)
       → (p from : ℕ) → AscendFrom from (first_cells gs)
-      → (after : List (List ℕ)) → Leads after (after_node rank count to_come p) stage.Done
-      → Leads (map group_line gs ++ after) (after_group rank count to_come p (length gs) from) stage.Done
+      → (after : List (List ℕ)) → Leads after (after_node version count to_come p) stage.Done
+      → Leads (map group_line gs ++ after) (after_group version count to_come p (length gs) from) stage.Done
   leads_groups [] f b p from a after h = h
   leads_groups (g ∷ gs) f b p from a after h = (
-    after_group rank count to_come p (length gs) (first_cell g + 1),
+    after_group version count to_come p (length gs) (first_cell g + 1),
     (
       group_numbers g,
       refl,
@@ -101,72 +101,72 @@ module _ (rank count to_come : ℕ) where
     )
 
   -- the lines of a weighted leaf
-  leads_weighted : (gs : List Group) → AreGroupsIn count gs → 3 ≤ rank → (p q : ℕ) → q ≡ p + 1
-      → (after : List (List ℕ)) → Leads after (after_node rank count to_come p) stage.Done
-      → Leads (tree_lines (weighted gs) ++ after) (stage.Node rank count to_come q) stage.Done
+  leads_weighted : (gs : List Group) → AreGroupsIn count gs → 3 ≤ version → (p q : ℕ) → q ≡ p + 1
+      → (after : List (List ℕ)) → Leads after (after_node version count to_come p) stage.Done
+      → Leads (tree_lines (weighted gs) ++ after) (stage.Node version count to_come q) stage.Done
   leads_weighted [] i k p q e after h = (let f = i.groups_are in absurd (omega (arith, f.filled)))
   leads_weighted (g ∷ gs) i k p q e after h =
       let f = i.groups_are in
       let a : AscendFrom 0 (first_cells (g ∷ gs)) = ascend_from (first_cells (g ∷ gs)) 0 f.ordered (λ s. omega arith) in
       let few : length (g ∷ gs) ≤ count = groups_few count (g ∷ gs) i in (
-        stage.Group rank count to_come q (length (g ∷ gs)) 0,
+        stage.Group version count to_come q (length (g ∷ gs)) 0,
         inr (inr (inr (inl (length (g ∷ gs) ∷ [], refl, (length (g ∷ gs), k, refl, omega arith, few, refl))))),
         subst (λ (m : ℕ). Leads (map group_line (g ∷ gs) ++ after)
-            (stage.Group rank count to_come m (length (g ∷ gs)) 0) stage.Done) (omega (arith, e))
+            (stage.Group version count to_come m (length (g ∷ gs)) 0) stage.Done) (omega (arith, e))
             (leads_groups (g ∷ gs) f.each i.below p 0 a after h),
       )
 
   mutual
-    pub leads_tree : (t : Tree) → IsTreeIn count t → IsKnownTo rank t → (p q : ℕ) → q ≡ p + 1
-        → (after : List (List ℕ)) → Leads after (after_node rank count to_come p) stage.Done
-        → Leads (tree_lines t ++ after) (stage.Node rank count to_come q) stage.Done
+    pub leads_tree : (t : Tree) → IsTreeIn count t → IsKnownTo version t → (p q : ℕ) → q ≡ p + 1
+        → (after : List (List ℕ)) → Leads after (after_node version count to_come p) stage.Done
+        → Leads (tree_lines t ++ after) (stage.Node version count to_come q) stage.Done
     leads_tree (leaf cells) i b p q e after h =
-        (after_node rank count to_come p, inl (length cells ∷ cells, refl, (p, cells, e, refl, i, refl)), h)
+        (after_node version count to_come p, inl (length cells ∷ cells, refl, (p, cells, e, refl, i, refl)), h)
     leads_tree (weighted groups) i b p q e after h = leads_weighted groups i b p q e after h
     leads_tree (branch cell kids) i b p q e after h = (
-      after_node rank count to_come (tree_count kids + p),
+      after_node version count to_come (tree_count kids + p),
       inr (inl (cell ∷ tree_count kids ∷ [], refl, (p, cell, tree_count kids, e, refl, i.0, i.1, refl))),
       leads_trees kids i.2 b p after h,
     )
     leads_tree (bar place by kid) i b p q e after h = (
-      stage.Node rank count to_come q,
+      stage.Node version count to_come q,
       inr (inr (inl (place ∷ by ∷ [], refl, (p, place, by, b.0, e, refl, i.0, i.1, refl)))),
       leads_tree kid i.2 b.1 p q e after h,
     )
     leads_tree (omit cells kid) i b p q e after h = (
-      stage.Node rank count to_come q,
+      stage.Node version count to_come q,
       inr (inr (inr (inr (length cells ∷ cells, refl, (p, cells, b.0, e, refl, i.1, i.0, refl))))),
       leads_tree kid i.2 b.1 p q e after h,
     )
 
-    pub leads_trees : (ts : Forest) → AreTreesIn count ts → AreKnownTo rank ts
-        → (p : ℕ) (after : List (List ℕ)) → Leads after (after_node rank count to_come p) stage.Done
-        → Leads (forest_lines ts ++ after) (after_node rank count to_come (tree_count ts + p)) stage.Done
+    pub leads_trees : (ts : Forest) → AreTreesIn count ts → AreKnownTo version ts
+        → (p : ℕ) (after : List (List ℕ)) → Leads after (after_node version count to_come p) stage.Done
+        → Leads (forest_lines ts ++ after) (after_node version count to_come (tree_count ts + p)) stage.Done
     leads_trees none i b p after h = let z : 0 + p ≡ p = omega arith in rw z h
     leads_trees (more t ts) i b p after h =
         let q : 1 + tree_count ts + p ≡ suc (tree_count ts + p) = omega arith in
         let first : Leads (tree_lines t ++ (forest_lines ts ++ after))
-        (stage.Node rank count to_come (suc (tree_count ts + p))) stage.Done =
+        (stage.Node version count to_come (suc (tree_count ts + p))) stage.Done =
         leads_tree t i.0 b.0 (tree_count ts + p) (suc (tree_count ts + p)) (omega arith)
         (forest_lines ts ++ after) (leads_trees ts i.1 b.1 p after h) in
         rw (append_assoc, q) first
 
-module _ (rank count : ℕ) where
+module _ (version count : ℕ) where
   pub leads_sections : (sections : List Section) → All (IsSectionIn count) sections
-      → All (λ section. IsKnownTo rank section.tree) sections
+      → All (λ section. IsKnownTo version section.tree) sections
       → Leads (flat_map section_lines sections ++ codes "end" ∷ [])
-      (stage.Region rank count (length sections)) stage.Done
+      (stage.Region version count (length sections)) stage.Done
   leads_sections [] a b = (stage.Done, inl ([], refl, (refl, refl, refl)), refl)
   leads_sections (s ∷ ss) a b =
       let i : IsSectionIn count s = All-head (IsSectionIn count) s ss a in
       let last : List (List ℕ) = flat_map section_lines ss ++ codes "end" ∷ [] in
-      let rest : Leads last (stage.Region rank count (length ss)) stage.Done = leads_sections ss
-      (All-tail (IsSectionIn count) s ss a) (All-tail (λ section. IsKnownTo rank section.tree) s ss b) in
-      let nodes : Leads (tree_lines s.tree ++ last) (stage.Node rank count (length ss) 1) stage.Done =
-      leads_tree rank count (length ss) s.tree i.proof (All-head (λ section. IsKnownTo rank section.tree) s ss b) 0
+      let rest : Leads last (stage.Region version count (length ss)) stage.Done = leads_sections ss
+      (All-tail (IsSectionIn count) s ss a) (All-tail (λ section. IsKnownTo version section.tree) s ss b) in
+      let nodes : Leads (tree_lines s.tree ++ last) (stage.Node version count (length ss) 1) stage.Done =
+      leads_tree version count (length ss) s.tree i.proof (All-head (λ section. IsKnownTo version section.tree) s ss b) 0
       1 refl last rest in
-      let all : Leads (section_lines s ++ last) (stage.Region rank count (suc (length ss))) stage.Done = (
-        stage.Dark rank count (length ss) (length s.cells) (length s.torches),
+      let all : Leads (section_lines s ++ last) (stage.Region version count (suc (length ss))) stage.Done = (
+        stage.Dark version count (length ss) (length s.cells) (length s.torches),
         inr (
           length s.cells ∷ length s.torches ∷ [],
           refl,
@@ -184,10 +184,10 @@ module _ (rank count : ℕ) where
           ),
         ),
         (
-          stage.Torches rank count (length ss) (length s.torches),
+          stage.Torches version count (length ss) (length s.torches),
           (s.cells, refl, (i.dark, refl, refl)),
-          (stage.Node rank count (length ss) 1, (s.torches, refl, (i.lit_by, refl, refl)), nodes),
+          (stage.Node version count (length ss) 1, (s.torches, refl, (i.lit_by, refl, refl)), nodes),
         ),
       ) in
-      subst (λ (ls : List (List ℕ)). Leads ls (stage.Region rank count (suc (length ss))) stage.Done)
+      subst (λ (ls : List (List ℕ)). Leads ls (stage.Region version count (suc (length ss))) stage.Done)
       (sym (append_assoc (section_lines s) (flat_map section_lines ss) (codes "end" ∷ []))) all

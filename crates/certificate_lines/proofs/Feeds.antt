@@ -88,32 +88,32 @@ clean_says word text Means next w small s = subst HasNoFeed (sym s.1)
 
 pub clean_takes : (s next : Stage) (text : List ℕ) → IsSoundStage s → Takes s text next → HasNoFeed text
 clean_takes stage.Start next text h t = clean_says (codes "torchproof") text _ next refl start_small t
-clean_takes (stage.Box rank) next text h t = clean_says (codes "box") text _ next refl (box_small rank) t
-clean_takes (stage.Headroom rank count) next text h t = clean_says (codes "headroom") text _ next refl
-    (headroom_small rank count) t
-clean_takes (stage.Need rank count) next text h t = clean_says (codes "need") text _ next refl (need_small rank count) t
-clean_takes (stage.Regions rank count) next text h t = clean_says (codes "regions") text _ next refl
-    (regions_small rank count h) t
-clean_takes (stage.Region rank count to_come) next text h (inl t) = clean_says (codes "end") text _ next refl
+clean_takes (stage.Box version) next text h t = clean_says (codes "box") text _ next refl (box_small version) t
+clean_takes (stage.Headroom version count) next text h t = clean_says (codes "headroom") text _ next refl
+    (headroom_small version count) t
+clean_takes (stage.Need version count) next text h t = clean_says (codes "need") text _ next refl (need_small version count) t
+clean_takes (stage.Regions version count) next text h t = clean_says (codes "regions") text _ next refl
+    (regions_small version count h) t
+clean_takes (stage.Region version count to_come) next text h (inl t) = clean_says (codes "end") text _ next refl
     (end_small to_come) t
-clean_takes (stage.Region rank count to_come) next text h (inr t) = clean_says (codes "region") text _ next refl
-    (region_small rank count to_come h.0) t
-clean_takes (stage.Dark rank count to_come n m) next text h t = clean_says (codes "D") text _ next refl
-    (dark_small rank count to_come n m h.0) t
-clean_takes (stage.Torches rank count to_come m) next text h t = clean_says (codes "T") text _ next refl
-    (torches_small rank count to_come m h.0) t
-clean_takes (stage.Node rank count to_come pending) next text h (inl t) = clean_says (codes "L") text _ next refl
-    (leaf_small rank count to_come pending h.0) t
-clean_takes (stage.Node rank count to_come pending) next text h (inr (inl t)) =
-    clean_says (codes "B") text _ next refl (branch_small rank count to_come pending h.0) t
-clean_takes (stage.Node rank count to_come pending) next text h (inr (inr (inl t))) =
-    clean_says (codes "E") text _ next refl (bar_small rank count to_come pending h.0) t
-clean_takes (stage.Node rank count to_come pending) next text h (inr (inr (inr (inl t)))) =
-    clean_says (codes "W") text _ next refl (weighted_small rank count to_come pending h.0) t
-clean_takes (stage.Node rank count to_come pending) next text h (inr (inr (inr (inr t)))) =
-    clean_says (codes "D") text _ next refl (omit_small rank count to_come pending h.0) t
-clean_takes (stage.Group rank count to_come pending left from) next text h t =
-    clean_says (codes "G") text _ next refl (group_small rank count to_come pending left from h.0) t
+clean_takes (stage.Region version count to_come) next text h (inr t) = clean_says (codes "region") text _ next refl
+    (region_small version count to_come h.0) t
+clean_takes (stage.Dark version count to_come n m) next text h t = clean_says (codes "D") text _ next refl
+    (dark_small version count to_come n m h.0) t
+clean_takes (stage.Torches version count to_come m) next text h t = clean_says (codes "T") text _ next refl
+    (torches_small version count to_come m h.0) t
+clean_takes (stage.Node version count to_come pending) next text h (inl t) = clean_says (codes "L") text _ next refl
+    (leaf_small version count to_come pending h.0) t
+clean_takes (stage.Node version count to_come pending) next text h (inr (inl t)) =
+    clean_says (codes "B") text _ next refl (branch_small version count to_come pending h.0) t
+clean_takes (stage.Node version count to_come pending) next text h (inr (inr (inl t))) =
+    clean_says (codes "E") text _ next refl (bar_small version count to_come pending h.0) t
+clean_takes (stage.Node version count to_come pending) next text h (inr (inr (inr (inl t)))) =
+    clean_says (codes "W") text _ next refl (weighted_small version count to_come pending h.0) t
+clean_takes (stage.Node version count to_come pending) next text h (inr (inr (inr (inr t)))) =
+    clean_says (codes "D") text _ next refl (omit_small version count to_come pending h.0) t
+clean_takes (stage.Group version count to_come pending left from) next text h t =
+    clean_says (codes "G") text _ next refl (group_small version count to_come pending left from h.0) t
 clean_takes stage.Done next text h t = absurd t
 
 pub clean_leads : (lines : List (List ℕ)) (s u : Stage) → IsSoundStage s → Leads lines s u → AreClean lines

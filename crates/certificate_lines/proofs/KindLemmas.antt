@@ -22,7 +22,7 @@ not_equal : (a b : ℕ) → nat_eq a b ≡ false → a ≢ b
 not_equal a b off e = true≢false (sym (eq-eqb a b e) ∙ off)
 
 -- whatever kind of line it is, it may be one where a tree is to come
-node_decides : (rank count to_come pending : ℕ) (text : List ℕ) (r : Option Stage) (b d w o : Bool)
+node_decides : (version count to_come pending : ℕ) (text : List ℕ) (r : Option Stage) (b d w o : Bool)
     → nat_eq (get_or text 0 0) 66 ≡ b → nat_eq (get_or text 0 0) 69 ≡ d
     → nat_eq (get_or text 0 0) 87 ≡ w → nat_eq (get_or text 0 0) 68 ≡ o
     → (k : LineKind) → k ≡ (if b then kind.Branch else
@@ -30,10 +30,10 @@ node_decides : (rank count to_come pending : ℕ) (text : List ℕ) (r : Option 
     if w then kind.Weighted else
     if o then kind.Omit else
     kind.Leaf)
-    → Decides r (Says (word_of k) (MeansAt (stage.Node rank count to_come pending) k) text)
-    → Decides r (Takes (stage.Node rank count to_come pending) text)
-node_decides rank count to_come pending text r b d w o p q s t k is h = go b d w o p q s t
-    (subst (λ (k : LineKind). Decides r (Says (word_of k) (MeansAt (stage.Node rank count to_come pending) k) text)) is
+    → Decides r (Says (word_of k) (MeansAt (stage.Node version count to_come pending) k) text)
+    → Decides r (Takes (stage.Node version count to_come pending) text)
+node_decides version count to_come pending text r b d w o p q s t k is h = go b d w o p q s t
+    (subst (λ (k : LineKind). Decides r (Says (word_of k) (MeansAt (stage.Node version count to_come pending) k) text)) is
     h)
   where
     go : (b d w o : Bool) → nat_eq (get_or text 0 0) 66 ≡ b → nat_eq (get_or text 0 0) 69 ≡ d
@@ -42,141 +42,141 @@ node_decides rank count to_come pending text r b d w o p q s t k is h = go b d w
         if d then kind.Bar else
         if w then kind.Weighted else
         if o then kind.Omit else
-        kind.Leaf)) (MeansAt (stage.Node rank count to_come pending) (if b then kind.Branch else
+        kind.Leaf)) (MeansAt (stage.Node version count to_come pending) (if b then kind.Branch else
         if d then kind.Bar else
         if w then kind.Weighted else
         if o then kind.Omit else
         kind.Leaf)) text)
-        → Decides r (Takes (stage.Node rank count to_come pending) text)
-    go true d w o p q s t h = at_branch rank count to_come pending text r (eqb-true (get_or text 0 0) 66 p) h
-    go false true w o p q s t h = at_bar rank count to_come pending text r (eqb-true (get_or text 0 0) 69 q) h
-    go false false true o p q s t h = at_weighted rank count to_come pending text r
+        → Decides r (Takes (stage.Node version count to_come pending) text)
+    go true d w o p q s t h = at_branch version count to_come pending text r (eqb-true (get_or text 0 0) 66 p) h
+    go false true w o p q s t h = at_bar version count to_come pending text r (eqb-true (get_or text 0 0) 69 q) h
+    go false false true o p q s t h = at_weighted version count to_come pending text r
         (eqb-true (get_or text 0 0) 87 s) h
-    go false false false true p q s t h = at_omit rank count to_come pending text r (eqb-true (get_or text 0 0) 68 t) h
-    go false false false false p q s t h = at_leaf rank count to_come pending text r
+    go false false false true p q s t h = at_omit version count to_come pending text r (eqb-true (get_or text 0 0) 68 t) h
+    go false false false false p q s t h = at_leaf version count to_come pending text r
         (not_equal (get_or text 0 0) 66 p) (not_equal (get_or text 0 0) 69 q)
         (not_equal (get_or text 0 0) 87 s) (not_equal (get_or text 0 0) 68 t) h
 
 -- where a region or the end is to come, the line of that kind decides
-region_decides : (rank : ℕ) (count to_come : ℕ) (text : List ℕ) (r : Option Stage) (b : Bool)
+region_decides : (version : ℕ) (count to_come : ℕ) (text : List ℕ) (r : Option Stage) (b : Bool)
     → nat_eq to_come 0 ≡ b
     → Decides r (Says (word_of (if b then kind.End else kind.Region))
-    (MeansAt (stage.Region rank count to_come) (if b then kind.End else kind.Region)) text)
-    → Decides r (Takes (stage.Region rank count to_come) text)
-region_decides rank count to_come text r true p h = at_end rank count to_come text r (eqb-true to_come 0 p) h
-region_decides rank count to_come text r false p h = at_region rank count to_come text r (not_equal to_come 0 p) h
+    (MeansAt (stage.Region version count to_come) (if b then kind.End else kind.Region)) text)
+    → Decides r (Takes (stage.Region version count to_come) text)
+region_decides version count to_come text r true p h = at_end version count to_come text r (eqb-true to_come 0 p) h
+region_decides version count to_come text r false p h = at_region version count to_come text r (not_equal to_come 0 p) h
 
 -- what is decided of a line of the kind is decided of the line
 kind_decides : (s : Stage) (text : List ℕ) (r : Option Stage)
     → Decides r (Says (word_of (kind_at s text)) (MeansAt s (kind_at s text)) text) → Decides r (Takes s text)
 kind_decides stage.Start text r h = h
-kind_decides (stage.Box rank) text r h = h
-kind_decides (stage.Headroom rank count) text r h = h
-kind_decides (stage.Need rank count) text r h = h
-kind_decides (stage.Regions rank count) text r h = h
-kind_decides (stage.Region rank count to_come) text r h = region_decides rank count to_come text r
+kind_decides (stage.Box version) text r h = h
+kind_decides (stage.Headroom version count) text r h = h
+kind_decides (stage.Need version count) text r h = h
+kind_decides (stage.Regions version count) text r h = h
+kind_decides (stage.Region version count to_come) text r h = region_decides version count to_come text r
     (nat_eq to_come 0) refl h
-kind_decides (stage.Dark rank count to_come n t) text r h = h
-kind_decides (stage.Torches rank count to_come t) text r h = h
-kind_decides (stage.Node rank count to_come pending) text r h = node_decides rank count to_come pending text r
+kind_decides (stage.Dark version count to_come n t) text r h = h
+kind_decides (stage.Torches version count to_come t) text r h = h
+kind_decides (stage.Node version count to_come pending) text r h = node_decides version count to_come pending text r
     (nat_eq (get_or text 0 0) 66) (nat_eq (get_or text 0 0) 69) (nat_eq (get_or text 0 0) 87)
     (nat_eq (get_or text 0 0) 68) refl refl refl refl (node_kind (get_or text 0 0)) refl h
-kind_decides (stage.Group rank count to_come pending left from) text r h = h
+kind_decides (stage.Group version count to_come pending left from) text r h = h
 kind_decides stage.Done text None h = record { none = λ other t. t }
 kind_decides stage.Done text (Some next) h = absurd h.is.2
 
 -- the numbers of a node that fits are small
-node_small : (rank : ℕ) (count to_come pending : ℕ) (k : LineKind) → count ≤ 262144
-    → AreSmall (MeansAt (stage.Node rank count to_come pending) k)
-node_small rank count to_come pending kind.Branch few = branch_small rank count to_come pending few
-node_small rank count to_come pending kind.Bar few = bar_small rank count to_come pending few
-node_small rank count to_come pending kind.Version few = leaf_small rank count to_come pending few
-node_small rank count to_come pending kind.Size few = leaf_small rank count to_come pending few
-node_small rank count to_come pending kind.Headroom few = leaf_small rank count to_come pending few
-node_small rank count to_come pending kind.Need few = leaf_small rank count to_come pending few
-node_small rank count to_come pending kind.Regions few = leaf_small rank count to_come pending few
-node_small rank count to_come pending kind.Region few = leaf_small rank count to_come pending few
-node_small rank count to_come pending kind.Dark few = leaf_small rank count to_come pending few
-node_small rank count to_come pending kind.Torches few = leaf_small rank count to_come pending few
-node_small rank count to_come pending kind.Leaf few = leaf_small rank count to_come pending few
-node_small rank count to_come pending kind.Weighted few = weighted_small rank count to_come pending few
-node_small rank count to_come pending kind.Group few = leaf_small rank count to_come pending few
-node_small rank count to_come pending kind.Omit few = omit_small rank count to_come pending few
-node_small rank count to_come pending kind.End few = leaf_small rank count to_come pending few
+node_small : (version : ℕ) (count to_come pending : ℕ) (k : LineKind) → count ≤ 262144
+    → AreSmall (MeansAt (stage.Node version count to_come pending) k)
+node_small version count to_come pending kind.Branch few = branch_small version count to_come pending few
+node_small version count to_come pending kind.Bar few = bar_small version count to_come pending few
+node_small version count to_come pending kind.Version few = leaf_small version count to_come pending few
+node_small version count to_come pending kind.Size few = leaf_small version count to_come pending few
+node_small version count to_come pending kind.Headroom few = leaf_small version count to_come pending few
+node_small version count to_come pending kind.Need few = leaf_small version count to_come pending few
+node_small version count to_come pending kind.Regions few = leaf_small version count to_come pending few
+node_small version count to_come pending kind.Region few = leaf_small version count to_come pending few
+node_small version count to_come pending kind.Dark few = leaf_small version count to_come pending few
+node_small version count to_come pending kind.Torches few = leaf_small version count to_come pending few
+node_small version count to_come pending kind.Leaf few = leaf_small version count to_come pending few
+node_small version count to_come pending kind.Weighted few = weighted_small version count to_come pending few
+node_small version count to_come pending kind.Group few = leaf_small version count to_come pending few
+node_small version count to_come pending kind.Omit few = omit_small version count to_come pending few
+node_small version count to_come pending kind.End few = leaf_small version count to_come pending few
 
 -- the number of regions, of a line that fits, is small
-a_region_small : (rank : ℕ) (count to_come : ℕ) (k : LineKind) → count ≤ 262144
-    → AreSmall (MeansAt (stage.Region rank count to_come) k)
-a_region_small rank count to_come kind.Version few = region_small rank count to_come few
-a_region_small rank count to_come kind.Size few = region_small rank count to_come few
-a_region_small rank count to_come kind.Headroom few = region_small rank count to_come few
-a_region_small rank count to_come kind.Need few = region_small rank count to_come few
-a_region_small rank count to_come kind.Regions few = region_small rank count to_come few
-a_region_small rank count to_come kind.Region few = region_small rank count to_come few
-a_region_small rank count to_come kind.Dark few = region_small rank count to_come few
-a_region_small rank count to_come kind.Torches few = region_small rank count to_come few
-a_region_small rank count to_come kind.Leaf few = region_small rank count to_come few
-a_region_small rank count to_come kind.Branch few = region_small rank count to_come few
-a_region_small rank count to_come kind.Bar few = region_small rank count to_come few
-a_region_small rank count to_come kind.Weighted few = region_small rank count to_come few
-a_region_small rank count to_come kind.Group few = region_small rank count to_come few
-a_region_small rank count to_come kind.Omit few = region_small rank count to_come few
-a_region_small rank count to_come kind.End few = end_small to_come
+a_region_small : (version : ℕ) (count to_come : ℕ) (k : LineKind) → count ≤ 262144
+    → AreSmall (MeansAt (stage.Region version count to_come) k)
+a_region_small version count to_come kind.Version few = region_small version count to_come few
+a_region_small version count to_come kind.Size few = region_small version count to_come few
+a_region_small version count to_come kind.Headroom few = region_small version count to_come few
+a_region_small version count to_come kind.Need few = region_small version count to_come few
+a_region_small version count to_come kind.Regions few = region_small version count to_come few
+a_region_small version count to_come kind.Region few = region_small version count to_come few
+a_region_small version count to_come kind.Dark few = region_small version count to_come few
+a_region_small version count to_come kind.Torches few = region_small version count to_come few
+a_region_small version count to_come kind.Leaf few = region_small version count to_come few
+a_region_small version count to_come kind.Branch few = region_small version count to_come few
+a_region_small version count to_come kind.Bar few = region_small version count to_come few
+a_region_small version count to_come kind.Weighted few = region_small version count to_come few
+a_region_small version count to_come kind.Group few = region_small version count to_come few
+a_region_small version count to_come kind.Omit few = region_small version count to_come few
+a_region_small version count to_come kind.End few = end_small to_come
 
 -- what the numbers of a region's line mean, and of a leaf's
-pub region_means : (rank : ℕ) (count to_come : ℕ) (numbers : List ℕ) (r : Option Stage) (k : LineKind) → (k ≢ kind.End)
-    → Decides r (RegionMeans rank count to_come numbers)
-    → Decides r (MeansAt (stage.Region rank count to_come) k numbers)
-region_means rank count to_come numbers r kind.Version other h = h
-region_means rank count to_come numbers r kind.Size other h = h
-region_means rank count to_come numbers r kind.Headroom other h = h
-region_means rank count to_come numbers r kind.Need other h = h
-region_means rank count to_come numbers r kind.Regions other h = h
-region_means rank count to_come numbers r kind.Region other h = h
-region_means rank count to_come numbers r kind.Dark other h = h
-region_means rank count to_come numbers r kind.Torches other h = h
-region_means rank count to_come numbers r kind.Leaf other h = h
-region_means rank count to_come numbers r kind.Branch other h = h
-region_means rank count to_come numbers r kind.Bar other h = h
-region_means rank count to_come numbers r kind.Weighted other h = h
-region_means rank count to_come numbers r kind.Group other h = h
-region_means rank count to_come numbers r kind.Omit other h = h
-region_means rank count to_come numbers r kind.End other h = absurd (other refl)
+pub region_means : (version : ℕ) (count to_come : ℕ) (numbers : List ℕ) (r : Option Stage) (k : LineKind) → (k ≢ kind.End)
+    → Decides r (RegionMeans version count to_come numbers)
+    → Decides r (MeansAt (stage.Region version count to_come) k numbers)
+region_means version count to_come numbers r kind.Version other h = h
+region_means version count to_come numbers r kind.Size other h = h
+region_means version count to_come numbers r kind.Headroom other h = h
+region_means version count to_come numbers r kind.Need other h = h
+region_means version count to_come numbers r kind.Regions other h = h
+region_means version count to_come numbers r kind.Region other h = h
+region_means version count to_come numbers r kind.Dark other h = h
+region_means version count to_come numbers r kind.Torches other h = h
+region_means version count to_come numbers r kind.Leaf other h = h
+region_means version count to_come numbers r kind.Branch other h = h
+region_means version count to_come numbers r kind.Bar other h = h
+region_means version count to_come numbers r kind.Weighted other h = h
+region_means version count to_come numbers r kind.Group other h = h
+region_means version count to_come numbers r kind.Omit other h = h
+region_means version count to_come numbers r kind.End other h = absurd (other refl)
 
 -- among nodes, what is no branch, no bar, no weighted leaf and no omission means a leaf
-pub leaf_means : (rank count to_come pending : ℕ) (numbers : List ℕ) (r : Option Stage) (k : LineKind)
+pub leaf_means : (version count to_come pending : ℕ) (numbers : List ℕ) (r : Option Stage) (k : LineKind)
     → (k ≢ kind.Branch) → (k ≢ kind.Bar) → (k ≢ kind.Weighted) → (k ≢ kind.Omit)
-    → Decides r (LeafMeans rank count to_come pending numbers)
-    → Decides r (MeansAt (stage.Node rank count to_come pending) k numbers)
-leaf_means rank count to_come pending numbers r kind.Version b e w o h = h
-leaf_means rank count to_come pending numbers r kind.Size b e w o h = h
-leaf_means rank count to_come pending numbers r kind.Headroom b e w o h = h
-leaf_means rank count to_come pending numbers r kind.Need b e w o h = h
-leaf_means rank count to_come pending numbers r kind.Regions b e w o h = h
-leaf_means rank count to_come pending numbers r kind.Region b e w o h = h
-leaf_means rank count to_come pending numbers r kind.Dark b e w o h = h
-leaf_means rank count to_come pending numbers r kind.Torches b e w o h = h
-leaf_means rank count to_come pending numbers r kind.Leaf b e w o h = h
-leaf_means rank count to_come pending numbers r kind.Branch b e w o h = absurd (b refl)
-leaf_means rank count to_come pending numbers r kind.Bar b e w o h = absurd (e refl)
-leaf_means rank count to_come pending numbers r kind.Weighted b e w o h = absurd (w refl)
-leaf_means rank count to_come pending numbers r kind.Group b e w o h = h
-leaf_means rank count to_come pending numbers r kind.Omit b e w o h = absurd (o refl)
-leaf_means rank count to_come pending numbers r kind.End b e w o h = h
+    → Decides r (LeafMeans version count to_come pending numbers)
+    → Decides r (MeansAt (stage.Node version count to_come pending) k numbers)
+leaf_means version count to_come pending numbers r kind.Version b e w o h = h
+leaf_means version count to_come pending numbers r kind.Size b e w o h = h
+leaf_means version count to_come pending numbers r kind.Headroom b e w o h = h
+leaf_means version count to_come pending numbers r kind.Need b e w o h = h
+leaf_means version count to_come pending numbers r kind.Regions b e w o h = h
+leaf_means version count to_come pending numbers r kind.Region b e w o h = h
+leaf_means version count to_come pending numbers r kind.Dark b e w o h = h
+leaf_means version count to_come pending numbers r kind.Torches b e w o h = h
+leaf_means version count to_come pending numbers r kind.Leaf b e w o h = h
+leaf_means version count to_come pending numbers r kind.Branch b e w o h = absurd (b refl)
+leaf_means version count to_come pending numbers r kind.Bar b e w o h = absurd (e refl)
+leaf_means version count to_come pending numbers r kind.Weighted b e w o h = absurd (w refl)
+leaf_means version count to_come pending numbers r kind.Group b e w o h = h
+leaf_means version count to_come pending numbers r kind.Omit b e w o h = absurd (o refl)
+leaf_means version count to_come pending numbers r kind.End b e w o h = h
 
 -- the numbers of any line that fits are small
 kind_small : (s : Stage) (text : List ℕ) → IsSoundStage s → AreSmall (MeansAt s (kind_at s text))
 kind_small stage.Start text i = start_small
-kind_small (stage.Box rank) text i = box_small rank
-kind_small (stage.Headroom rank count) text i = headroom_small rank count
-kind_small (stage.Need rank count) text i = need_small rank count
-kind_small (stage.Regions rank count) text i = regions_small rank count i
-kind_small (stage.Region rank count to_come) text i = a_region_small rank count to_come (region_kind to_come) i.0
-kind_small (stage.Dark rank count to_come n t) text i = dark_small rank count to_come n t i.0
-kind_small (stage.Torches rank count to_come t) text i = torches_small rank count to_come t i.0
-kind_small (stage.Node rank count to_come pending) text i = node_small rank count to_come pending
+kind_small (stage.Box version) text i = box_small version
+kind_small (stage.Headroom version count) text i = headroom_small version count
+kind_small (stage.Need version count) text i = need_small version count
+kind_small (stage.Regions version count) text i = regions_small version count i
+kind_small (stage.Region version count to_come) text i = a_region_small version count to_come (region_kind to_come) i.0
+kind_small (stage.Dark version count to_come n t) text i = dark_small version count to_come n t i.0
+kind_small (stage.Torches version count to_come t) text i = torches_small version count to_come t i.0
+kind_small (stage.Node version count to_come pending) text i = node_small version count to_come pending
     (node_kind (get_or text 0 0)) i.0
-kind_small (stage.Group rank count to_come pending left from) text i = group_small rank count to_come pending left from
+kind_small (stage.Group version count to_come pending left from) text i = group_small version count to_come pending left from
     i.0
 kind_small stage.Done text i = record { each = λ ns next m. absurd m; few = λ ns next m. absurd m }
 

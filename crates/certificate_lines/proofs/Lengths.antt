@@ -36,31 +36,31 @@ short_says word text Means next small w s = omega (
 
 pub short_line : (s next : Stage) (text : List ℕ) → IsSoundStage s → Takes s text next → length text ≤ longest_line
 short_line stage.Start next text h t = short_says (codes "torchproof") text _ next start_small (omega arith) t
-short_line (stage.Box rank) next text h t = short_says (codes "box") text _ next (box_small rank) (omega arith) t
-short_line (stage.Headroom rank count) next text h t = short_says (codes "headroom") text _ next
-    (headroom_small rank count) (omega arith) t
-short_line (stage.Need rank count) next text h t = short_says (codes "need") text _ next
-    (need_small rank count) (omega arith) t
-short_line (stage.Regions rank count) next text h t = short_says (codes "regions") text _ next
-    (regions_small rank count h) (omega arith) t
-short_line (stage.Region rank count to_come) next text h (inl t) = short_says (codes "end") text _ next
+short_line (stage.Box version) next text h t = short_says (codes "box") text _ next (box_small version) (omega arith) t
+short_line (stage.Headroom version count) next text h t = short_says (codes "headroom") text _ next
+    (headroom_small version count) (omega arith) t
+short_line (stage.Need version count) next text h t = short_says (codes "need") text _ next
+    (need_small version count) (omega arith) t
+short_line (stage.Regions version count) next text h t = short_says (codes "regions") text _ next
+    (regions_small version count h) (omega arith) t
+short_line (stage.Region version count to_come) next text h (inl t) = short_says (codes "end") text _ next
     (end_small to_come) (omega arith) t
-short_line (stage.Region rank count to_come) next text h (inr t) = short_says (codes "region") text _ next
-    (region_small rank count to_come h.0) (omega arith) t
-short_line (stage.Dark rank count to_come n m) next text h t = short_says (codes "D") text _ next
-    (dark_small rank count to_come n m h.0) (omega arith) t
-short_line (stage.Torches rank count to_come m) next text h t = short_says (codes "T") text _ next
-    (torches_small rank count to_come m h.0) (omega arith) t
-short_line (stage.Node rank count to_come pending) next text h (inl t) = short_says (codes "L") text _ next
-    (leaf_small rank count to_come pending h.0) (omega arith) t
-short_line (stage.Node rank count to_come pending) next text h (inr (inl t)) = short_says (codes "B") text _ next
-    (branch_small rank count to_come pending h.0) (omega arith) t
-short_line (stage.Node rank count to_come pending) next text h (inr (inr (inl t))) = short_says (codes "E") text _ next
-    (bar_small rank count to_come pending h.0) (omega arith) t
-short_line (stage.Node rank count to_come pending) next text h (inr (inr (inr (inl t)))) =
-    short_says (codes "W") text _ next (weighted_small rank count to_come pending h.0) (omega arith) t
-short_line (stage.Node rank count to_come pending) next text h (inr (inr (inr (inr t)))) =
-    short_says (codes "D") text _ next (omit_small rank count to_come pending h.0) (omega arith) t
-short_line (stage.Group rank count to_come pending left from) next text h t = short_says (codes "G") text _ next
-    (group_small rank count to_come pending left from h.0) (omega arith) t
+short_line (stage.Region version count to_come) next text h (inr t) = short_says (codes "region") text _ next
+    (region_small version count to_come h.0) (omega arith) t
+short_line (stage.Dark version count to_come n m) next text h t = short_says (codes "D") text _ next
+    (dark_small version count to_come n m h.0) (omega arith) t
+short_line (stage.Torches version count to_come m) next text h t = short_says (codes "T") text _ next
+    (torches_small version count to_come m h.0) (omega arith) t
+short_line (stage.Node version count to_come pending) next text h (inl t) = short_says (codes "L") text _ next
+    (leaf_small version count to_come pending h.0) (omega arith) t
+short_line (stage.Node version count to_come pending) next text h (inr (inl t)) = short_says (codes "B") text _ next
+    (branch_small version count to_come pending h.0) (omega arith) t
+short_line (stage.Node version count to_come pending) next text h (inr (inr (inl t))) = short_says (codes "E") text _ next
+    (bar_small version count to_come pending h.0) (omega arith) t
+short_line (stage.Node version count to_come pending) next text h (inr (inr (inr (inl t)))) =
+    short_says (codes "W") text _ next (weighted_small version count to_come pending h.0) (omega arith) t
+short_line (stage.Node version count to_come pending) next text h (inr (inr (inr (inr t)))) =
+    short_says (codes "D") text _ next (omit_small version count to_come pending h.0) (omega arith) t
+short_line (stage.Group version count to_come pending left from) next text h t = short_says (codes "G") text _ next
+    (group_small version count to_come pending left from h.0) (omega arith) t
 short_line stage.Done next text h t = absurd t

@@ -113,15 +113,15 @@ sides x y z n h =
     let c = and_both (nat_le x 128) (nat_le y 128) b.0 in
     (leb-true x 128 c.0, leb-true y 128 c.1, leb-true z 128 b.1)
 
-pub box_small : (rank : ℕ) → AreSmall (BoxMeans rank)
-box_small rank = record {
+pub box_small : (version : ℕ) → AreSmall (BoxMeans version)
+box_small version = record {
   each = λ ns s m. let h = sides m.0.x m.0.y m.0.z (cell_count m.0) m.2 in
       three_small m.0.x m.0.y m.0.z ns m.1 (omega (arith, h.0)) (omega (arith, h.1)) (omega (arith, h.2));
   few = λ ns s m. omega (arith, ap length m.1);
 }
 
-pub headroom_small : (rank : ℕ) (count : ℕ) → AreSmall (HeadroomMeans rank count)
-headroom_small rank count = record {
+pub headroom_small : (version : ℕ) (count : ℕ) → AreSmall (HeadroomMeans version count)
+headroom_small version count = record {
   each = λ ns s m. elim (m.0) [
     | inl h ↦ one_small 1 ns h (omega arith)
     | inr h ↦ one_small 2 ns h (omega arith)
@@ -132,8 +132,8 @@ headroom_small rank count = record {
   ];
 }
 
-pub need_small : (rank count : ℕ) → AreSmall (NeedMeans rank count)
-need_small rank count = record {
+pub need_small : (version count : ℕ) → AreSmall (NeedMeans version count)
+need_small version count = record {
   each = λ ns s m. elim (m.0) [
     | inl h ↦ one_small 1 ns h (omega arith)
     | inr h ↦ one_small 8 ns h (omega arith)
@@ -144,8 +144,8 @@ need_small rank count = record {
   ];
 }
 
-pub regions_small : (rank : ℕ) (count : ℕ) → count ≤ 262144 → AreSmall (RegionsMeans rank count)
-regions_small rank count few =
+pub regions_small : (version : ℕ) (count : ℕ) → count ≤ 262144 → AreSmall (RegionsMeans version count)
+regions_small version count few =
     record { each = λ ns s m. one_small m.0 ns m.1 (omega (arith, m.2)); few = λ ns s m. omega (arith, ap length m.1) }
 
 pub end_small : (to_come : ℕ) → AreSmall (EndMeans to_come)
@@ -154,26 +154,26 @@ end_small to_come = record {
   few = λ ns s m. omega (arith, ap length m.1);
 }
 
-pub region_small : (rank : ℕ) (count to_come : ℕ) → count ≤ 262144 → AreSmall (RegionMeans rank count to_come)
-region_small rank count to_come few =
+pub region_small : (version : ℕ) (count to_come : ℕ) → count ≤ 262144 → AreSmall (RegionMeans version count to_come)
+region_small version count to_come few =
     record {
       each = λ ns s m. two_small m.1 m.2 ns m.4 (omega (arith, m.6)) (omega (arith, m.8));
       few = λ ns s m. omega (arith, ap length m.4);
     }
 
-pub dark_small : (rank : ℕ) (count to_come n t : ℕ) → count ≤ 262144
-    → AreSmall (DarkMeans rank count to_come n t)
-dark_small rank count to_come n t few =
+pub dark_small : (version : ℕ) (count to_come n t : ℕ) → count ≤ 262144
+    → AreSmall (DarkMeans version count to_come n t)
+dark_small version count to_come n t few =
     record { each = λ ns s m. listed_small count ns few m.0; few = λ ns s m. omega (arith, listed_few count ns m.0) }
 
-pub torches_small : (rank : ℕ) (count to_come t : ℕ) → count ≤ 262144
-    → AreSmall (TorchesMeans rank count to_come t)
-torches_small rank count to_come t few =
+pub torches_small : (version : ℕ) (count to_come t : ℕ) → count ≤ 262144
+    → AreSmall (TorchesMeans version count to_come t)
+torches_small version count to_come t few =
     record { each = λ ns s m. listed_small count ns few m.0; few = λ ns s m. omega (arith, listed_few count ns m.0) }
 
-pub leaf_small : (rank : ℕ) (count to_come pending : ℕ) → count ≤ 262144
-    → AreSmall (LeafMeans rank count to_come pending)
-leaf_small rank count to_come pending few =
+pub leaf_small : (version : ℕ) (count to_come pending : ℕ) → count ≤ 262144
+    → AreSmall (LeafMeans version count to_come pending)
+leaf_small version count to_come pending few =
     record {
       each = λ ns s m. subst (All IsSmall) (sym m.3)
           (All-cons IsSmall (length m.1) m.1 (omega (arith, listed_few count m.1 m.4))
@@ -181,24 +181,24 @@ leaf_small rank count to_come pending few =
       few = λ ns s m. omega (arith, ap length m.3, listed_few count m.1 m.4);
     }
 
-pub branch_small : (rank : ℕ) (count to_come pending : ℕ) → count ≤ 262144
-    → AreSmall (BranchMeans rank count to_come pending)
-branch_small rank count to_come pending few =
+pub branch_small : (version : ℕ) (count to_come pending : ℕ) → count ≤ 262144
+    → AreSmall (BranchMeans version count to_come pending)
+branch_small version count to_come pending few =
     record {
       each = λ ns s m. two_small m.1 m.2 ns m.4 (omega (arith, m.5)) (omega (arith, m.6));
       few = λ ns s m. omega (arith, ap length m.4);
     }
 
-pub bar_small : (rank : ℕ) (count to_come pending : ℕ) → count ≤ 262144
-    → AreSmall (BarMeans rank count to_come pending)
-bar_small rank count to_come pending few =
+pub bar_small : (version : ℕ) (count to_come pending : ℕ) → count ≤ 262144
+    → AreSmall (BarMeans version count to_come pending)
+bar_small version count to_come pending few =
     record {
       each = λ ns s m. two_small m.1 m.2 ns m.5 (omega (arith, m.6)) (omega (arith, m.7));
       few = λ ns s m. omega (arith, ap length m.5);
     }
 
-pub omit_small : (rank count to_come pending : ℕ) → count ≤ 262144 → AreSmall (OmitMeans rank count to_come pending)
-omit_small rank count to_come pending few =
+pub omit_small : (version count to_come pending : ℕ) → count ≤ 262144 → AreSmall (OmitMeans version count to_come pending)
+omit_small version count to_come pending few =
     record {
       each = λ ns s m. subst (All IsSmall) (sym m.4)
           (All-cons IsSmall (length m.1) m.1 (omega (arith, listed_few count m.1 m.6))
@@ -206,9 +206,9 @@ omit_small rank count to_come pending few =
       few = λ ns s m. omega (arith, ap length m.4, listed_few count m.1 m.6);
     }
 
-pub weighted_small : (rank count to_come pending : ℕ) → count ≤ 262144
-    → AreSmall (WeightedMeans rank count to_come pending)
-weighted_small rank count to_come pending few =
+pub weighted_small : (version count to_come pending : ℕ) → count ≤ 262144
+    → AreSmall (WeightedMeans version count to_come pending)
+weighted_small version count to_come pending few =
     record { each = λ ns s m. one_small m.0 ns m.2 (omega (arith, m.4)); few = λ ns s m. omega (arith, ap length m.2) }
 
 -- the numbers of shares are small
@@ -240,9 +240,9 @@ group_numbers_small count group few form below =
     (omega (arith, group_few count group form below))
     (shares_small count group.shares few below form.few))
 
-pub group_small : (rank count to_come pending left from : ℕ) → count ≤ 262144
-    → AreSmall (GroupMeans rank count to_come pending left from)
-group_small rank count to_come pending left from few =
+pub group_small : (version count to_come pending left from : ℕ) → count ≤ 262144
+    → AreSmall (GroupMeans version count to_come pending left from)
+group_small version count to_come pending left from few =
     record {
       each = λ ns s m. subst (All IsSmall) (sym m.5) (group_numbers_small count m.2 few m.6 m.7);
       few = λ ns s m. omega (arith, ap length m.5, group_few count m.2 m.6 m.7, length-share_numbers m.2.shares);
@@ -250,38 +250,38 @@ group_small rank count to_come pending left from few =
 
 -- ---- the two lines that may come where a region may, and the five where a node does
 
-pub at_end : (rank : ℕ) (count to_come : ℕ) (text : List ℕ) (r : Option Stage) → to_come ≡ 0
+pub at_end : (version : ℕ) (count to_come : ℕ) (text : List ℕ) (r : Option Stage) → to_come ≡ 0
     → Decides r (Says (codes "end") (EndMeans to_come) text)
     → Decides r (λ s. Says (codes "end") (EndMeans to_come) text s ⊎ Says (codes "region")
-    (RegionMeans rank count to_come) text s)
-at_end rank count to_come text r e h = pick_left (Says (codes "end") (EndMeans to_come) text)
-    (Says (codes "region") (RegionMeans rank count to_come) text) r (λ s m. let f = m.2.3 in omega arith) h
+    (RegionMeans version count to_come) text s)
+at_end version count to_come text r e h = pick_left (Says (codes "end") (EndMeans to_come) text)
+    (Says (codes "region") (RegionMeans version count to_come) text) r (λ s m. let f = m.2.3 in omega arith) h
 
-pub at_region : (rank : ℕ) (count to_come : ℕ) (text : List ℕ) (r : Option Stage) → to_come ≢ 0
-    → Decides r (Says (codes "region") (RegionMeans rank count to_come) text)
+pub at_region : (version : ℕ) (count to_come : ℕ) (text : List ℕ) (r : Option Stage) → to_come ≢ 0
+    → Decides r (Says (codes "region") (RegionMeans version count to_come) text)
     → Decides r (λ s. Says (codes "end") (EndMeans to_come) text s ⊎ Says (codes "region")
-    (RegionMeans rank count to_come) text s)
-at_region rank count to_come text r e h = pick_right (Says (codes "end") (EndMeans to_come) text)
-    (Says (codes "region") (RegionMeans rank count to_come) text) r (λ s m. e m.2.0) h
+    (RegionMeans version count to_come) text s)
+at_region version count to_come text r e h = pick_right (Says (codes "end") (EndMeans to_come) text)
+    (Says (codes "region") (RegionMeans version count to_come) text) r (λ s m. e m.2.0) h
 
 head_of : (text other : List ℕ) → text ≡ other → get_or text 0 0 ≡ get_or other 0 0
 head_of text other e = ap (λ (t : List ℕ). get_or t 0 0) e
 
-module _ (rank count to_come pending : ℕ) (text : List ℕ) (r : Option Stage) where
+module _ (version count to_come pending : ℕ) (text : List ℕ) (r : Option Stage) where
   abbrev Leaf : Stage → Type 0
-  Leaf = Says (codes "L") (LeafMeans rank count to_come pending) text
+  Leaf = Says (codes "L") (LeafMeans version count to_come pending) text
 
   abbrev Branch : Stage → Type 0
-  Branch = Says (codes "B") (BranchMeans rank count to_come pending) text
+  Branch = Says (codes "B") (BranchMeans version count to_come pending) text
 
   abbrev Bar : Stage → Type 0
-  Bar = Says (codes "E") (BarMeans rank count to_come pending) text
+  Bar = Says (codes "E") (BarMeans version count to_come pending) text
 
   abbrev Weighted : Stage → Type 0
-  Weighted = Says (codes "W") (WeightedMeans rank count to_come pending) text
+  Weighted = Says (codes "W") (WeightedMeans version count to_come pending) text
 
   abbrev Omit : Stage → Type 0
-  Omit = Says (codes "D") (OmitMeans rank count to_come pending) text
+  Omit = Says (codes "D") (OmitMeans version count to_come pending) text
 
   -- the last two, the last three, and all but a leaf
   abbrev LastTwo : Stage → Type 0
@@ -329,30 +329,30 @@ module _ (rank count to_come pending : ℕ) (text : List ℕ) (r : Option Stage)
   ]
 
   pub at_leaf : get_or text 0 0 ≢ 66 → get_or text 0 0 ≢ 69 → get_or text 0 0 ≢ 87 → get_or text 0 0 ≢ 68
-      → Decides r (Says (codes "L") (LeafMeans rank count to_come pending) text)
-      → Decides r (Takes (stage.Node rank count to_come pending) text)
+      → Decides r (Says (codes "L") (LeafMeans version count to_come pending) text)
+      → Decides r (Takes (stage.Node version count to_come pending) text)
   at_leaf a b c d h = pick_left Leaf LastFour r (not_four a b c d) h
 
-  pub at_branch : get_or text 0 0 ≡ 66 → Decides r (Says (codes "B") (BranchMeans rank count to_come pending) text)
-      → Decides r (Takes (stage.Node rank count to_come pending) text)
+  pub at_branch : get_or text 0 0 ≡ 66 → Decides r (Says (codes "B") (BranchMeans version count to_come pending) text)
+      → Decides r (Takes (stage.Node version count to_come pending) text)
   at_branch is h = pick_right Leaf LastFour r (λ s m. let f = leaf_head s m in omega arith)
       (pick_left Branch LastThree r (not_three (λ e. omega arith) (λ e. omega arith) (λ e. omega arith)) h)
 
-  pub at_bar : get_or text 0 0 ≡ 69 → Decides r (Says (codes "E") (BarMeans rank count to_come pending) text)
-      → Decides r (Takes (stage.Node rank count to_come pending) text)
+  pub at_bar : get_or text 0 0 ≡ 69 → Decides r (Says (codes "E") (BarMeans version count to_come pending) text)
+      → Decides r (Takes (stage.Node version count to_come pending) text)
   at_bar is h = pick_right Leaf LastFour r (λ s m. let f = leaf_head s m in omega arith)
       (pick_right Branch LastThree r (λ s m. let f = branch_head s m in omega arith)
       (pick_left Bar LastTwo r (not_two (λ e. omega arith) (λ e. omega arith)) h))
 
-  pub at_weighted : get_or text 0 0 ≡ 87 → Decides r (Says (codes "W") (WeightedMeans rank count to_come pending) text)
-      → Decides r (Takes (stage.Node rank count to_come pending) text)
+  pub at_weighted : get_or text 0 0 ≡ 87 → Decides r (Says (codes "W") (WeightedMeans version count to_come pending) text)
+      → Decides r (Takes (stage.Node version count to_come pending) text)
   at_weighted is h = pick_right Leaf LastFour r (λ s m. let f = leaf_head s m in omega arith)
       (pick_right Branch LastThree r (λ s m. let f = branch_head s m in omega arith)
       (pick_right Bar LastTwo r (λ s m. let f = bar_head s m in omega arith)
       (pick_left Weighted Omit r (λ s m. let f = omit_head s m in omega arith) h)))
 
-  pub at_omit : get_or text 0 0 ≡ 68 → Decides r (Says (codes "D") (OmitMeans rank count to_come pending) text)
-      → Decides r (Takes (stage.Node rank count to_come pending) text)
+  pub at_omit : get_or text 0 0 ≡ 68 → Decides r (Says (codes "D") (OmitMeans version count to_come pending) text)
+      → Decides r (Takes (stage.Node version count to_come pending) text)
   at_omit is h = pick_right Leaf LastFour r (λ s m. let f = leaf_head s m in omega arith)
       (pick_right Branch LastThree r (λ s m. let f = branch_head s m in omega arith)
       (pick_right Bar LastTwo r (λ s m. let f = bar_head s m in omega arith)

@@ -105,35 +105,35 @@ node_other head = go (nat_eq head 66) (nat_eq head 69) (nat_eq head 87) (nat_eq 
 -- a line is that of dark cells just where such a line is to come
 dark_kind : (s : Stage) (text : List ℕ) → is_dark (kind_at s text) ≡ awaits_dark s
 dark_kind stage.Start text = refl
-dark_kind (stage.Box rank) text = refl
-dark_kind (stage.Headroom rank count) text = refl
-dark_kind (stage.Need rank count) text = refl
-dark_kind (stage.Regions rank count) text = refl
-dark_kind (stage.Region rank count to_come) text = go (nat_eq to_come 0) where
+dark_kind (stage.Box version) text = refl
+dark_kind (stage.Headroom version count) text = refl
+dark_kind (stage.Need version count) text = refl
+dark_kind (stage.Regions version count) text = refl
+dark_kind (stage.Region version count to_come) text = go (nat_eq to_come 0) where
   go : (b : Bool) → is_dark (if b then kind.End else kind.Region) ≡ false
   go true = refl
   go false = refl
-dark_kind (stage.Dark rank count to_come n t) text = refl
-dark_kind (stage.Torches rank count to_come t) text = refl
-dark_kind (stage.Node rank count to_come pending) text = (node_other (get_or text 0 0)).0
-dark_kind (stage.Group rank count to_come pending left from) text = refl
+dark_kind (stage.Dark version count to_come n t) text = refl
+dark_kind (stage.Torches version count to_come t) text = refl
+dark_kind (stage.Node version count to_come pending) text = (node_other (get_or text 0 0)).0
+dark_kind (stage.Group version count to_come pending left from) text = refl
 dark_kind stage.Done text = refl
 
 -- after a headroom, a node and a group no dark cells are to come
-headroom_other : (rank count : ℕ) → awaits_dark (after_headroom rank count) ≡ false
-headroom_other rank count = go (nat_eq rank 1) where
-  go : (b : Bool) → awaits_dark (if b then stage.Regions rank count else stage.Need rank count) ≡ false
+headroom_other : (version count : ℕ) → awaits_dark (after_headroom version count) ≡ false
+headroom_other version count = go (nat_eq version 1) where
+  go : (b : Bool) → awaits_dark (if b then stage.Regions version count else stage.Need version count) ≡ false
   go true = refl
   go false = refl
 
-after_other : (rank count to_come pending : ℕ) → awaits_dark (after_node rank count to_come pending) ≡ false
-after_other rank count to_come zero = refl
-after_other rank count to_come (suc p) = refl
+after_other : (version count to_come pending : ℕ) → awaits_dark (after_node version count to_come pending) ≡ false
+after_other version count to_come zero = refl
+after_other version count to_come (suc p) = refl
 
-group_other : (rank count to_come pending left from : ℕ)
-    → awaits_dark (after_group rank count to_come pending left from) ≡ false
-group_other rank count to_come pending zero from = after_other rank count to_come pending
-group_other rank count to_come pending (suc left) from = refl
+group_other : (version count to_come pending left from : ℕ)
+    → awaits_dark (after_group version count to_come pending left from) ≡ false
+group_other version count to_come pending zero from = after_other version count to_come pending
+group_other version count to_come pending (suc left) from = refl
 
 -- the kind where a region or the end is to come
 region_end : (to_come : ℕ) → to_come ≡ 0 → false ≡ is_region (region_kind to_come)
@@ -149,27 +149,27 @@ region_begins to_come k e = go (nat_eq to_come 0) refl where
 -- dark cells are to come just after a region's first line
 dark_after : (s next : Stage) (text : List ℕ) → Takes s text next → awaits_dark next ≡ is_region (kind_at s text)
 dark_after stage.Start next text (ns, e, m) = ap awaits_dark m.4
-dark_after (stage.Box rank) next text (ns, e, m) = ap awaits_dark m.3
-dark_after (stage.Headroom rank count) next text (ns, e, m) = ap awaits_dark m.1 ∙ headroom_other rank count
-dark_after (stage.Need rank count) next text (ns, e, m) = ap awaits_dark m.1
-dark_after (stage.Regions rank count) next text (ns, e, m) = ap awaits_dark m.3
-dark_after (stage.Region rank count to_come) next text (inl (ns, e, m)) = ap awaits_dark m.2 ∙ region_end to_come m.0
-dark_after (stage.Region rank count to_come) next text (inr (ns, e, m)) = ap awaits_dark m.9
+dark_after (stage.Box version) next text (ns, e, m) = ap awaits_dark m.3
+dark_after (stage.Headroom version count) next text (ns, e, m) = ap awaits_dark m.1 ∙ headroom_other version count
+dark_after (stage.Need version count) next text (ns, e, m) = ap awaits_dark m.1
+dark_after (stage.Regions version count) next text (ns, e, m) = ap awaits_dark m.3
+dark_after (stage.Region version count to_come) next text (inl (ns, e, m)) = ap awaits_dark m.2 ∙ region_end to_come m.0
+dark_after (stage.Region version count to_come) next text (inr (ns, e, m)) = ap awaits_dark m.9
     ∙ region_begins to_come m.0 m.3
-dark_after (stage.Dark rank count to_come n t) next text (ns, e, m) = ap awaits_dark m.2
-dark_after (stage.Torches rank count to_come t) next text (ns, e, m) = ap awaits_dark m.2
-dark_after (stage.Node rank count to_come pending) next text (inl (ns, e, m)) = ap awaits_dark m.5
-    ∙ after_other rank count to_come m.0 ∙ sym (node_other (get_or text 0 0)).1
-dark_after (stage.Node rank count to_come pending) next text (inr (inl (ns, e, m))) = ap awaits_dark m.7
-    ∙ after_other rank count to_come (m.2 + m.0) ∙ sym (node_other (get_or text 0 0)).1
-dark_after (stage.Node rank count to_come pending) next text (inr (inr (inl (ns, e, m)))) = ap awaits_dark m.8
+dark_after (stage.Dark version count to_come n t) next text (ns, e, m) = ap awaits_dark m.2
+dark_after (stage.Torches version count to_come t) next text (ns, e, m) = ap awaits_dark m.2
+dark_after (stage.Node version count to_come pending) next text (inl (ns, e, m)) = ap awaits_dark m.5
+    ∙ after_other version count to_come m.0 ∙ sym (node_other (get_or text 0 0)).1
+dark_after (stage.Node version count to_come pending) next text (inr (inl (ns, e, m))) = ap awaits_dark m.7
+    ∙ after_other version count to_come (m.2 + m.0) ∙ sym (node_other (get_or text 0 0)).1
+dark_after (stage.Node version count to_come pending) next text (inr (inr (inl (ns, e, m)))) = ap awaits_dark m.8
     ∙ sym (node_other (get_or text 0 0)).1
-dark_after (stage.Node rank count to_come pending) next text (inr (inr (inr (inl (ns, e, m))))) = ap awaits_dark m.5
+dark_after (stage.Node version count to_come pending) next text (inr (inr (inr (inl (ns, e, m))))) = ap awaits_dark m.5
     ∙ sym (node_other (get_or text 0 0)).1
-dark_after (stage.Node rank count to_come pending) next text (inr (inr (inr (inr (ns, e, m))))) = ap awaits_dark m.7
+dark_after (stage.Node version count to_come pending) next text (inr (inr (inr (inr (ns, e, m))))) = ap awaits_dark m.7
     ∙ sym (node_other (get_or text 0 0)).1
-dark_after (stage.Group rank count to_come pending left from) next text (ns, e, m) = ap awaits_dark m.10
-    ∙ group_other rank count to_come m.0 m.1 (first_cell m.2 + 1)
+dark_after (stage.Group version count to_come pending left from) next text (ns, e, m) = ap awaits_dark m.10
+    ∙ group_other version count to_come m.0 m.1 (first_cell m.2 + 1)
 dark_after stage.Done next text m = absurd m
 
 -- no line

@@ -22,7 +22,7 @@ forest_append none others = others
 forest_append (more tree trees) others = more tree (forest_append trees others)
 
 -- a front of so many trees, and the others
-pub record Cut (rank count k p : ℕ) (trees : Forest) : Type 0 where
+pub record Cut (version count k p : ℕ) (trees : Forest) : Type 0 where
   pub front : Forest
   pub others : Forest
   pub front_many : tree_count front ≡ k
@@ -30,12 +30,12 @@ pub record Cut (rank count k p : ℕ) (trees : Forest) : Type 0 where
   pub is : forest_lines trees ≡ forest_lines front ++ forest_lines others
   pub front_in : AreTreesIn count front
   pub others_in : AreTreesIn count others
-  pub front_known : AreKnownTo rank trees → AreKnownTo rank front
-  pub others_known : AreKnownTo rank trees → AreKnownTo rank others
+  pub front_known : AreKnownTo version trees → AreKnownTo version front
+  pub others_known : AreKnownTo version trees → AreKnownTo version others
 
-pub cut : (rank count k p : ℕ) (trees : Forest) → tree_count trees ≡ k + p → AreTreesIn count trees
-    → Cut rank count k p trees
-cut rank count zero p trees e i = record {
+pub cut : (version count k p : ℕ) (trees : Forest) → tree_count trees ≡ k + p → AreTreesIn count trees
+    → Cut version count k p trees
+cut version count zero p trees e i = record {
   front = none;
   others = trees;
   front_many = refl;
@@ -46,10 +46,10 @@ cut rank count zero p trees e i = record {
   front_known = λ b. tt;
   others_known = λ b. b;
 }
-cut rank count (suc k) p none e i = absurd (omega arith)
-cut rank count (suc k) p (more t trees) e i =
+cut version count (suc k) p none e i = absurd (omega arith)
+cut version count (suc k) p (more t trees) e i =
     let many : tree_count trees ≡ k + p = omega arith in
-    let r = cut rank count k p trees many i.1 in
+    let r = cut version count k p trees many i.1 in
     record {
       front = more t r.front;
       others = r.others;
@@ -63,21 +63,21 @@ cut rank count (suc k) p (more t trees) e i =
     }
 
 -- ---- no tree is left: the sections follow
-nothing_left : (rank count to_come : ℕ) (lines : List (List ℕ)) → SectionsRest rank count to_come lines
-    → NodesRest rank count to_come 0 lines
-nothing_left rank count to_come lines r =
+nothing_left : (version count to_come : ℕ) (lines : List (List ℕ)) → SectionsRest version count to_come lines
+    → NodesRest version count to_come 0 lines
+nothing_left version count to_come lines r =
     record { trees = none; many = refl; each = tt; known = tt; after = lines; rest = r; is = refl }
 
 -- what is left after a tree, whichever stage that is
-pub nodes_left : (rank count to_come pending : ℕ) (lines : List (List ℕ))
-    → Rest (after_node rank count to_come pending) lines → NodesRest rank count to_come pending lines
-nodes_left rank count to_come zero lines r = nothing_left rank count to_come lines r
-nodes_left rank count to_come (suc p) lines r = r
+pub nodes_left : (version count to_come pending : ℕ) (lines : List (List ℕ))
+    → Rest (after_node version count to_come pending) lines → NodesRest version count to_come pending lines
+nodes_left version count to_come zero lines r = nothing_left version count to_come lines r
+nodes_left version count to_come (suc p) lines r = r
 
 -- what is left after a group, whichever stage that is
-groups_left : (rank count to_come p left from : ℕ) (lines : List (List ℕ))
-    → Rest (after_group rank count to_come p left from) lines → GroupsRest rank count to_come (p + 1) left from lines
-groups_left rank count to_come p zero from lines r = record {
+groups_left : (version count to_come p left from : ℕ) (lines : List (List ℕ))
+    → Rest (after_group version count to_come p left from) lines → GroupsRest version count to_come (p + 1) left from lines
+groups_left version count to_come p zero from lines r = record {
   groups = [];
   many = refl;
   form = All-nil IsGroup;
@@ -86,12 +86,12 @@ groups_left rank count to_come p zero from lines r = record {
   after = lines;
   fewer = p;
   one_less = refl;
-  rest = nodes_left rank count to_come p lines r;
+  rest = nodes_left version count to_come p lines r;
   is = refl;
 }
-groups_left rank count to_come p (suc left) from lines r =
+groups_left version count to_come p (suc left) from lines r =
     let e : suc p ≡ p + 1 = omega arith in
-    subst (λ (q : ℕ). GroupsRest rank count to_come q (suc left) from lines) e r
+    subst (λ (q : ℕ). GroupsRest version count to_come q (suc left) from lines) e r
 
 joined : (text : List ℕ) (lines : List (List ℕ)) (region dark torches : List ℕ)
     (after later last tree sections : List (List ℕ)) (end : List ℕ)
@@ -103,9 +103,9 @@ joined text lines region dark torches after later last tree sections end a b c d
     let g = append-nil tree in
     cc
 
-module _ (rank count to_come : ℕ) (text : List ℕ) (lines : List (List ℕ)) where
+module _ (version count to_come : ℕ) (text : List ℕ) (lines : List (List ℕ)) where
   leaf_first : (p : ℕ) (cells : List ℕ) → text ≡ line (codes "L") (length cells ∷ cells) → AreListed count cells
-      → NodesRest rank count to_come p lines → NodesRest rank count to_come (p + 1) (text ∷ lines)
+      → NodesRest version count to_come p lines → NodesRest version count to_come (p + 1) (text ∷ lines)
   leaf_first p cells e listed r = record {
     trees = more (leaf cells) r.trees;
     many = omega (arith, r.many);
@@ -118,9 +118,9 @@ module _ (rank count to_come : ℕ) (text : List ℕ) (lines : List (List ℕ)) 
   }
 
   branch_first : (p cell kids : ℕ) → text ≡ line (codes "B") (cell ∷ kids ∷ []) → cell < count → kids ≤ count
-      → NodesRest rank count to_come (kids + p) lines → NodesRest rank count to_come (p + 1) (text ∷ lines)
+      → NodesRest version count to_come (kids + p) lines → NodesRest version count to_come (p + 1) (text ∷ lines)
   branch_first p cell kids e below few r =
-      let c = cut rank count kids p r.trees r.many r.each in
+      let c = cut version count kids p r.trees r.many r.each in
       let first : text ≡ line (codes "B") (cell ∷ tree_count c.front ∷ []) = e
       ∙ ap (λ (k : ℕ). line (codes "B") (cell ∷ k ∷ [])) (sym c.front_many) in
       record {
@@ -135,11 +135,11 @@ module _ (rank count to_come : ℕ) (text : List ℕ) (lines : List (List ℕ)) 
             (r.is ∙ ap (λ (ls : List (List ℕ)). ls ++ r.after) c.is);
       }
 
-  bar_first : (p place by : ℕ) → 2 ≤ rank → text ≡ line (codes "E") (place ∷ by ∷ []) → place < count → by < count
-      → NodesRest rank count to_come (p + 1) lines → NodesRest rank count to_come (p + 1) (text ∷ lines)
+  bar_first : (p place by : ℕ) → 2 ≤ version → text ≡ line (codes "E") (place ∷ by ∷ []) → place < count → by < count
+      → NodesRest version count to_come (p + 1) lines → NodesRest version count to_come (p + 1) (text ∷ lines)
   bar_first p place by allowed e below by_below r = onto r.trees r.many r.each r.known r.is where
-    onto : (trees : Forest) → tree_count trees ≡ p + 1 → AreTreesIn count trees → AreKnownTo rank trees
-        → lines ≡ forest_lines trees ++ r.after → NodesRest rank count to_come (p + 1) (text ∷ lines)
+    onto : (trees : Forest) → tree_count trees ≡ p + 1 → AreTreesIn count trees → AreKnownTo version trees
+        → lines ≡ forest_lines trees ++ r.after → NodesRest version count to_come (p + 1) (text ∷ lines)
     onto none many i b is = absurd (omega arith)
     onto (more t ts) many i b is = record {
       trees = more (bar place by t) ts;
@@ -151,12 +151,12 @@ module _ (rank count to_come : ℕ) (text : List ℕ) (lines : List (List ℕ)) 
       is = ap (λ (t : List ℕ). t ∷ lines) e ∙ ap (λ (ls : List (List ℕ)). line (codes "E") (place ∷ by ∷ []) ∷ ls) is;
     }
 
-  omit_first : (p : ℕ) (cells : List ℕ) → 3 ≤ rank → text ≡ line (codes "D") (length cells ∷ cells)
+  omit_first : (p : ℕ) (cells : List ℕ) → 3 ≤ version → text ≡ line (codes "D") (length cells ∷ cells)
       → 0 < length cells → AreListed count cells
-      → NodesRest rank count to_come (p + 1) lines → NodesRest rank count to_come (p + 1) (text ∷ lines)
+      → NodesRest version count to_come (p + 1) lines → NodesRest version count to_come (p + 1) (text ∷ lines)
   omit_first p cells allowed e filled listed r = onto r.trees r.many r.each r.known r.is where
-    onto : (trees : Forest) → tree_count trees ≡ p + 1 → AreTreesIn count trees → AreKnownTo rank trees
-        → lines ≡ forest_lines trees ++ r.after → NodesRest rank count to_come (p + 1) (text ∷ lines)
+    onto : (trees : Forest) → tree_count trees ≡ p + 1 → AreTreesIn count trees → AreKnownTo version trees
+        → lines ≡ forest_lines trees ++ r.after → NodesRest version count to_come (p + 1) (text ∷ lines)
     onto none many i b is = absurd (omega arith)
     onto (more t ts) many i b is = record {
       trees = more (omit cells t) ts;
@@ -169,8 +169,8 @@ module _ (rank count to_come : ℕ) (text : List ℕ) (lines : List (List ℕ)) 
           ∙ ap (λ (ls : List (List ℕ)). line (codes "D") (length cells ∷ cells) ∷ ls) is;
     }
 
-  weighted_first : (pending groups : ℕ) → 3 ≤ rank → text ≡ line (codes "W") (groups ∷ []) → 0 < groups
-      → GroupsRest rank count to_come pending groups 0 lines → NodesRest rank count to_come pending (text ∷ lines)
+  weighted_first : (pending groups : ℕ) → 3 ≤ version → text ≡ line (codes "W") (groups ∷ []) → 0 < groups
+      → GroupsRest version count to_come pending groups 0 lines → NodesRest version count to_come pending (text ∷ lines)
   weighted_first pending groups allowed e filled r =
       let first : text ≡ line (codes "W") (length r.groups ∷ []) = e
       ∙ ap (λ (k : ℕ). line (codes "W") (k ∷ [])) (sym r.many) in
@@ -199,8 +199,8 @@ module _ (rank count to_come : ℕ) (text : List ℕ) (lines : List (List ℕ)) 
 
   group_first : (p l from : ℕ) (group : Group) → text ≡ group_line group → IsGroup group
       → All (λ cell. cell < count) (cells_of group.shares) → from ≤ first_cell group
-      → GroupsRest rank count to_come (p + 1) l (first_cell group + 1) lines
-      → GroupsRest rank count to_come (p + 1) (l + 1) from (text ∷ lines)
+      → GroupsRest version count to_come (p + 1) l (first_cell group + 1) lines
+      → GroupsRest version count to_come (p + 1) (l + 1) from (text ∷ lines)
   group_first p l from group e form below least r = record {
     groups = group ∷ r.groups;
     many = omega (arith, r.many);
@@ -215,21 +215,21 @@ module _ (rank count to_come : ℕ) (text : List ℕ) (lines : List (List ℕ)) 
   }
 
   -- `end`
-  end_first : text ≡ line (codes "end") [] → lines ≡ [] → SectionsRest rank count 0 (text ∷ lines)
+  end_first : text ≡ line (codes "end") [] → lines ≡ [] → SectionsRest version count 0 (text ∷ lines)
   end_first e n = record {
     sections = [];
     many = refl;
     each = All-nil (IsSectionIn count);
-    known = All-nil (λ section. IsKnownTo rank section.tree);
+    known = All-nil (λ section. IsKnownTo version section.tree);
     is = cc;
   }
 
   region_first : (k n t : ℕ) → text ≡ line (codes "region") (n ∷ t ∷ []) → 0 < n → 0 < t
-      → DarkRest rank count k n t lines → SectionsRest rank count (k + 1) (text ∷ lines)
+      → DarkRest version count k n t lines → SectionsRest version count (k + 1) (text ∷ lines)
   region_first k n t e filled some d =
       onto d.rest.rest.trees d.rest.rest.many d.rest.rest.each d.rest.rest.known d.rest.rest.is where
-        onto : (trees : Forest) → tree_count trees ≡ 1 → AreTreesIn count trees → AreKnownTo rank trees
-            → d.rest.after ≡ forest_lines trees ++ d.rest.rest.after → SectionsRest rank count (k + 1) (text ∷ lines)
+        onto : (trees : Forest) → tree_count trees ≡ 1 → AreTreesIn count trees → AreKnownTo version trees
+            → d.rest.after ≡ forest_lines trees ++ d.rest.rest.after → SectionsRest version count (k + 1) (text ∷ lines)
         onto none many i b is = absurd (omega arith)
         onto (more x (more y ys)) many i b is = absurd (omega arith)
         onto (more x none) many i b is =
@@ -247,7 +247,7 @@ module _ (rank count to_come : ℕ) (text : List ℕ) (lines : List (List ℕ)) 
                     some = omega (arith, d.rest.many);
                     proof = i.0;
                   }) r.each;
-              known = All-cons (λ section. IsKnownTo rank section.tree) s r.sections b.0 r.known;
+              known = All-cons (λ section. IsKnownTo version section.tree) s r.sections b.0 r.known;
               is = joined text lines (line (codes "region") (length d.cells ∷ length d.rest.torches ∷ [])) _ _
                   d.after d.rest.after d.rest.rest.after (tree_lines x) (flat_map section_lines r.sections)
                   (codes "end")
@@ -259,31 +259,31 @@ module _ (rank count to_come : ℕ) (text : List ℕ) (lines : List (List ℕ)) 
 -- what is left at each stage
 pub left : (lines : List (List ℕ)) (s : Stage) → Leads lines s stage.Done → Rest s lines
 left [] stage.Start h = tt
-left [] (stage.Box rank) h = tt
-left [] (stage.Headroom rank count) h = tt
-left [] (stage.Need rank count) h = tt
-left [] (stage.Regions rank count) h = tt
-left [] (stage.Region rank count to_come) h = absurd (cc)
-left [] (stage.Dark rank count to_come n t) h = absurd (cc)
-left [] (stage.Torches rank count to_come t) h = absurd (cc)
-left [] (stage.Node rank count to_come pending) h = absurd (cc)
-left [] (stage.Group rank count to_come pending l from) h = absurd (cc)
+left [] (stage.Box version) h = tt
+left [] (stage.Headroom version count) h = tt
+left [] (stage.Need version count) h = tt
+left [] (stage.Regions version count) h = tt
+left [] (stage.Region version count to_come) h = absurd (cc)
+left [] (stage.Dark version count to_come n t) h = absurd (cc)
+left [] (stage.Torches version count to_come t) h = absurd (cc)
+left [] (stage.Node version count to_come pending) h = absurd (cc)
+left [] (stage.Group version count to_come pending l from) h = absurd (cc)
 left [] stage.Done h = refl
 left (text ∷ ls) stage.Start h = tt
-left (text ∷ ls) (stage.Box rank) h = tt
-left (text ∷ ls) (stage.Headroom rank count) h = tt
-left (text ∷ ls) (stage.Need rank count) h = tt
-left (text ∷ ls) (stage.Regions rank count) h = tt
-left (text ∷ ls) (stage.Region rank count to_come) (next, inl (numbers, e, (z, n, nx)), rest) =
-    subst (λ (k : ℕ). SectionsRest rank count k (text ∷ ls)) (sym z)
-    (end_first rank count to_come text ls (e ∙ ap (λ (ns : List ℕ). line (codes "end") ns) n)
+left (text ∷ ls) (stage.Box version) h = tt
+left (text ∷ ls) (stage.Headroom version count) h = tt
+left (text ∷ ls) (stage.Need version count) h = tt
+left (text ∷ ls) (stage.Regions version count) h = tt
+left (text ∷ ls) (stage.Region version count to_come) (next, inl (numbers, e, (z, n, nx)), rest) =
+    subst (λ (k : ℕ). SectionsRest version count k (text ∷ ls)) (sym z)
+    (end_first version count to_come text ls (e ∙ ap (λ (ns : List ℕ). line (codes "end") ns) n)
     (subst (λ (s : Stage). Rest s ls) nx (left ls next rest)))
-left (text ∷ ls) (stage.Region rank count to_come)
+left (text ∷ ls) (stage.Region version count to_come)
     (next, inr (numbers, e, (k, n, t, z, ns, n0, nc, t0, tc, nx)), rest) =
-    subst (λ (k : ℕ). SectionsRest rank count k (text ∷ ls)) (sym z)
-    (region_first rank count to_come text ls k n t (e ∙ ap (λ (ns : List ℕ). line (codes "region") ns) ns) n0 t0
+    subst (λ (k : ℕ). SectionsRest version count k (text ∷ ls)) (sym z)
+    (region_first version count to_come text ls k n t (e ∙ ap (λ (ns : List ℕ). line (codes "region") ns) ns) n0 t0
     (subst (λ (s : Stage). Rest s ls) nx (left ls next rest)))
-left (text ∷ ls) (stage.Dark rank count to_come n t) (next, (numbers, e, (listed, many, nx)), rest) =
+left (text ∷ ls) (stage.Dark version count to_come n t) (next, (numbers, e, (listed, many, nx)), rest) =
     record {
       cells = numbers;
       listed = listed;
@@ -293,7 +293,7 @@ left (text ∷ ls) (stage.Dark rank count to_come n t) (next, (numbers, e, (list
           (left ls next rest);
       is = ap (λ (l : List ℕ). l ∷ ls) e;
     }
-left (text ∷ ls) (stage.Torches rank count to_come t) (next, (numbers, e, (listed, many, nx)), rest) =
+left (text ∷ ls) (stage.Torches version count to_come t) (next, (numbers, e, (listed, many, nx)), rest) =
     record {
       torches = numbers;
       listed = listed;
@@ -303,41 +303,41 @@ left (text ∷ ls) (stage.Torches rank count to_come t) (next, (numbers, e, (lis
           (left ls next rest);
       is = ap (λ (l : List ℕ). l ∷ ls) e;
     }
-left (text ∷ ls) (stage.Node rank count to_come pending)
+left (text ∷ ls) (stage.Node version count to_come pending)
     (next, inl (numbers, e, (p, cells, z, ns, listed, nx)), rest) =
-    subst (λ (k : ℕ). NodesRest rank count to_come k (text ∷ ls)) (sym z)
-    (leaf_first rank count to_come text ls p cells (e ∙ ap (λ (ns : List ℕ). line (codes "L") ns) ns) listed
-    (nodes_left rank count to_come p ls (subst (λ (s : Stage). Rest s ls) nx (left ls next rest))))
-left (text ∷ ls) (stage.Node rank count to_come pending)
+    subst (λ (k : ℕ). NodesRest version count to_come k (text ∷ ls)) (sym z)
+    (leaf_first version count to_come text ls p cells (e ∙ ap (λ (ns : List ℕ). line (codes "L") ns) ns) listed
+    (nodes_left version count to_come p ls (subst (λ (s : Stage). Rest s ls) nx (left ls next rest))))
+left (text ∷ ls) (stage.Node version count to_come pending)
     (next, inr (inl (numbers, e, (p, cell, kids, z, ns, below, few, nx))), rest) =
-    subst (λ (k : ℕ). NodesRest rank count to_come k (text ∷ ls)) (sym z)
-    (branch_first rank count to_come text ls p cell kids (e ∙ ap (λ (ns : List ℕ). line (codes "B") ns) ns) below few
-    (nodes_left rank count to_come (kids + p) ls (subst (λ (s : Stage). Rest s ls) nx (left ls next rest))))
-left (text ∷ ls) (stage.Node rank count to_come pending)
+    subst (λ (k : ℕ). NodesRest version count to_come k (text ∷ ls)) (sym z)
+    (branch_first version count to_come text ls p cell kids (e ∙ ap (λ (ns : List ℕ). line (codes "B") ns) ns) below few
+    (nodes_left version count to_come (kids + p) ls (subst (λ (s : Stage). Rest s ls) nx (left ls next rest))))
+left (text ∷ ls) (stage.Node version count to_come pending)
     (next, inr (inr (inl (numbers, e, (p, place, by, allowed, z, ns, below, by_below, nx)))), rest) =
-    subst (λ (k : ℕ). NodesRest rank count to_come k (text ∷ ls)) (sym z)
-    (bar_first rank count to_come text ls p place by allowed (e ∙ ap (λ (ns : List ℕ). line (codes "E") ns) ns)
+    subst (λ (k : ℕ). NodesRest version count to_come k (text ∷ ls)) (sym z)
+    (bar_first version count to_come text ls p place by allowed (e ∙ ap (λ (ns : List ℕ). line (codes "E") ns) ns)
     below by_below
-    (subst (λ (k : ℕ). NodesRest rank count to_come k ls) z
+    (subst (λ (k : ℕ). NodesRest version count to_come k ls) z
     (subst (λ (s : Stage). Rest s ls) nx (left ls next rest))))
-left (text ∷ ls) (stage.Node rank count to_come pending)
+left (text ∷ ls) (stage.Node version count to_come pending)
     (next, inr (inr (inr (inl (numbers, e, (groups, allowed, ns, filled, few, nx))))), rest) =
-    weighted_first rank count to_come text ls pending groups allowed
+    weighted_first version count to_come text ls pending groups allowed
     (e ∙ ap (λ (ns : List ℕ). line (codes "W") ns) ns) filled
     (subst (λ (s : Stage). Rest s ls) nx (left ls next rest))
-left (text ∷ ls) (stage.Node rank count to_come pending)
+left (text ∷ ls) (stage.Node version count to_come pending)
     (next, inr (inr (inr (inr (numbers, e, (p, cells, allowed, z, ns, filled, listed, nx))))), rest) =
-    subst (λ (k : ℕ). NodesRest rank count to_come k (text ∷ ls)) (sym z)
-    (omit_first rank count to_come text ls p cells allowed (e ∙ ap (λ (ns : List ℕ). line (codes "D") ns) ns)
+    subst (λ (k : ℕ). NodesRest version count to_come k (text ∷ ls)) (sym z)
+    (omit_first version count to_come text ls p cells allowed (e ∙ ap (λ (ns : List ℕ). line (codes "D") ns) ns)
     filled listed
-    (subst (λ (k : ℕ). NodesRest rank count to_come k ls) z
+    (subst (λ (k : ℕ). NodesRest version count to_come k ls) z
     (subst (λ (s : Stage). Rest s ls) nx (left ls next rest))))
-left (text ∷ ls) (stage.Group rank count to_come pending l from)
+left (text ∷ ls) (stage.Group version count to_come pending l from)
     (next, (numbers, e, (p, m, group, z, zl, ns, form, below, least, room, nx)), rest) =
-    subst (λ (k : ℕ). GroupsRest rank count to_come k l from (text ∷ ls)) (sym z)
-    (subst (λ (k : ℕ). GroupsRest rank count to_come (p + 1) k from (text ∷ ls)) (sym zl)
-    (group_first rank count to_come text ls p m from group (e ∙ ap (λ (ns : List ℕ). line (codes "G") ns) ns) form below
+    subst (λ (k : ℕ). GroupsRest version count to_come k l from (text ∷ ls)) (sym z)
+    (subst (λ (k : ℕ). GroupsRest version count to_come (p + 1) k from (text ∷ ls)) (sym zl)
+    (group_first version count to_come text ls p m from group (e ∙ ap (λ (ns : List ℕ). line (codes "G") ns) ns) form below
     least
-    (groups_left rank count to_come p m (first_cell group + 1) ls
+    (groups_left version count to_come p m (first_cell group + 1) ls
     (subst (λ (s : Stage). Rest s ls) nx (left ls next rest)))))
 left (text ∷ ls) stage.Done (next, h, rest) = absurd h

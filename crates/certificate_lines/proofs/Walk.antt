@@ -35,49 +35,49 @@ pub count_small : (x y z : ℕ) → IsTrue (nat_le x 128 && nat_le y 128 && nat_
 count_small x y z h = leb-true (x * y * z) 262144
     (and_both (nat_le x 128 && nat_le y 128 && nat_le z 128) (nat_le (x * y * z) 262144) h).1
 
-sound_headroom : (rank count : ℕ) → count ≤ 262144 → IsSoundStage (after_headroom rank count)
-sound_headroom rank count h = go (nat_eq rank 1) where
-  go : (b : Bool) → IsSoundStage (if b then stage.Regions rank count else stage.Need rank count)
+sound_headroom : (version count : ℕ) → count ≤ 262144 → IsSoundStage (after_headroom version count)
+sound_headroom version count h = go (nat_eq version 1) where
+  go : (b : Bool) → IsSoundStage (if b then stage.Regions version count else stage.Need version count)
   go true = h
   go false = h
 
-sound_node : (rank count to_come pending : ℕ) → count ≤ 262144 → to_come < count
-    → IsSoundStage (after_node rank count to_come pending)
-sound_node rank count to_come zero h i = (h, omega arith)
-sound_node rank count to_come (suc p) h i = (h, i, omega arith)
+sound_node : (version count to_come pending : ℕ) → count ≤ 262144 → to_come < count
+    → IsSoundStage (after_node version count to_come pending)
+sound_node version count to_come zero h i = (h, omega arith)
+sound_node version count to_come (suc p) h i = (h, i, omega arith)
 
-sound_group : (rank count to_come pending left from : ℕ) → count ≤ 262144 → to_come < count
-    → (0 < left → from + left ≤ count) → IsSoundStage (after_group rank count to_come pending left from)
-sound_group rank count to_come pending zero from h i room = sound_node rank count to_come pending h i
-sound_group rank count to_come pending (suc left) from h i room =
+sound_group : (version count to_come pending left from : ℕ) → count ≤ 262144 → to_come < count
+    → (0 < left → from + left ≤ count) → IsSoundStage (after_group version count to_come pending left from)
+sound_group version count to_come pending zero from h i room = sound_node version count to_come pending h i
+sound_group version count to_come pending (suc left) from h i room =
     (h, i, omega arith, omega arith, room (omega arith))
 
 pub sound_after : (s next : Stage) (text : List ℕ) → IsSoundStage s → Takes s text next → IsSoundStage next
 sound_after stage.Start next text h (ns, e, m) = subst IsSoundStage (sym m.4) tt
-sound_after (stage.Box rank) next text h (ns, e, m) = subst IsSoundStage (sym m.3) (count_small m.0.x m.0.y m.0.z m.2)
-sound_after (stage.Headroom rank count) next text h (ns, e, m) = subst IsSoundStage (sym m.1)
-    (sound_headroom rank count h)
-sound_after (stage.Need rank count) next text h (ns, e, m) = subst IsSoundStage (sym m.1) h
-sound_after (stage.Regions rank count) next text h (ns, e, m) = subst IsSoundStage (sym m.3) (h, m.2)
-sound_after (stage.Region rank count to_come) next text h (inl (ns, e, m)) = subst IsSoundStage (sym m.2) tt
-sound_after (stage.Region rank count to_come) next text h (inr (ns, e, m)) = subst IsSoundStage (sym m.9)
+sound_after (stage.Box version) next text h (ns, e, m) = subst IsSoundStage (sym m.3) (count_small m.0.x m.0.y m.0.z m.2)
+sound_after (stage.Headroom version count) next text h (ns, e, m) = subst IsSoundStage (sym m.1)
+    (sound_headroom version count h)
+sound_after (stage.Need version count) next text h (ns, e, m) = subst IsSoundStage (sym m.1) h
+sound_after (stage.Regions version count) next text h (ns, e, m) = subst IsSoundStage (sym m.3) (h, m.2)
+sound_after (stage.Region version count to_come) next text h (inl (ns, e, m)) = subst IsSoundStage (sym m.2) tt
+sound_after (stage.Region version count to_come) next text h (inr (ns, e, m)) = subst IsSoundStage (sym m.9)
     (h.0, omega (arith, h.1, m.3), m.5, m.6, m.7, m.8)
-sound_after (stage.Dark rank count to_come n t) next text h (ns, e, m) = subst IsSoundStage (sym m.2)
+sound_after (stage.Dark version count to_come n t) next text h (ns, e, m) = subst IsSoundStage (sym m.2)
     (h.0, h.1, h.4, h.5)
-sound_after (stage.Torches rank count to_come t) next text h (ns, e, m) = subst IsSoundStage (sym m.2)
+sound_after (stage.Torches version count to_come t) next text h (ns, e, m) = subst IsSoundStage (sym m.2)
     (h.0, h.1, omega arith)
-sound_after (stage.Node rank count to_come pending) next text h (inl (ns, e, m)) = subst IsSoundStage (sym m.5)
-    (sound_node rank count to_come m.0 h.0 h.1)
-sound_after (stage.Node rank count to_come pending) next text h (inr (inl (ns, e, m))) = subst IsSoundStage (sym m.7)
-    (sound_node rank count to_come (m.2 + m.0) h.0 h.1)
-sound_after (stage.Node rank count to_come pending) next text h (inr (inr (inl (ns, e, m)))) = subst IsSoundStage
+sound_after (stage.Node version count to_come pending) next text h (inl (ns, e, m)) = subst IsSoundStage (sym m.5)
+    (sound_node version count to_come m.0 h.0 h.1)
+sound_after (stage.Node version count to_come pending) next text h (inr (inl (ns, e, m))) = subst IsSoundStage (sym m.7)
+    (sound_node version count to_come (m.2 + m.0) h.0 h.1)
+sound_after (stage.Node version count to_come pending) next text h (inr (inr (inl (ns, e, m)))) = subst IsSoundStage
     (sym m.8) h
-sound_after (stage.Node rank count to_come pending) next text h (inr (inr (inr (inl (ns, e, m))))) = subst IsSoundStage
+sound_after (stage.Node version count to_come pending) next text h (inr (inr (inr (inl (ns, e, m))))) = subst IsSoundStage
     (sym m.5) (h.0, h.1, h.2, m.3, omega (arith, m.4))
-sound_after (stage.Node rank count to_come pending) next text h (inr (inr (inr (inr (ns, e, m))))) = subst IsSoundStage
+sound_after (stage.Node version count to_come pending) next text h (inr (inr (inr (inr (ns, e, m))))) = subst IsSoundStage
     (sym m.7) h
-sound_after (stage.Group rank count to_come pending left from) next text h (ns, e, m) = subst IsSoundStage (sym m.10)
-    (sound_group rank count to_come m.0 m.1 (first_cell m.2 + 1) h.0 h.1 (λ s. omega (arith, m.4, m.9)))
+sound_after (stage.Group version count to_come pending left from) next text h (ns, e, m) = subst IsSoundStage (sym m.10)
+    (sound_group version count to_come m.0 m.1 (first_cell m.2 + 1) h.0 h.1 (λ s. omega (arith, m.4, m.9)))
 sound_after stage.Done next text h m = absurd m
 
 -- ---- some lines lead on from each sound stage to the end
@@ -135,10 +135,10 @@ copies_in count zero h = All-nil (IsSectionIn count)
 copies_in count (suc k) h = All-cons (IsSectionIn count) some_section (copies k) (some_section_in count (omega arith))
     (copies_in count k (omega arith))
 
-copies_known : (rank k : ℕ) → All (λ section. IsKnownTo rank section.tree) (copies k)
-copies_known rank zero = All-nil (λ section. IsKnownTo rank section.tree)
-copies_known rank (suc k) = All-cons (λ section. IsKnownTo rank section.tree) some_section (copies k) tt
-    (copies_known rank k)
+copies_known : (version k : ℕ) → All (λ section. IsKnownTo version section.tree) (copies k)
+copies_known version zero = All-nil (λ section. IsKnownTo version section.tree)
+copies_known version (suc k) = All-cons (λ section. IsKnownTo version section.tree) some_section (copies k) tt
+    (copies_known version k)
 
 abbrev leaves : ℕ → Forest
 leaves zero = none
@@ -152,28 +152,28 @@ leaves_in : (count p : ℕ) → AreTreesIn count (leaves p)
 leaves_in count zero = tt
 leaves_in count (suc p) = (run_listed count 0 (omega arith), leaves_in count p)
 
-leaves_known : (rank p : ℕ) → AreKnownTo rank (leaves p)
-leaves_known rank zero = tt
-leaves_known rank (suc p) = (tt, leaves_known rank p)
+leaves_known : (version p : ℕ) → AreKnownTo version (leaves p)
+leaves_known version zero = tt
+leaves_known version (suc p) = (tt, leaves_known version p)
 
 abbrev Leadable : Stage → Type 0
 Leadable s = (lines : List (List ℕ)) × Leads lines s stage.Done
 
-from_region : (rank : ℕ) (count k : ℕ) → k ≤ count → Leadable (stage.Region rank count k)
-from_region rank count k h = (
+from_region : (version : ℕ) (count k : ℕ) → k ≤ count → Leadable (stage.Region version count k)
+from_region version count k h = (
   flat_map section_lines (copies k) ++ codes "end" ∷ [],
   subst (λ (n : ℕ). Leads (flat_map section_lines (copies k) ++ codes "end" ∷ [])
-      (stage.Region rank count n) stage.Done) (length-copies k)
-      (leads_sections rank count (copies k) (copies_in count k h) (copies_known rank k)),
+      (stage.Region version count n) stage.Done) (length-copies k)
+      (leads_sections version count (copies k) (copies_in count k h) (copies_known version k)),
 )
 
-from_node : (rank : ℕ) (count k p : ℕ) → k ≤ count → Leadable (stage.Node rank count k (suc p))
-from_node rank count k p h =
-    let r = from_region rank count k h in
+from_node : (version : ℕ) (count k p : ℕ) → k ≤ count → Leadable (stage.Node version count k (suc p))
+from_node version count k p h =
+    let r = from_region version count k h in
     let e : tree_count (leaves (suc p)) + 0 ≡ suc p = omega (arith, tree_count-leaves (suc p)) in (
       forest_lines (leaves (suc p)) ++ r.0,
-      subst (λ (n : ℕ). Leads (forest_lines (leaves (suc p)) ++ r.0) (after_node rank count k n) stage.Done) e
-          (leads_trees rank count k (leaves (suc p)) (leaves_in count (suc p)) (leaves_known rank (suc p)) 0 r.0 r.1),
+      subst (λ (n : ℕ). Leads (forest_lines (leaves (suc p)) ++ r.0) (after_node version count k n) stage.Done) e
+          (leads_trees version count k (leaves (suc p)) (leaves_in count (suc p)) (leaves_known version (suc p)) 0 r.0 r.1),
     )
 
 -- a group of one cell
@@ -192,15 +192,15 @@ group_at_is cell = record {
       (All-nil (λ (share : Share). share.weight ≤ 4294967295));
 }
 
-from_groups : (rank count k p left from : ℕ) → k ≤ count → from + left ≤ count
-    → Leadable (after_group rank count k p left from)
-from_groups rank count k zero zero from h room = from_region rank count k h
-from_groups rank count k (suc p) zero from h room = from_node rank count k p h
-from_groups rank count k p (suc left) from h room =
-    let r = from_groups rank count k p left (from + 1) h (omega arith) in (
+from_groups : (version count k p left from : ℕ) → k ≤ count → from + left ≤ count
+    → Leadable (after_group version count k p left from)
+from_groups version count k zero zero from h room = from_region version count k h
+from_groups version count k (suc p) zero from h room = from_node version count k p h
+from_groups version count k p (suc left) from h room =
+    let r = from_groups version count k p left (from + 1) h (omega arith) in (
       line (codes "G") (group_numbers (group_at from)) ∷ r.0,
       (
-        after_group rank count k p left (from + 1),
+        after_group version count k p left (from + 1),
         (
           group_numbers (group_at from),
           refl,
@@ -222,48 +222,48 @@ from_groups rank count k p (suc left) from h room =
       ),
     )
 
-from_torches : (rank : ℕ) (count k t : ℕ) → k ≤ count → t ≤ count → Leadable (stage.Torches rank count k t)
-from_torches rank count k t h i =
-    let r = from_node rank count k 0 h in (
+from_torches : (version : ℕ) (count k t : ℕ) → k ≤ count → t ≤ count → Leadable (stage.Torches version count k t)
+from_torches version count k t h i =
+    let r = from_node version count k 0 h in (
       line (codes "T") (run 0 t) ∷ r.0,
-      (stage.Node rank count k 1, (run 0 t, refl, (run_listed count t i, length-run 0 t, refl)), r.1),
+      (stage.Node version count k 1, (run 0 t, refl, (run_listed count t i, length-run 0 t, refl)), r.1),
     )
 
-from_dark : (rank : ℕ) (count k n t : ℕ) → k ≤ count → n ≤ count → t ≤ count
-    → Leadable (stage.Dark rank count k n t)
-from_dark rank count k n t h i j =
-    let r = from_torches rank count k t h j in (
+from_dark : (version : ℕ) (count k n t : ℕ) → k ≤ count → n ≤ count → t ≤ count
+    → Leadable (stage.Dark version count k n t)
+from_dark version count k n t h i j =
+    let r = from_torches version count k t h j in (
       line (codes "D") (run 0 n) ∷ r.0,
-      (stage.Torches rank count k t, (run 0 n, refl, (run_listed count n i, length-run 0 n, refl)), r.1),
+      (stage.Torches version count k t, (run 0 n, refl, (run_listed count n i, length-run 0 n, refl)), r.1),
     )
 
-from_regions : (rank : ℕ) (count : ℕ) → Leadable (stage.Regions rank count)
-from_regions rank count =
-    let r = from_region rank count 0 (omega arith) in (
+from_regions : (version : ℕ) (count : ℕ) → Leadable (stage.Regions version count)
+from_regions version count =
+    let r = from_region version count 0 (omega arith) in (
       line (codes "regions") (0 ∷ []) ∷ r.0,
-      (stage.Region rank count 0, (0 ∷ [], refl, (0, refl, omega arith, refl)), r.1),
+      (stage.Region version count 0, (0 ∷ [], refl, (0, refl, omega arith, refl)), r.1),
     )
 
-from_need : (rank count : ℕ) → Leadable (stage.Need rank count)
-from_need rank count =
-    let r = from_regions rank count in
-    (line (codes "need") (1 ∷ []) ∷ r.0, (stage.Regions rank count, (1 ∷ [], refl, (inl refl, refl)), r.1))
+from_need : (version count : ℕ) → Leadable (stage.Need version count)
+from_need version count =
+    let r = from_regions version count in
+    (line (codes "need") (1 ∷ []) ∷ r.0, (stage.Regions version count, (1 ∷ [], refl, (inl refl, refl)), r.1))
 
-from_headroom : (rank count : ℕ) → Leadable (stage.Headroom rank count)
-from_headroom rank count =
-    let r = go (nat_eq rank 1) in
-    (line (codes "headroom") (1 ∷ []) ∷ r.0, (after_headroom rank count, (1 ∷ [], refl, (inl refl, refl)), r.1))
+from_headroom : (version count : ℕ) → Leadable (stage.Headroom version count)
+from_headroom version count =
+    let r = go (nat_eq version 1) in
+    (line (codes "headroom") (1 ∷ []) ∷ r.0, (after_headroom version count, (1 ∷ [], refl, (inl refl, refl)), r.1))
   where
-    go : (b : Bool) → Leadable (if b then stage.Regions rank count else stage.Need rank count)
-    go true = from_regions rank count
-    go false = from_need rank count
+    go : (b : Bool) → Leadable (if b then stage.Regions version count else stage.Need version count)
+    go true = from_regions version count
+    go false = from_need version count
 
-from_box : (rank : ℕ) → Leadable (stage.Box rank)
-from_box rank =
+from_box : (version : ℕ) → Leadable (stage.Box version)
+from_box version =
     let size : Point = record { x = 0; y = 0; z = 0 } in
-    let r = from_headroom rank (cell_count size) in (
+    let r = from_headroom version (cell_count size) in (
       line (codes "box") (0 ∷ 0 ∷ 0 ∷ []) ∷ r.0,
-      (stage.Headroom rank (cell_count size), (0 ∷ 0 ∷ 0 ∷ [], refl, (size, refl, refl, refl)), r.1),
+      (stage.Headroom version (cell_count size), (0 ∷ 0 ∷ 0 ∷ [], refl, (size, refl, refl, refl)), r.1),
     )
 
 pub leads_on : (s : Stage) → IsSoundStage s → (lines : List (List ℕ)) × Leads lines s stage.Done
@@ -272,59 +272,59 @@ leads_on stage.Start h =
       line (codes "torchproof") (1 ∷ []) ∷ r.0,
       (stage.Box 1, (1 ∷ [], refl, (1, refl, omega arith, omega arith, refl)), r.1),
     )
-leads_on (stage.Box rank) h = from_box rank
-leads_on (stage.Headroom rank count) h = from_headroom rank count
-leads_on (stage.Need rank count) h = from_need rank count
-leads_on (stage.Regions rank count) h = from_regions rank count
-leads_on (stage.Region rank count to_come) h = from_region rank count to_come h.1
-leads_on (stage.Dark rank count to_come n t) h = from_dark rank count to_come n t (omega (arith, h.1)) h.3 h.5
-leads_on (stage.Torches rank count to_come t) h = from_torches rank count to_come t (omega (arith, h.1)) h.3
-leads_on (stage.Node rank count to_come zero) h = absurd (omega (arith, h.2))
-leads_on (stage.Node rank count to_come (suc p)) h = from_node rank count to_come p (omega (arith, h.1))
-leads_on (stage.Group rank count to_come zero left from) h = absurd (omega (arith, h.2))
-leads_on (stage.Group rank count to_come (suc p) zero from) h = absurd (omega (arith, h.3))
-leads_on (stage.Group rank count to_come (suc p) (suc left) from) h = from_groups rank count to_come p (suc left) from
+leads_on (stage.Box version) h = from_box version
+leads_on (stage.Headroom version count) h = from_headroom version count
+leads_on (stage.Need version count) h = from_need version count
+leads_on (stage.Regions version count) h = from_regions version count
+leads_on (stage.Region version count to_come) h = from_region version count to_come h.1
+leads_on (stage.Dark version count to_come n t) h = from_dark version count to_come n t (omega (arith, h.1)) h.3 h.5
+leads_on (stage.Torches version count to_come t) h = from_torches version count to_come t (omega (arith, h.1)) h.3
+leads_on (stage.Node version count to_come zero) h = absurd (omega (arith, h.2))
+leads_on (stage.Node version count to_come (suc p)) h = from_node version count to_come p (omega (arith, h.1))
+leads_on (stage.Group version count to_come zero left from) h = absurd (omega (arith, h.2))
+leads_on (stage.Group version count to_come (suc p) zero from) h = absurd (omega (arith, h.3))
+leads_on (stage.Group version count to_come (suc p) (suc left) from) h = from_groups version count to_come p (suc left) from
     (omega (arith, h.1)) h.4
 leads_on stage.Done h = ([], refl)
 
 -- ---- how many trees are still to come
 
-pending_node : (rank : ℕ) (count to_come p : ℕ) → pending_of (after_node rank count to_come p) ≤ p
-pending_node rank count to_come zero = omega arith
-pending_node rank count to_come (suc p) = omega arith
+pending_node : (version : ℕ) (count to_come p : ℕ) → pending_of (after_node version count to_come p) ≤ p
+pending_node version count to_come zero = omega arith
+pending_node version count to_come (suc p) = omega arith
 
-pending_group : (rank count to_come p left from : ℕ) → pending_of (after_group rank count to_come p left from) ≤ p + 1
-pending_group rank count to_come p zero from = omega (arith, pending_node rank count to_come p)
-pending_group rank count to_come p (suc left) from = omega arith
+pending_group : (version count to_come p left from : ℕ) → pending_of (after_group version count to_come p left from) ≤ p + 1
+pending_group version count to_come p zero from = omega (arith, pending_node version count to_come p)
+pending_group version count to_come p (suc left) from = omega arith
 
-pending_headroom : (rank count : ℕ) → pending_of (after_headroom rank count) ≡ 0
-pending_headroom rank count = go (nat_eq rank 1) where
-  go : (b : Bool) → pending_of (if b then stage.Regions rank count else stage.Need rank count) ≡ 0
+pending_headroom : (version count : ℕ) → pending_of (after_headroom version count) ≡ 0
+pending_headroom version count = go (nat_eq version 1) where
+  go : (b : Bool) → pending_of (if b then stage.Regions version count else stage.Need version count) ≡ 0
   go true = refl
   go false = refl
 
 pub pending_after : (s next : Stage) (text : List ℕ) → IsSoundStage s → Takes s text next
     → pending_of next ≤ pending_of s + 262144
 pending_after stage.Start next text h (ns, e, m) = omega (arith, ap pending_of m.4)
-pending_after (stage.Box rank) next text h (ns, e, m) = omega (arith, ap pending_of m.3)
-pending_after (stage.Headroom rank count) next text h (ns, e, m) =
-    omega (arith, ap pending_of m.1, pending_headroom rank count)
-pending_after (stage.Need rank count) next text h (ns, e, m) = omega (arith, ap pending_of m.1)
-pending_after (stage.Regions rank count) next text h (ns, e, m) = omega (arith, ap pending_of m.3)
-pending_after (stage.Region rank count to_come) next text h (inl (ns, e, m)) = omega (arith, ap pending_of m.2)
-pending_after (stage.Region rank count to_come) next text h (inr (ns, e, m)) = omega (arith, ap pending_of m.9)
-pending_after (stage.Dark rank count to_come n t) next text h (ns, e, m) = omega (arith, ap pending_of m.2)
-pending_after (stage.Torches rank count to_come t) next text h (ns, e, m) = omega (arith, ap pending_of m.2)
-pending_after (stage.Node rank count to_come pending) next text h (inl (ns, e, m)) =
-    omega (arith, ap pending_of m.5, pending_node rank count to_come m.0, m.2)
-pending_after (stage.Node rank count to_come pending) next text h (inr (inl (ns, e, m))) =
-    omega (arith, ap pending_of m.7, pending_node rank count to_come (m.2 + m.0), m.3, m.6, h.0)
-pending_after (stage.Node rank count to_come pending) next text h (inr (inr (inl (ns, e, m)))) =
+pending_after (stage.Box version) next text h (ns, e, m) = omega (arith, ap pending_of m.3)
+pending_after (stage.Headroom version count) next text h (ns, e, m) =
+    omega (arith, ap pending_of m.1, pending_headroom version count)
+pending_after (stage.Need version count) next text h (ns, e, m) = omega (arith, ap pending_of m.1)
+pending_after (stage.Regions version count) next text h (ns, e, m) = omega (arith, ap pending_of m.3)
+pending_after (stage.Region version count to_come) next text h (inl (ns, e, m)) = omega (arith, ap pending_of m.2)
+pending_after (stage.Region version count to_come) next text h (inr (ns, e, m)) = omega (arith, ap pending_of m.9)
+pending_after (stage.Dark version count to_come n t) next text h (ns, e, m) = omega (arith, ap pending_of m.2)
+pending_after (stage.Torches version count to_come t) next text h (ns, e, m) = omega (arith, ap pending_of m.2)
+pending_after (stage.Node version count to_come pending) next text h (inl (ns, e, m)) =
+    omega (arith, ap pending_of m.5, pending_node version count to_come m.0, m.2)
+pending_after (stage.Node version count to_come pending) next text h (inr (inl (ns, e, m))) =
+    omega (arith, ap pending_of m.7, pending_node version count to_come (m.2 + m.0), m.3, m.6, h.0)
+pending_after (stage.Node version count to_come pending) next text h (inr (inr (inl (ns, e, m)))) =
     omega (arith, ap pending_of m.8)
-pending_after (stage.Node rank count to_come pending) next text h (inr (inr (inr (inl (ns, e, m))))) =
+pending_after (stage.Node version count to_come pending) next text h (inr (inr (inr (inl (ns, e, m))))) =
     omega (arith, ap pending_of m.5)
-pending_after (stage.Node rank count to_come pending) next text h (inr (inr (inr (inr (ns, e, m))))) =
+pending_after (stage.Node version count to_come pending) next text h (inr (inr (inr (inr (ns, e, m))))) =
     omega (arith, ap pending_of m.7)
-pending_after (stage.Group rank count to_come pending left from) next text h (ns, e, m) =
-    omega (arith, ap pending_of m.10, pending_group rank count to_come m.0 m.1 (first_cell m.2 + 1), m.3)
+pending_after (stage.Group version count to_come pending left from) next text h (ns, e, m) =
+    omega (arith, ap pending_of m.10, pending_group version count to_come m.0 m.1 (first_cell m.2 + 1), m.3)
 pending_after stage.Done next text h m = absurd m

@@ -5,7 +5,7 @@ use Rattle.std.specs.Prelude.{zero, suc, IsTrue, codes, flat_map}
 use Rattle.std.proofs.lemmas.Fmt.{decimal_digit}
 use Rattle.cave_base.specs.Box.{Point, cell_count, is_small}
 use Rattle.proof_rules.specs.Certificate.{Section, Certificate, Version, IsInRange, IsSectionIn, IsKnownTo}
-use Rattle.proof_rules.specs.Certificate as version
+use Rattle.proof_rules.specs.Certificate as certificates
 use Rattle.proof_rules.specs.Text.{line, section_lines, lines_of}
 use Rattle.certificate_lines.specs.Steps.{Leads}
 use Rattle.certificate_lines.specs.declared.stage.Stage.{Stage}
@@ -29,18 +29,18 @@ magic_third = magic 3 (omega arith)
 
 -- ---- from the lines to a certificate
 
-record RegionsRest (rank count : ℕ) (lines : List (List ℕ)) : Type 0 where
+record RegionsRest (version count : ℕ) (lines : List (List ℕ)) : Type 0 where
   sections : List Section
   few : length sections ≤ count
   each : All (IsSectionIn count) sections
-  known : All (λ section. IsKnownTo rank section.tree) sections
+  known : All (λ section. IsKnownTo version section.tree) sections
   is : lines ≡ line (codes "regions") (length sections ∷ []) ∷ (flat_map section_lines sections ++ codes "end" ∷ [])
 
-regions_left : (rank : ℕ) (count : ℕ) (lines : List (List ℕ)) → Leads lines (stage.Regions rank count) stage.Done
-    → RegionsRest rank count lines
-regions_left rank count [] h = absurd (cc)
-regions_left rank count (text ∷ ls) (next, (numbers, e, (k, ns, few, nx)), rest) =
-    let r : SectionsRest rank count k ls = left ls (stage.Region rank count k)
+regions_left : (version : ℕ) (count : ℕ) (lines : List (List ℕ)) → Leads lines (stage.Regions version count) stage.Done
+    → RegionsRest version count lines
+regions_left version count [] h = absurd (cc)
+regions_left version count (text ∷ ls) (next, (numbers, e, (k, ns, few, nx)), rest) =
+    let r : SectionsRest version count k ls = left ls (stage.Region version count k)
     (subst (λ (s : Stage). Leads ls s stage.Done) nx rest) in
     record {
       sections = r.sections;
@@ -72,7 +72,7 @@ with_first : (t1 t2 t3 : List ℕ) (ls : List (List ℕ)) (size : Point) (headro
     → IsTrue (is_small size) → (headroom ≡ 1) ⊎ (headroom ≡ 2) → RegionsRest 1 (cell_count size) ls
     → WholeRest (t1 ∷ t2 ∷ t3 ∷ ls)
 with_first t1 t2 t3 ls size headroom e1 e2 e3 small ruled r = record {
-  certificate = record { version = version.first; size = size; headroom = headroom; sections = r.sections };
+  certificate = record { version = certificates.first; size = size; headroom = headroom; sections = r.sections };
   in_range = record {
     small = small;
     ruled = ruled;
@@ -90,7 +90,7 @@ with_second : (t1 t2 t3 t4 : List ℕ) (ls : List (List ℕ)) (size : Point) (he
     → IsTrue (is_small size) → (headroom ≡ 1) ⊎ (headroom ≡ 2) → (need ≡ 1) ⊎ (need ≡ 8)
     → RegionsRest 2 (cell_count size) ls → WholeRest (t1 ∷ t2 ∷ t3 ∷ t4 ∷ ls)
 with_second t1 t2 t3 t4 ls size headroom need e1 e2 e3 e4 small ruled needed r = record {
-  certificate = record { version = version.second need; size = size; headroom = headroom; sections = r.sections };
+  certificate = record { version = certificates.second need; size = size; headroom = headroom; sections = r.sections };
   in_range = record {
     small = small;
     ruled = ruled;
@@ -108,7 +108,7 @@ with_third : (t1 t2 t3 t4 : List ℕ) (ls : List (List ℕ)) (size : Point) (hea
     → IsTrue (is_small size) → (headroom ≡ 1) ⊎ (headroom ≡ 2) → (need ≡ 1) ⊎ (need ≡ 8)
     → RegionsRest 3 (cell_count size) ls → WholeRest (t1 ∷ t2 ∷ t3 ∷ t4 ∷ ls)
 with_third t1 t2 t3 t4 ls size headroom need e1 e2 e3 e4 small ruled needed r = record {
-  certificate = record { version = version.third need; size = size; headroom = headroom; sections = r.sections };
+  certificate = record { version = certificates.third need; size = size; headroom = headroom; sections = r.sections };
   in_range = record {
     small = small;
     ruled = ruled;
@@ -119,21 +119,21 @@ with_third t1 t2 t3 t4 ls size headroom need e1 e2 e3 e4 small ruled needed r = 
   is = let f = r.is in cc;
 }
 
-need_step : (rank : ℕ) (t1 t2 t3 : List ℕ) (ls : List (List ℕ)) (size : Point)
+need_step : (version : ℕ) (t1 t2 t3 : List ℕ) (ls : List (List ℕ)) (size : Point)
     → ((t4 : List ℕ) (ls : List (List ℕ)) (need : ℕ) → t4 ≡ line (codes "need") (need ∷ []) → (need ≡ 1) ⊎ (need ≡ 8)
-    → RegionsRest rank (cell_count size) ls → WholeRest (t1 ∷ t2 ∷ t3 ∷ t4 ∷ ls))
-    → Leads ls (stage.Need rank (cell_count size)) stage.Done → WholeRest (t1 ∷ t2 ∷ t3 ∷ ls)
-need_step rank t1 t2 t3 [] size with h = absurd (cc)
-need_step rank t1 t2 t3 (t4 ∷ ls) size with (next, (numbers, e, (which, nx)), rest) =
+    → RegionsRest version (cell_count size) ls → WholeRest (t1 ∷ t2 ∷ t3 ∷ t4 ∷ ls))
+    → Leads ls (stage.Need version (cell_count size)) stage.Done → WholeRest (t1 ∷ t2 ∷ t3 ∷ ls)
+need_step version t1 t2 t3 [] size with h = absurd (cc)
+need_step version t1 t2 t3 (t4 ∷ ls) size with (next, (numbers, e, (which, nx)), rest) =
     let n = either 0 1 8 numbers which in
     with t4 ls n.0 (e ∙ ap (λ (ns : List ℕ). line (codes "need") ns) n.1) n.2
-    (regions_left rank (cell_count size) ls (subst (λ (s : Stage). Leads ls s stage.Done) nx rest))
+    (regions_left version (cell_count size) ls (subst (λ (s : Stage). Leads ls s stage.Done) nx rest))
 
-headroom_step : (rank : ℕ) (t1 t2 : List ℕ) (ls : List (List ℕ)) (size : Point)
-    → t1 ≡ line (codes "torchproof") (rank ∷ []) → 0 < rank → rank ≤ 3
+headroom_step : (version : ℕ) (t1 t2 : List ℕ) (ls : List (List ℕ)) (size : Point)
+    → t1 ≡ line (codes "torchproof") (version ∷ []) → 0 < version → version ≤ 3
     → t2 ≡ line (codes "box") (size.x ∷ size.y ∷ size.z ∷ [])
-    → IsTrue (is_small size) → Leads ls (stage.Headroom rank (cell_count size)) stage.Done → WholeRest (t1 ∷ t2 ∷ ls)
-headroom_step rank t1 t2 [] size e1 some most e2 small h = absurd (cc)
+    → IsTrue (is_small size) → Leads ls (stage.Headroom version (cell_count size)) stage.Done → WholeRest (t1 ∷ t2 ∷ ls)
+headroom_step version t1 t2 [] size e1 some most e2 small h = absurd (cc)
 headroom_step zero t1 t2 (t3 ∷ ls) size e1 some most e2 small h = absurd (omega arith)
 headroom_step (suc zero) t1 t2 (t3 ∷ ls) size e1 some most e2 small (next, (numbers, e, (which, nx)), rest) =
     let n = either 0 1 2 numbers which in
@@ -155,16 +155,16 @@ headroom_step (suc (suc (suc zero))) t1 t2 (t3 ∷ ls) size e1 some most e2 smal
     (subst (λ (s : Stage). Leads ls s stage.Done) nx rest)
 headroom_step (suc (suc (suc (suc k)))) t1 t2 (t3 ∷ ls) size e1 some most e2 small h = absurd (omega arith)
 
-box_step : (rank : ℕ) (t1 : List ℕ) (ls : List (List ℕ)) → t1 ≡ line (codes "torchproof") (rank ∷ []) → 0 < rank
-    → rank ≤ 3 → Leads ls (stage.Box rank) stage.Done → WholeRest (t1 ∷ ls)
-box_step rank t1 [] e1 some most h = absurd (cc)
-box_step rank t1 (t2 ∷ ls) e1 some most (next, (numbers, e, (size, ns, small, nx)), rest) =
-    headroom_step rank t1 t2 ls size e1 some most (e ∙ ap (λ (ns : List ℕ). line (codes "box") ns) ns) small
+box_step : (version : ℕ) (t1 : List ℕ) (ls : List (List ℕ)) → t1 ≡ line (codes "torchproof") (version ∷ []) → 0 < version
+    → version ≤ 3 → Leads ls (stage.Box version) stage.Done → WholeRest (t1 ∷ ls)
+box_step version t1 [] e1 some most h = absurd (cc)
+box_step version t1 (t2 ∷ ls) e1 some most (next, (numbers, e, (size, ns, small, nx)), rest) =
+    headroom_step version t1 t2 ls size e1 some most (e ∙ ap (λ (ns : List ℕ). line (codes "box") ns) ns) small
     (subst (λ (s : Stage). Leads ls s stage.Done) nx rest)
 
 pub certificate_of : (lines : List (List ℕ)) → Leads lines stage.Start stage.Done → WholeRest lines
 certificate_of [] h = absurd (cc)
-certificate_of (t1 ∷ ls) (next, (numbers, e, (rank, ns, some, most, nx)), rest) = box_step rank t1 ls
+certificate_of (t1 ∷ ls) (next, (numbers, e, (version, ns, some, most, nx)), rest) = box_step version t1 ls
     (e ∙ ap (λ (ns : List ℕ). line (codes "torchproof") ns) ns) some most
     (subst (λ (s : Stage). Leads ls s stage.Done) nx rest)
 
@@ -174,21 +174,21 @@ alone : (a b n : ℕ) → (n ≡ a) ⊎ (n ≡ b) → (n ∷ [] ≡ a ∷ []) �
 alone a b n (inl e) = inl (ap (λ (m : ℕ). m ∷ []) e)
 alone a b n (inr e) = inr (ap (λ (m : ℕ). m ∷ []) e)
 
-leads_regions : (rank count : ℕ) (sections : List Section) → length sections ≤ count
-    → All (IsSectionIn count) sections → All (λ section. IsKnownTo rank section.tree) sections
+leads_regions : (version count : ℕ) (sections : List Section) → length sections ≤ count
+    → All (IsSectionIn count) sections → All (λ section. IsKnownTo version section.tree) sections
     → Leads (line (codes "regions") (length sections ∷ []) ∷ (flat_map section_lines sections ++ codes "end" ∷ []))
-    (stage.Regions rank count) stage.Done
-leads_regions rank count sections few each known = (
-  stage.Region rank count (length sections),
+    (stage.Regions version count) stage.Done
+leads_regions version count sections few each known = (
+  stage.Region version count (length sections),
   (length sections ∷ [], refl, (length sections, refl, few, refl)),
-  leads_sections rank count sections each known,
+  leads_sections version count sections each known,
 )
 
 pub leads_whole : (version : Version) (size : Point) (headroom : ℕ) (sections : List Section)
     → IsInRange (record { version = version; size = size; headroom = headroom; sections = sections })
     → Leads (lines_of (record { version = version; size = size; headroom = headroom; sections = sections }))
     stage.Start stage.Done
-leads_whole version.first size headroom sections r = (
+leads_whole certificates.first size headroom sections r = (
   stage.Box 1,
   (1 ∷ [], sym magic_first, (1, refl, omega arith, omega arith, refl)),
   (
@@ -201,7 +201,7 @@ leads_whole version.first size headroom sections r = (
     ),
   ),
 )
-leads_whole (version.second need) size headroom sections r = (
+leads_whole (certificates.second need) size headroom sections r = (
   stage.Box 2,
   (2 ∷ [], sym magic_second, (2, refl, omega arith, omega arith, refl)),
   (
@@ -218,7 +218,7 @@ leads_whole (version.second need) size headroom sections r = (
     ),
   ),
 )
-leads_whole (version.third need) size headroom sections r = (
+leads_whole (certificates.third need) size headroom sections r = (
   stage.Box 3,
   (3 ∷ [], sym magic_third, (3, refl, omega arith, omega arith, refl)),
   (

@@ -41,42 +41,42 @@ node_kind head =
 -- the one kind of line that may come at the stage and begin as the text does
 abbrev pub kind_at : Stage → List ℕ → LineKind
 kind_at stage.Start text = kind.Version
-kind_at (stage.Box rank) text = kind.Size
-kind_at (stage.Headroom rank count) text = kind.Headroom
-kind_at (stage.Need rank count) text = kind.Need
-kind_at (stage.Regions rank count) text = kind.Regions
-kind_at (stage.Region rank count to_come) text = region_kind to_come
-kind_at (stage.Dark rank count to_come n t) text = kind.Dark
-kind_at (stage.Torches rank count to_come t) text = kind.Torches
-kind_at (stage.Node rank count to_come pending) text = node_kind (slice_index_or text 0 0)
-kind_at (stage.Group rank count to_come pending left from) text = kind.Group
+kind_at (stage.Box version) text = kind.Size
+kind_at (stage.Headroom version count) text = kind.Headroom
+kind_at (stage.Need version count) text = kind.Need
+kind_at (stage.Regions version count) text = kind.Regions
+kind_at (stage.Region version count to_come) text = region_kind to_come
+kind_at (stage.Dark version count to_come n t) text = kind.Dark
+kind_at (stage.Torches version count to_come t) text = kind.Torches
+kind_at (stage.Node version count to_come pending) text = node_kind (slice_index_or text 0 0)
+kind_at (stage.Group version count to_come pending left from) text = kind.Group
 kind_at stage.Done text = kind.End
 
 -- what the numbers of such a line mean at the stage
 abbrev pub MeansAt : Stage → LineKind → List ℕ → Stage → Type 0
 MeansAt stage.Start k numbers next = steps.StartMeans numbers next
-MeansAt (stage.Box rank) k numbers next = steps.BoxMeans rank numbers next
-MeansAt (stage.Headroom rank count) k numbers next = steps.HeadroomMeans rank count numbers next
-MeansAt (stage.Need rank count) k numbers next = steps.NeedMeans rank count numbers next
-MeansAt (stage.Regions rank count) k numbers next = steps.RegionsMeans rank count numbers next
-MeansAt (stage.Region rank count to_come) kind.End numbers next = steps.EndMeans to_come numbers next
-MeansAt (stage.Region rank count to_come) k numbers next = steps.RegionMeans rank count to_come numbers next
-MeansAt (stage.Dark rank count to_come n t) k numbers next = steps.DarkMeans rank count to_come n t numbers next
-MeansAt (stage.Torches rank count to_come t) k numbers next = steps.TorchesMeans rank count to_come t numbers next
-MeansAt (stage.Node rank count to_come pending) kind.Branch numbers next =
-    nodes.BranchMeans rank count to_come pending numbers next
-MeansAt (stage.Node rank count to_come pending) kind.Bar numbers next =
-    nodes.BarMeans rank count to_come pending numbers next
-MeansAt (stage.Node rank count to_come pending) kind.Weighted numbers next =
-    nodes.WeightedMeans rank count to_come pending numbers next
-MeansAt (stage.Node rank count to_come pending) kind.Omit numbers next =
-    nodes.OmitMeans rank count to_come pending numbers next
-MeansAt (stage.Node rank count to_come pending) k numbers next =
-    nodes.LeafMeans rank count to_come pending numbers next
-MeansAt (stage.Group rank count to_come pending left from) k numbers next =
-    nodes.GroupMeans rank count to_come pending left from numbers next
+MeansAt (stage.Box version) k numbers next = steps.BoxMeans version numbers next
+MeansAt (stage.Headroom version count) k numbers next = steps.HeadroomMeans version count numbers next
+MeansAt (stage.Need version count) k numbers next = steps.NeedMeans version count numbers next
+MeansAt (stage.Regions version count) k numbers next = steps.RegionsMeans version count numbers next
+MeansAt (stage.Region version count to_come) kind.End numbers next = steps.EndMeans to_come numbers next
+MeansAt (stage.Region version count to_come) k numbers next = steps.RegionMeans version count to_come numbers next
+MeansAt (stage.Dark version count to_come n t) k numbers next = steps.DarkMeans version count to_come n t numbers next
+MeansAt (stage.Torches version count to_come t) k numbers next = steps.TorchesMeans version count to_come t numbers next
+MeansAt (stage.Node version count to_come pending) kind.Branch numbers next =
+    nodes.BranchMeans version count to_come pending numbers next
+MeansAt (stage.Node version count to_come pending) kind.Bar numbers next =
+    nodes.BarMeans version count to_come pending numbers next
+MeansAt (stage.Node version count to_come pending) kind.Weighted numbers next =
+    nodes.WeightedMeans version count to_come pending numbers next
+MeansAt (stage.Node version count to_come pending) kind.Omit numbers next =
+    nodes.OmitMeans version count to_come pending numbers next
+MeansAt (stage.Node version count to_come pending) k numbers next =
+    nodes.LeafMeans version count to_come pending numbers next
+MeansAt (stage.Group version count to_come pending left from) k numbers next =
+    nodes.GroupMeans version count to_come pending left from numbers next
 MeansAt stage.Done k numbers next = ⊥
 
 -- where a tree is to come
 abbrev pub node_stage : ℕ → ℕ → ℕ → ℕ → Stage
-node_stage rank count to_come pending = stage.Node rank count to_come pending
+node_stage version count to_come pending = stage.Node version count to_come pending

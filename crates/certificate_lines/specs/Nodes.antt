@@ -8,14 +8,14 @@ use Rattle.certificate_lines.specs.declared.stage.Stage.TheVariants as stage
 
 -- with so many trees still to come
 abbrev pub after_node : ℕ → ℕ → ℕ → ℕ → Stage
-after_node rank count to_come zero = stage.Region rank count to_come
-after_node rank count to_come (suc p) = stage.Node rank count to_come (suc p)
+after_node version count to_come zero = stage.Region version count to_come
+after_node version count to_come (suc p) = stage.Node version count to_come (suc p)
 
 -- with so many groups of a weighted leaf still to come, whose first cells are at least this one, and after them so many
 -- trees
 abbrev pub after_group : ℕ → ℕ → ℕ → ℕ → ℕ → ℕ → Stage
-after_group rank count to_come pending zero from = after_node rank count to_come pending
-after_group rank count to_come pending (suc left) from = stage.Group rank count to_come (suc pending) (suc left) from
+after_group version count to_come pending zero from = after_node version count to_come pending
+after_group version count to_come pending (suc left) from = stage.Group version count to_come (suc pending) (suc left) from
 
 -- the numbers of a group: its capacity, how many cells it has, and each cell with its weight
 abbrev pub group_numbers : Group → List ℕ
@@ -30,37 +30,37 @@ first_cell group = slice_index (cells_of group.shares) 0
 
 -- how many cells a leaf has, and these, ascending, of the box; one tree less is to come
 abbrev pub LeafMeans : ℕ → ℕ → ℕ → ℕ → List ℕ → Stage → Type 0
-LeafMeans rank count to_come pending numbers next = (p : ℕ) × (cells : List ℕ) × (pending ≡ p + 1)
-    × (numbers ≡ length cells ∷ cells) × AreListed count cells × (next ≡ after_node rank count to_come p)
+LeafMeans version count to_come pending numbers next = (p : ℕ) × (cells : List ℕ) × (pending ≡ p + 1)
+    × (numbers ≡ length cells ∷ cells) × AreListed count cells × (next ≡ after_node version count to_come p)
 
 -- a cell of the box and how many kids the branch has, no more than the box has cells; so many trees come in its place
 abbrev pub BranchMeans : ℕ → ℕ → ℕ → ℕ → List ℕ → Stage → Type 0
-BranchMeans rank count to_come pending numbers next = (p cell kids : ℕ) × (pending ≡ p + 1)
+BranchMeans version count to_come pending numbers next = (p cell kids : ℕ) × (pending ≡ p + 1)
     × (numbers ≡ cell ∷ kids ∷ []) × (cell < count) × (kids ≤ count)
-    × (next ≡ after_node rank count to_come (kids + p))
+    × (next ≡ after_node version count to_come (kids + p))
 
 -- a place to leave out and another, both in the box, from the second version on; as many trees are to come as before
 abbrev pub BarMeans : ℕ → ℕ → ℕ → ℕ → List ℕ → Stage → Type 0
-BarMeans rank count to_come pending numbers next = (p place by : ℕ) × (2 ≤ rank) × (pending ≡ p + 1)
-    × (numbers ≡ place ∷ by ∷ []) × (place < count) × (by < count) × (next ≡ stage.Node rank count to_come pending)
+BarMeans version count to_come pending numbers next = (p place by : ℕ) × (2 ≤ version) × (pending ≡ p + 1)
+    × (numbers ≡ place ∷ by ∷ []) × (place < count) × (by < count) × (next ≡ stage.Node version count to_come pending)
 
 -- how many cells to leave out, some, and these, ascending, of the box, from the third version on; as many trees are to
 -- come as before
 abbrev pub OmitMeans : ℕ → ℕ → ℕ → ℕ → List ℕ → Stage → Type 0
-OmitMeans rank count to_come pending numbers next = (p : ℕ) × (cells : List ℕ) × (3 ≤ rank) × (pending ≡ p + 1)
+OmitMeans version count to_come pending numbers next = (p : ℕ) × (cells : List ℕ) × (3 ≤ version) × (pending ≡ p + 1)
     × (numbers ≡ length cells ∷ cells) × (0 < length cells) × AreListed count cells
-    × (next ≡ stage.Node rank count to_come pending)
+    × (next ≡ stage.Node version count to_come pending)
 
 -- how many groups a weighted leaf has, some, no more than the box has cells, from the third version on; so many groups
 -- come next
 abbrev pub WeightedMeans : ℕ → ℕ → ℕ → ℕ → List ℕ → Stage → Type 0
-WeightedMeans rank count to_come pending numbers next = (groups : ℕ) × (3 ≤ rank) × (numbers ≡ groups ∷ [])
-    × (0 < groups) × (groups ≤ count) × (next ≡ stage.Group rank count to_come pending groups 0)
+WeightedMeans version count to_come pending numbers next = (groups : ℕ) × (3 ≤ version) × (numbers ≡ groups ∷ [])
+    × (0 < groups) × (groups ≤ count) × (next ≡ stage.Group version count to_come pending groups 0)
 
 -- a group with cells of the box, of which the first is at least this one and leaves greater ones for the groups to
 -- come; one group less is to come, and after the last one tree less
 abbrev pub GroupMeans : ℕ → ℕ → ℕ → ℕ → ℕ → ℕ → List ℕ → Stage → Type 0
-GroupMeans rank count to_come pending left from numbers next = (p l : ℕ) × (group : Group) × (pending ≡ p + 1)
+GroupMeans version count to_come pending left from numbers next = (p l : ℕ) × (group : Group) × (pending ≡ p + 1)
     × (left ≡ l + 1) × (numbers ≡ group_numbers group) × IsGroup group
     × All (λ cell. cell < count) (cells_of group.shares) × (from ≤ first_cell group)
-    × (first_cell group + left ≤ count) × (next ≡ after_group rank count to_come p l (first_cell group + 1))
+    × (first_cell group + left ≤ count) × (next ≡ after_group version count to_come p l (first_cell group + 1))

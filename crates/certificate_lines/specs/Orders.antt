@@ -18,7 +18,7 @@ is_region k = false
 
 -- whether a region's dark cells are to come
 abbrev pub awaits_dark : Stage → Bool
-awaits_dark (stage.Dark rank count to_come n t) = true
+awaits_dark (stage.Dark version count to_come n t) = true
 awaits_dark s = false
 
 -- after a line of this kind: a line is that of dark cells just where it comes after a region's first line

@@ -7,21 +7,21 @@ use Rattle.certificate_lines.specs.declared.stage.Stage.TheVariants as stage
 -- cells, torches, trees or groups are to come they are at least one; where groups are, enough cells are left for them
 abbrev pub IsSoundStage : Stage → Type 0
 IsSoundStage stage.Start = Unit {0}
-IsSoundStage (stage.Box rank) = Unit {0}
-IsSoundStage (stage.Headroom rank count) = count ≤ 262144
-IsSoundStage (stage.Need rank count) = count ≤ 262144
-IsSoundStage (stage.Regions rank count) = count ≤ 262144
-IsSoundStage (stage.Region rank count to_come) = (count ≤ 262144) × (to_come ≤ count)
-IsSoundStage (stage.Dark rank count to_come n t) = (count ≤ 262144) × (to_come < count) × (0 < n) × (n ≤ count)
+IsSoundStage (stage.Box version) = Unit {0}
+IsSoundStage (stage.Headroom version count) = count ≤ 262144
+IsSoundStage (stage.Need version count) = count ≤ 262144
+IsSoundStage (stage.Regions version count) = count ≤ 262144
+IsSoundStage (stage.Region version count to_come) = (count ≤ 262144) × (to_come ≤ count)
+IsSoundStage (stage.Dark version count to_come n t) = (count ≤ 262144) × (to_come < count) × (0 < n) × (n ≤ count)
     × (0 < t) × (t ≤ count)
-IsSoundStage (stage.Torches rank count to_come t) = (count ≤ 262144) × (to_come < count) × (0 < t) × (t ≤ count)
-IsSoundStage (stage.Node rank count to_come pending) = (count ≤ 262144) × (to_come < count) × (0 < pending)
-IsSoundStage (stage.Group rank count to_come pending left from) = (count ≤ 262144) × (to_come < count) × (0 < pending)
+IsSoundStage (stage.Torches version count to_come t) = (count ≤ 262144) × (to_come < count) × (0 < t) × (t ≤ count)
+IsSoundStage (stage.Node version count to_come pending) = (count ≤ 262144) × (to_come < count) × (0 < pending)
+IsSoundStage (stage.Group version count to_come pending left from) = (count ≤ 262144) × (to_come < count) × (0 < pending)
     × (0 < left) × (from + left ≤ count)
 IsSoundStage stage.Done = Unit {0}
 
 -- how many trees are still to come
 abbrev pub pending_of : Stage → ℕ
-pending_of (stage.Node rank count to_come pending) = pending
-pending_of (stage.Group rank count to_come pending left from) = pending
+pending_of (stage.Node version count to_come pending) = pending
+pending_of (stage.Group version count to_come pending left from) = pending
 pending_of s = 0

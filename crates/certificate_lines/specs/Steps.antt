@@ -13,32 +13,32 @@ Says word Means text next = (numbers : List ℕ) × (text ≡ line word numbers)
 
 -- what comes after the headroom: how many regions there are in the first version, what is needed in the later ones
 abbrev pub after_headroom : ℕ → ℕ → Stage
-after_headroom rank count = if nat_eq rank 1 then stage.Regions rank count else stage.Need rank count
+after_headroom version count = if nat_eq version 1 then stage.Regions version count else stage.Need version count
 
 -- ---- what the numbers of a line mean
 
 -- the version, from 1 to 3; the box comes next
 abbrev pub StartMeans : List ℕ → Stage → Type 0
-StartMeans numbers next = (rank : ℕ) × (numbers ≡ rank ∷ []) × (0 < rank) × (rank ≤ 3) × (next ≡ stage.Box rank)
+StartMeans numbers next = (version : ℕ) × (numbers ≡ version ∷ []) × (0 < version) × (version ≤ 3) × (next ≡ stage.Box version)
 
 -- the sides of a small box; the headroom comes next
 abbrev pub BoxMeans : ℕ → List ℕ → Stage → Type 0
-BoxMeans rank numbers next = (size : Point) × (numbers ≡ size.x ∷ size.y ∷ size.z ∷ [])
-    × IsTrue (is_small size) × (next ≡ stage.Headroom rank (cell_count size))
+BoxMeans version numbers next = (size : Point) × (numbers ≡ size.x ∷ size.y ∷ size.z ∷ [])
+    × IsTrue (is_small size) × (next ≡ stage.Headroom version (cell_count size))
 
 -- a headroom of 1 or 2; what is needed comes next, or how many regions there are
 abbrev pub HeadroomMeans : ℕ → ℕ → List ℕ → Stage → Type 0
-HeadroomMeans rank count numbers next = ((numbers ≡ 1 ∷ []) ⊎ (numbers ≡ 2 ∷ []))
-    × (next ≡ after_headroom rank count)
+HeadroomMeans version count numbers next = ((numbers ≡ 1 ∷ []) ⊎ (numbers ≡ 2 ∷ []))
+    × (next ≡ after_headroom version count)
 
 -- a need of 1 or 8; how many regions there are comes next
 abbrev pub NeedMeans : ℕ → ℕ → List ℕ → Stage → Type 0
-NeedMeans rank count numbers next = ((numbers ≡ 1 ∷ []) ⊎ (numbers ≡ 8 ∷ [])) × (next ≡ stage.Regions rank count)
+NeedMeans version count numbers next = ((numbers ≡ 1 ∷ []) ⊎ (numbers ≡ 8 ∷ [])) × (next ≡ stage.Regions version count)
 
 -- how many regions there are, no more than the box has cells; so many are to come
 abbrev pub RegionsMeans : ℕ → ℕ → List ℕ → Stage → Type 0
-RegionsMeans rank count numbers next = (k : ℕ) × (numbers ≡ k ∷ []) × (k ≤ count)
-    × (next ≡ stage.Region rank count k)
+RegionsMeans version count numbers next = (k : ℕ) × (numbers ≡ k ∷ []) × (k ≤ count)
+    × (next ≡ stage.Region version count k)
 
 -- no number, and no region is to come; nothing comes next
 abbrev pub EndMeans : ℕ → List ℕ → Stage → Type 0
@@ -46,8 +46,8 @@ EndMeans to_come numbers next = (to_come ≡ 0) × (numbers ≡ []) × (next ≡
 
 -- how many cells and torches a region has, some of each, no more than the box has cells; its cells come next
 abbrev pub RegionMeans : ℕ → ℕ → ℕ → List ℕ → Stage → Type 0
-RegionMeans rank count to_come numbers next = (k n t : ℕ) × (to_come ≡ k + 1) × (numbers ≡ n ∷ t ∷ [])
-    × (0 < n) × (n ≤ count) × (0 < t) × (t ≤ count) × (next ≡ stage.Dark rank count k n t)
+RegionMeans version count to_come numbers next = (k n t : ℕ) × (to_come ≡ k + 1) × (numbers ≡ n ∷ t ∷ [])
+    × (0 < n) × (n ≤ count) × (0 < t) × (t ≤ count) × (next ≡ stage.Dark version count k n t)
 
 -- so many cells of the box, ascending; this stage comes next
 abbrev pub CellsMean : ℕ → ℕ → Stage → List ℕ → Stage → Type 0
@@ -55,36 +55,36 @@ CellsMean count many after numbers next = AreListed count numbers × (length num
 
 -- the cells of the region, ascending, of the box, as many as were told; its torches come next
 abbrev pub DarkMeans : ℕ → ℕ → ℕ → ℕ → ℕ → List ℕ → Stage → Type 0
-DarkMeans rank count to_come n t numbers next = CellsMean count n (stage.Torches rank count to_come t) numbers next
+DarkMeans version count to_come n t numbers next = CellsMean count n (stage.Torches version count to_come t) numbers next
 
 -- the torches of the region, ascending, in the box, as many as were told; its tree comes next
 abbrev pub TorchesMeans : ℕ → ℕ → ℕ → ℕ → List ℕ → Stage → Type 0
-TorchesMeans rank count to_come t numbers next = CellsMean count t (stage.Node rank count to_come 1) numbers next
+TorchesMeans version count to_come t numbers next = CellsMean count t (stage.Node version count to_come 1) numbers next
 
 -- ---- a step
 
 -- the line may come at this stage, and leads to that one
 abbrev pub Takes : Stage → List ℕ → Stage → Type 0
 Takes stage.Start text next = Says (codes "torchproof") StartMeans text next
-Takes (stage.Box rank) text next = Says (codes "box") (BoxMeans rank) text next
-Takes (stage.Headroom rank count) text next = Says (codes "headroom") (HeadroomMeans rank count) text next
-Takes (stage.Need rank count) text next = Says (codes "need") (NeedMeans rank count) text next
-Takes (stage.Regions rank count) text next = Says (codes "regions") (RegionsMeans rank count) text next
-Takes (stage.Region rank count to_come) text next =
+Takes (stage.Box version) text next = Says (codes "box") (BoxMeans version) text next
+Takes (stage.Headroom version count) text next = Says (codes "headroom") (HeadroomMeans version count) text next
+Takes (stage.Need version count) text next = Says (codes "need") (NeedMeans version count) text next
+Takes (stage.Regions version count) text next = Says (codes "regions") (RegionsMeans version count) text next
+Takes (stage.Region version count to_come) text next =
     Says (codes "end") (EndMeans to_come) text next
-    ⊎ Says (codes "region") (RegionMeans rank count to_come) text next
-Takes (stage.Dark rank count to_come n t) text next = Says (codes "D")
-    (DarkMeans rank count to_come n t) text next
-Takes (stage.Torches rank count to_come t) text next = Says (codes "T")
-    (TorchesMeans rank count to_come t) text next
-Takes (stage.Node rank count to_come pending) text next =
-    Says (codes "L") (LeafMeans rank count to_come pending) text next
-    ⊎ Says (codes "B") (BranchMeans rank count to_come pending) text next
-    ⊎ Says (codes "E") (BarMeans rank count to_come pending) text next
-    ⊎ Says (codes "W") (WeightedMeans rank count to_come pending) text next
-    ⊎ Says (codes "D") (OmitMeans rank count to_come pending) text next
-Takes (stage.Group rank count to_come pending left from) text next =
-    Says (codes "G") (GroupMeans rank count to_come pending left from) text next
+    ⊎ Says (codes "region") (RegionMeans version count to_come) text next
+Takes (stage.Dark version count to_come n t) text next = Says (codes "D")
+    (DarkMeans version count to_come n t) text next
+Takes (stage.Torches version count to_come t) text next = Says (codes "T")
+    (TorchesMeans version count to_come t) text next
+Takes (stage.Node version count to_come pending) text next =
+    Says (codes "L") (LeafMeans version count to_come pending) text next
+    ⊎ Says (codes "B") (BranchMeans version count to_come pending) text next
+    ⊎ Says (codes "E") (BarMeans version count to_come pending) text next
+    ⊎ Says (codes "W") (WeightedMeans version count to_come pending) text next
+    ⊎ Says (codes "D") (OmitMeans version count to_come pending) text next
+Takes (stage.Group version count to_come pending left from) text next =
+    Says (codes "G") (GroupMeans version count to_come pending left from) text next
 Takes stage.Done text next = ⊥
 
 -- these lines lead from one stage to the other

@@ -43,49 +43,49 @@ fn after(stage: Stage, kind: LineKind, numbers: &[u32]) -> Option<Stage>
 {
     match stage {
         Stage::Start => after_start(numbers),
-        Stage::Box { rank } => after_box(rank, numbers),
-        Stage::Headroom { rank, count } => after_headroom(rank, count, numbers),
-        Stage::Need { rank, count } => after_need(rank, count, numbers),
-        Stage::Regions { rank, count } => after_regions(rank, count, numbers),
+        Stage::Box { version } => after_box(version, numbers),
+        Stage::Headroom { version, count } => after_headroom(version, count, numbers),
+        Stage::Need { version, count } => after_need(version, count, numbers),
+        Stage::Regions { version, count } => after_regions(version, count, numbers),
         Stage::Region {
-            rank,
+            version,
             count,
             to_come,
         } => match kind {
             LineKind::End => after_end(to_come, numbers),
-            _ => after_region(rank, count, to_come, numbers),
+            _ => after_region(version, count, to_come, numbers),
         },
         Stage::Dark {
-            rank,
+            version,
             count,
             to_come,
             cells,
             torches,
-        } => after_dark(rank, count, to_come, cells, torches, numbers),
+        } => after_dark(version, count, to_come, cells, torches, numbers),
         Stage::Torches {
-            rank,
+            version,
             count,
             to_come,
             torches,
-        } => after_torches(rank, count, to_come, torches, numbers),
+        } => after_torches(version, count, to_come, torches, numbers),
         Stage::Node {
-            rank,
+            version,
             count,
             to_come,
             pending,
         } => {
-            let trees = Trees::new(rank, count, to_come, pending);
+            let trees = Trees::new(version, count, to_come, pending);
             after_node_line(trees, kind, numbers)
         }
         Stage::Group {
-            rank,
+            version,
             count,
             to_come,
             pending,
             left,
             from,
         } => {
-            let trees = Trees::new(rank, count, to_come, pending);
+            let trees = Trees::new(version, count, to_come, pending);
             after_group(trees, left, from, numbers)
         }
         Stage::Done => None,
@@ -97,7 +97,7 @@ fn after_node_line(trees: Trees, kind: LineKind, numbers: &[u32]) -> Option<Stag
     requires few { trees.count ≤ 262144 }
     requires room { trees.pending + 262144 < 2 ^ 128 }
     ensures { Decides result (kinds.MeansAt
-        (kinds.node_stage trees.rank trees.count trees.to_come trees.pending) kind numbers.now) }
+        (kinds.node_stage trees.version trees.count trees.to_come trees.pending) kind numbers.now) }
 {
     match kind {
         LineKind::Branch => after_branch(trees, numbers),

@@ -20,38 +20,38 @@ pub record Plan : Type 0 where
 
 abbrev mutual
   -- the number of the first version that knows each node of the tree
-  pub rank_for : Tree → ℕ
-  rank_for (leaf cells) = 1
-  rank_for (weighted groups) = 3
-  rank_for (branch cell kids) = ranks_for kids
-  rank_for (bar place by kid) = max (rank_for kid) 2
-  rank_for (omit cells kid) = 3
+  pub version_for : Tree → ℕ
+  version_for (leaf cells) = 1
+  version_for (weighted groups) = 3
+  version_for (branch cell kids) = versions_for kids
+  version_for (bar place by kid) = max (version_for kid) 2
+  version_for (omit cells kid) = 3
 
   -- the number of the first version that knows each node of the trees
-  pub ranks_for : Forest → ℕ
-  ranks_for none = 1
-  ranks_for (more tree trees) = max (rank_for tree) (ranks_for trees)
+  pub versions_for : Forest → ℕ
+  versions_for none = 1
+  versions_for (more tree trees) = max (version_for tree) (versions_for trees)
 
 -- the number of the first version that knows each node of the plans' trees
-abbrev pub plans_rank : List Plan → ℕ
-plans_rank [] = 1
-plans_rank (plan ∷ plans) = max (rank_for plan.tree) (plans_rank plans)
+abbrev pub plans_version : List Plan → ℕ
+plans_version [] = 1
+plans_version (plan ∷ plans) = max (version_for plan.tree) (plans_version plans)
 
 -- the number of the first version that speaks of this need
-abbrev pub need_rank : ℕ → ℕ
-need_rank need = if nat_eq need 1 then 1 else 2
+abbrev pub need_version : ℕ → ℕ
+need_version need = if nat_eq need 1 then 1 else 2
 
 -- the number of the first version that can say all
-abbrev pub rank_needed : ℕ → List Plan → ℕ
-rank_needed need plans = max (need_rank need) (plans_rank plans)
+abbrev pub version_needed : ℕ → List Plan → ℕ
+version_needed need plans = max (need_version need) (plans_version plans)
 
 -- the version with this number, under this need
 abbrev pub version_at : ℕ → ℕ → Version
-version_at need rank = if nat_le 3 rank then third need else (if nat_le 2 rank then second need else first)
+version_at need version = if nat_le 3 version then third need else (if nat_le 2 version then second need else first)
 
 -- the version for these plans under this need: the first that can say all
 abbrev pub version_of : ℕ → List Plan → Version
-version_of need plans = version_at need (rank_needed need plans)
+version_of need plans = version_at need (version_needed need plans)
 
 -- the section of a plan: its cells, its torches in order, and its tree with the cells of each leaf in order
 abbrev pub section_of : Plan → Section

@@ -10,7 +10,7 @@ ghost use Rattle.certificate_text.specs.Writing.{AppendsFront};
 
 use crate::fault::WriteFault;
 use crate::heading::heading;
-use crate::ranks::rank_of;
+use crate::versions::least_version;
 use crate::sections::put_section;
 use crate::sink::Sink;
 use cave_model::World;
@@ -24,22 +24,22 @@ use std::sync::Arc;
 pub type Planned = (Arc<Region>, Cover, Proof);
 
 /// The number of the first version that can say all: the second where more light is needed.
-fn rank_needed(world: &World, parts: &[Planned]) -> u8
-    ensures { result ≡ planned.rank_needed world.now.rule.need (plans_of parts.now) }
+fn version_needed(world: &World, parts: &[Planned]) -> u8
+    ensures { result ≡ planned.version_needed world.now.rule.need (plans_of parts.now) }
 {
-    let mut rank = if world.need() == 1 { 1 } else { 2 };
+    let mut version = if world.need() == 1 { 1 } else { 2 };
     for part in parts {
-        rank = part_rank(part).max(rank);
+        version = part_version(part).max(version);
     }
-    rank
+    version
 }
 
 /// The number of the first version that knows each node of the region's tree.
-fn part_rank(part: &Planned) -> u8
-    ensures { result ≡ planned.rank_for (plan_of part.now).tree }
+fn part_version(part: &Planned) -> u8
+    ensures { result ≡ planned.version_for (plan_of part.now).tree }
 {
     let (_, _, proof) = part;
-    rank_of(proof)
+    least_version(proof)
 }
 
 /// Puts the lines of one region behind what is on its way.
@@ -72,7 +72,7 @@ fn put_certificate<W: Write>(
     ensures { IsSent W.contents result sink.old sink.new
         (planned.certificate_text world.now (plans_of parts.now)) }
 {
-    let version = rank_needed(world, parts);
+    let version = version_needed(world, parts);
     let heading = heading(sink.alloc, world, parts.len(), version)?;
     sink.put_text(heading.as_str())?;
     put_body(sink, parts)

@@ -7,7 +7,7 @@ mod groups;
 mod heading;
 mod line;
 mod nodes;
-mod ranks;
+mod versions;
 mod sections;
 mod sink;
 mod writing;

@@ -22,11 +22,11 @@ pub data Version : Type 0 where
   fourth : ℕ → Version
 
 -- its number
-abbrev pub rank_of : Version → ℕ
-rank_of first = 1
-rank_of (second need) = 2
-rank_of (third need) = 3
-rank_of (fourth need) = 4
+abbrev pub version_number : Version → ℕ
+version_number first = 1
+version_number (second need) = 2
+version_number (third need) = 3
+version_number (fourth need) = 4
 
 -- the level that is needed
 abbrev pub need_of : Version → ℕ
@@ -86,21 +86,21 @@ abbrev mutual
   -- the version with this number knows each node of the tree: bars from the second on, weighted leaves and omissions
   -- from the third on, picks from the fourth on
   pub IsKnownTo : ℕ → Tree → Type 0
-  IsKnownTo rank (leaf cells) = Unit {0}
-  IsKnownTo rank (weighted groups) = 3 ≤ rank
-  IsKnownTo rank (branch cell kids) = AreKnownTo rank kids
-  IsKnownTo rank (bar place by kid) = (2 ≤ rank) × IsKnownTo rank kid
-  IsKnownTo rank (omit cells kid) = (3 ≤ rank) × IsKnownTo rank kid
-  IsKnownTo rank (pick place with without) = (4 ≤ rank) × IsKnownTo rank with × IsKnownTo rank without
+  IsKnownTo version (leaf cells) = Unit {0}
+  IsKnownTo version (weighted groups) = 3 ≤ version
+  IsKnownTo version (branch cell kids) = AreKnownTo version kids
+  IsKnownTo version (bar place by kid) = (2 ≤ version) × IsKnownTo version kid
+  IsKnownTo version (omit cells kid) = (3 ≤ version) × IsKnownTo version kid
+  IsKnownTo version (pick place with without) = (4 ≤ version) × IsKnownTo version with × IsKnownTo version without
 
   -- it knows those of each of the trees
   pub AreKnownTo : ℕ → Forest → Type 0
-  AreKnownTo rank none = Unit {0}
-  AreKnownTo rank (more tree trees) = IsKnownTo rank tree × AreKnownTo rank trees
+  AreKnownTo version none = Unit {0}
+  AreKnownTo version (more tree trees) = IsKnownTo version tree × AreKnownTo version trees
 
 -- the version can speak of these sections: it knows their nodes, and has a need of 1 or 8
 pub record IsVersionOf (sections : List Section) (version : Version) : Type 0 where
-  pub known : All (λ section. IsKnownTo (rank_of version) section.tree) sections
+  pub known : All (λ section. IsKnownTo (version_number version) section.tree) sections
   pub needed : (need_of version ≡ 1) ⊎ (need_of version ≡ 8)
 
 -- ascending cells and ascending torches of a box of so many cells, some of each, and a tree in it

@@ -21,7 +21,7 @@ returns-in-Regions c = subst (λ (s : Stage). Decides c.after_regions.result (Me
 
 pub returns-in-Group : goal.returns-in-Group
 returns-in-Group c =
-    let means = subst (λ (t : Trees). Decides c.after_group.result (GroupMeans t.rank t.count t.to_come t.pending
+    let means = subst (λ (t : Trees). Decides c.after_group.result (GroupMeans t.version t.count t.to_come t.pending
     c.in-Group.left c.in-Group.from c.args.numbers.now)) c.new-trees-in-Group.ensures c.after_group.ensures in
     subst (λ (s : Stage). Decides c.after_group.result (MeansAt s c.args.kind c.args.numbers.now))
     (sym c.in-Group.is) means
@@ -29,5 +29,5 @@ returns-in-Group c =
 pub returns-in_default : goal.returns-in_default
 returns-in_default c = subst (λ (s : Stage). Decides c.after_region.result (MeansAt s c.args.kind c.args.numbers.now))
     (sym c.in-Region.is)
-    (region_means c.in-Region.rank c.in-Region.count c.in-Region.to_come c.args.numbers.now c.after_region.result
+    (region_means c.in-Region.version c.in-Region.count c.in-Region.to_come c.args.numbers.now c.after_region.result
     c.args.kind c.in_default.not-End c.after_region.ensures)

@@ -16,7 +16,7 @@ returns-in_err-put_text g c =
     let body = body_text plans in
     let text = ap (λ (l : List ℕ). l ++ body) (c.as_str.ensures.value ∙ c.in_ok-heading.ensures
     ∙ ap (λ (n : ℕ). heading_text c.args.world.now (length c.args.parts.now) (version_at need n))
-    c.rank_needed-version.ensures
+    c.version_needed-version.ensures
     ∙ ap (λ (n : ℕ). heading_text c.args.world.now n (version_of need plans))
     (sym (length-map c.args.parts.now plan_of)))
     ∙ certificate_is c.args.world.now plans in
@@ -29,7 +29,7 @@ returns g c =
     let body = body_text plans in
     let text = ap (λ (l : List ℕ). l ++ body) (c.as_str.ensures.value ∙ c.in_ok-heading.ensures
     ∙ ap (λ (n : ℕ). heading_text c.args.world.now (length c.args.parts.now) (version_at need n))
-    c.rank_needed-version.ensures
+    c.version_needed-version.ensures
     ∙ ap (λ (n : ℕ). heading_text c.args.world.now n (version_of need plans))
     (sym (length-map c.args.parts.now plan_of)))
     ∙ certificate_is c.args.world.now plans in
