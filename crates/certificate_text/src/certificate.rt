@@ -10,9 +10,9 @@ ghost use Rattle.certificate_text.specs.Writing.{AppendsFront};
 
 use crate::fault::WriteFault;
 use crate::heading::heading;
-use crate::versions::least_version;
 use crate::sections::put_section;
 use crate::sink::Sink;
+use crate::versions::least_version;
 use cave_model::World;
 use instance_regions::{Cover, Region};
 use proof_tree::Proof;
