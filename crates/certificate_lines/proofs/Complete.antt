@@ -1,6 +1,6 @@
 -- The lines of a certificate lead to the end.
-use Rattle.std.proofs.Common.{◌≡◌, ℕ, suc, ◌+◌, ◌<◌, ◌≤◌, inl, inr, List, [], ◌∷◌, ◌++◌, length, map, All, refl, sym}
-use Rattle.std.proofs.Common.{subst, arith, append_assoc, get_or}
+use Rattle.std.proofs.Common.{◌≡◌, ℕ, zero, suc, ◌+◌, ◌<◌, ◌≤◌, inl, inr, List, [], ◌∷◌, ◌++◌, length, map, All, refl}
+use Rattle.std.proofs.Common.{sym, subst, arith, append_assoc, get_or}
 use Rattle.std.specs.Prelude.{codes, flat_map}
 use Rattle.std.proofs.lemmas.List.{length-map}
 use Rattle.std.proofs.lemmas.List.Elements.{All-head, All-tail, All-nil, All-cons}
@@ -9,13 +9,14 @@ use Rattle.std.proofs.lemmas.Map.Keys.{sorted_from_strictly_increasing}
 use Rattle.proof_rules.specs.declared.groups.Share.{Share}
 use Rattle.proof_rules.specs.declared.groups.Group.{Group}
 use Rattle.proof_rules.specs.Groups.{cells_of, all_cells_of, first_cells, IsGroup}
-use Rattle.proof_rules.specs.Tree.{Tree, Forest, leaf, weighted, branch, bar, omit, none, more, tree_count}
+use Rattle.proof_rules.specs.Tree.{Tree, Forest, leaf, weighted, branch, bar, omit, pick, none, more, tree_count}
 use Rattle.proof_rules.specs.Certificate.{Section, AreListed, AreGroupsIn, IsTreeIn, AreTreesIn, IsKnownTo, AreKnownTo}
 use Rattle.proof_rules.specs.Certificate.{IsSectionIn}
 use Rattle.proof_rules.specs.Text.{group_line, forest_lines, tree_lines, section_lines}
 use Rattle.certificate_lines.specs.Nodes.{after_node, after_group, first_cell, group_numbers}
 use Rattle.certificate_lines.specs.Steps.{Leads}
 use Rattle.certificate_lines.proofs.ShareLemmas.{AscendFrom, ascend_from, ascend_few}
+use Rattle.certificate_lines.specs.declared.stage.Stage.{Stage}
 use Rattle.certificate_lines.specs.declared.stage.Stage.TheVariants as stage
 
 -- ascending cells below a count are no more than that
@@ -62,6 +63,12 @@ groups_few count gs i =
     let a : AscendFrom 0 (first_cells gs) = ascend_from (first_cells gs) 0 f.ordered (λ s. omega arith) in
     let m : length (first_cells gs) ≡ length gs = length-map gs (λ (o : Group). first_cell o) in
     omega (arith, ascend_few count (first_cells gs) 0 a firsts (omega (arith, f.filled)))
+
+-- with some trees still to come, the first line of one is
+pub node_next : (version count to_come pending : ℕ) → 0 < pending
+    → after_node version count to_come pending ≡ stage.Node version count to_come pending
+node_next version count to_come zero some = absurd (omega arith)
+node_next version count to_come (suc p) some = refl
 
 module _ (version count to_come : ℕ) where
   -- the lines of groups
@@ -135,9 +142,21 @@ module _ (version count to_come : ℕ) where
     )
     leads_tree (omit cells kid) i b p q e after h = (
       stage.Node version count to_come q,
-      inr (inr (inr (inr (length cells ∷ cells, refl, (p, cells, b.0, e, refl, i.1, i.0, refl))))),
+      inr (inr (inr (inr (inl (length cells ∷ cells, refl, (p, cells, b.0, e, refl, i.1, i.0, refl)))))),
       leads_tree kid i.2 b.1 p q e after h,
     )
+    leads_tree (pick place with without) i b p q e after h =
+        let last : Leads (tree_lines without ++ after) (after_node version count to_come q) stage.Done =
+        subst (λ (s : Stage). Leads (tree_lines without ++ after) s stage.Done)
+        (sym (node_next version count to_come q (omega (arith, e)))) (leads_tree without i.2 b.2 p q e after h) in
+        let both : Leads (tree_lines with ++ (tree_lines without ++ after))
+        (stage.Node version count to_come (q + 1)) stage.Done =
+        leads_tree with i.1 b.1 q (q + 1) refl (tree_lines without ++ after) last in (
+          stage.Node version count to_come (q + 1),
+          inr (inr (inr (inr (inr (place ∷ [], refl, (p, place, b.0, e, refl, i.0, refl)))))),
+          subst (λ (ls : List (List ℕ)). Leads ls (stage.Node version count to_come (q + 1)) stage.Done)
+              (sym (append_assoc (tree_lines with) (tree_lines without) after)) both,
+        )
 
     pub leads_trees : (ts : Forest) → AreTreesIn count ts → AreKnownTo version ts
         → (p : ℕ) (after : List (List ℕ)) → Leads after (after_node version count to_come p) stage.Done
@@ -163,8 +182,8 @@ module _ (version count : ℕ) where
       let rest : Leads last (stage.Region version count (length ss)) stage.Done = leads_sections ss
       (All-tail (IsSectionIn count) s ss a) (All-tail (λ section. IsKnownTo version section.tree) s ss b) in
       let nodes : Leads (tree_lines s.tree ++ last) (stage.Node version count (length ss) 1) stage.Done =
-      leads_tree version count (length ss) s.tree i.proof (All-head (λ section. IsKnownTo version section.tree) s ss b) 0
-      1 refl last rest in
+      leads_tree version count (length ss) s.tree i.proof
+      (All-head (λ section. IsKnownTo version section.tree) s ss b) 0 1 refl last rest in
       let all : Leads (section_lines s ++ last) (stage.Region version count (suc (length ss))) stage.Done = (
         stage.Dark version count (length ss) (length s.cells) (length s.torches),
         inr (

@@ -13,7 +13,8 @@ use Rattle.certificate_lines.proofs.Digits.{AreDigits, digits_of}
 use Rattle.certificate_lines.proofs.Walk.{sound_after}
 use Rattle.certificate_lines.proofs.Lift.{AreSmall, and_both, start_small, box_small, headroom_small, need_small}
 use Rattle.certificate_lines.proofs.Lift.{regions_small, end_small, region_small, dark_small, torches_small}
-use Rattle.certificate_lines.proofs.Lift.{leaf_small, branch_small, bar_small, weighted_small, omit_small, group_small}
+use Rattle.certificate_lines.proofs.Lift.{leaf_small, branch_small, bar_small, weighted_small, omit_small, pick_small}
+use Rattle.certificate_lines.proofs.Lift.{group_small}
 use Rattle.certificate_lines.specs.declared.stage.Stage.{Stage}
 use Rattle.certificate_lines.specs.declared.stage.Stage.TheVariants as stage
 
@@ -91,7 +92,8 @@ clean_takes stage.Start next text h t = clean_says (codes "torchproof") text _ n
 clean_takes (stage.Box version) next text h t = clean_says (codes "box") text _ next refl (box_small version) t
 clean_takes (stage.Headroom version count) next text h t = clean_says (codes "headroom") text _ next refl
     (headroom_small version count) t
-clean_takes (stage.Need version count) next text h t = clean_says (codes "need") text _ next refl (need_small version count) t
+clean_takes (stage.Need version count) next text h t = clean_says (codes "need") text _ next refl
+    (need_small version count) t
 clean_takes (stage.Regions version count) next text h t = clean_says (codes "regions") text _ next refl
     (regions_small version count h) t
 clean_takes (stage.Region version count to_come) next text h (inl t) = clean_says (codes "end") text _ next refl
@@ -110,8 +112,10 @@ clean_takes (stage.Node version count to_come pending) next text h (inr (inr (in
     clean_says (codes "E") text _ next refl (bar_small version count to_come pending h.0) t
 clean_takes (stage.Node version count to_come pending) next text h (inr (inr (inr (inl t)))) =
     clean_says (codes "W") text _ next refl (weighted_small version count to_come pending h.0) t
-clean_takes (stage.Node version count to_come pending) next text h (inr (inr (inr (inr t)))) =
+clean_takes (stage.Node version count to_come pending) next text h (inr (inr (inr (inr (inl t))))) =
     clean_says (codes "D") text _ next refl (omit_small version count to_come pending h.0) t
+clean_takes (stage.Node version count to_come pending) next text h (inr (inr (inr (inr (inr t))))) =
+    clean_says (codes "P") text _ next refl (pick_small version count to_come pending h.0) t
 clean_takes (stage.Group version count to_come pending left from) next text h t =
     clean_says (codes "G") text _ next refl (group_small version count to_come pending left from h.0) t
 clean_takes stage.Done next text h t = absurd t

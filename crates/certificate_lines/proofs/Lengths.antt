@@ -8,7 +8,7 @@ use Rattle.certificate_lines.specs.Sound.{IsSoundStage}
 use Rattle.certificate_lines.specs.Steps.{Takes, Says}
 use Rattle.certificate_lines.proofs.Lift.{AreSmall, start_small, box_small, headroom_small, need_small, regions_small}
 use Rattle.certificate_lines.proofs.Lift.{end_small, region_small, dark_small, torches_small, leaf_small}
-use Rattle.certificate_lines.proofs.Lift.{branch_small, bar_small, weighted_small, omit_small, group_small}
+use Rattle.certificate_lines.proofs.Lift.{branch_small, bar_small, weighted_small, omit_small, pick_small, group_small}
 use Rattle.certificate_lines.specs.declared.stage.Stage.{Stage}
 use Rattle.certificate_lines.specs.declared.stage.Stage.TheVariants as stage
 
@@ -55,12 +55,14 @@ short_line (stage.Node version count to_come pending) next text h (inl t) = shor
     (leaf_small version count to_come pending h.0) (omega arith) t
 short_line (stage.Node version count to_come pending) next text h (inr (inl t)) = short_says (codes "B") text _ next
     (branch_small version count to_come pending h.0) (omega arith) t
-short_line (stage.Node version count to_come pending) next text h (inr (inr (inl t))) = short_says (codes "E") text _ next
-    (bar_small version count to_come pending h.0) (omega arith) t
+short_line (stage.Node version count to_come pending) next text h (inr (inr (inl t))) =
+    short_says (codes "E") text _ next (bar_small version count to_come pending h.0) (omega arith) t
 short_line (stage.Node version count to_come pending) next text h (inr (inr (inr (inl t)))) =
     short_says (codes "W") text _ next (weighted_small version count to_come pending h.0) (omega arith) t
-short_line (stage.Node version count to_come pending) next text h (inr (inr (inr (inr t)))) =
+short_line (stage.Node version count to_come pending) next text h (inr (inr (inr (inr (inl t))))) =
     short_says (codes "D") text _ next (omit_small version count to_come pending h.0) (omega arith) t
+short_line (stage.Node version count to_come pending) next text h (inr (inr (inr (inr (inr t))))) =
+    short_says (codes "P") text _ next (pick_small version count to_come pending h.0) (omega arith) t
 short_line (stage.Group version count to_come pending left from) next text h t = short_says (codes "G") text _ next
     (group_small version count to_come pending left from h.0) (omega arith) t
 short_line stage.Done next text h t = absurd t

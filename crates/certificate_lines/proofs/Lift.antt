@@ -11,8 +11,8 @@ use Rattle.proof_rules.specs.declared.groups.Share.{Share}
 use Rattle.proof_rules.specs.declared.groups.Group.{Group}
 use Rattle.proof_rules.specs.Groups.{cells_of, IsGroup}
 use Rattle.proof_rules.specs.Text.{line}
-use Rattle.certificate_lines.specs.Nodes.{LeafMeans, BranchMeans, BarMeans, OmitMeans, WeightedMeans, GroupMeans}
-use Rattle.certificate_lines.specs.Nodes.{group_numbers}
+use Rattle.certificate_lines.specs.Nodes.{LeafMeans, BranchMeans, BarMeans, OmitMeans, PickMeans, WeightedMeans}
+use Rattle.certificate_lines.specs.Nodes.{GroupMeans, group_numbers}
 use Rattle.certificate_lines.specs.Said.{share_numbers}
 use Rattle.proof_rules.specs.Certificate.{AreListed}
 use Rattle.certificate_lines.specs.Numbers.{IsSmall, most_numbers}
@@ -197,7 +197,8 @@ bar_small version count to_come pending few =
       few = λ ns s m. omega (arith, ap length m.5);
     }
 
-pub omit_small : (version count to_come pending : ℕ) → count ≤ 262144 → AreSmall (OmitMeans version count to_come pending)
+pub omit_small : (version count to_come pending : ℕ) → count ≤ 262144
+    → AreSmall (OmitMeans version count to_come pending)
 omit_small version count to_come pending few =
     record {
       each = λ ns s m. subst (All IsSmall) (sym m.4)
@@ -205,6 +206,11 @@ omit_small version count to_come pending few =
           (listed_small count m.1 few m.6));
       few = λ ns s m. omega (arith, ap length m.4, listed_few count m.1 m.6);
     }
+
+pub pick_small : (version count to_come pending : ℕ) → count ≤ 262144
+    → AreSmall (PickMeans version count to_come pending)
+pick_small version count to_come pending few =
+    record { each = λ ns s m. one_small m.1 ns m.4 (omega (arith, m.5)); few = λ ns s m. omega (arith, ap length m.4) }
 
 pub weighted_small : (version count to_come pending : ℕ) → count ≤ 262144
     → AreSmall (WeightedMeans version count to_come pending)
@@ -248,7 +254,7 @@ group_small version count to_come pending left from few =
       few = λ ns s m. omega (arith, ap length m.5, group_few count m.2 m.6 m.7, length-share_numbers m.2.shares);
     }
 
--- ---- the two lines that may come where a region may, and the five where a node does
+-- ---- the two lines that may come where a region may, and the six where a node does
 
 pub at_end : (version : ℕ) (count to_come : ℕ) (text : List ℕ) (r : Option Stage) → to_come ≡ 0
     → Decides r (Says (codes "end") (EndMeans to_come) text)
@@ -283,15 +289,21 @@ module _ (version count to_come pending : ℕ) (text : List ℕ) (r : Option Sta
   abbrev Omit : Stage → Type 0
   Omit = Says (codes "D") (OmitMeans version count to_come pending) text
 
-  -- the last two, the last three, and all but a leaf
+  abbrev Pick : Stage → Type 0
+  Pick = Says (codes "P") (PickMeans version count to_come pending) text
+
+  -- the last two, the last three and so on, up to all but a leaf
   abbrev LastTwo : Stage → Type 0
-  LastTwo s = Weighted s ⊎ Omit s
+  LastTwo s = Omit s ⊎ Pick s
 
   abbrev LastThree : Stage → Type 0
-  LastThree s = Bar s ⊎ LastTwo s
+  LastThree s = Weighted s ⊎ LastTwo s
 
   abbrev LastFour : Stage → Type 0
-  LastFour s = Branch s ⊎ LastThree s
+  LastFour s = Bar s ⊎ LastThree s
+
+  abbrev LastFive : Stage → Type 0
+  LastFive s = Branch s ⊎ LastFour s
 
   -- the first byte of each
   leaf_head : (s : Stage) → Leaf s → get_or text 0 0 ≡ 76
@@ -309,54 +321,83 @@ module _ (version count to_come pending : ℕ) (text : List ℕ) (r : Option Sta
   omit_head : (s : Stage) → Omit s → get_or text 0 0 ≡ 68
   omit_head s m = head_of text (line (codes "D") m.0) m.1
 
-  not_two : get_or text 0 0 ≢ 87 → get_or text 0 0 ≢ 68 → (s : Stage) → LastTwo s → ⊥
+  pick_head : (s : Stage) → Pick s → get_or text 0 0 ≡ 80
+  pick_head s m = head_of text (line (codes "P") m.0) m.1
+
+  -- a line that begins otherwise is none of them
+  not_two : get_or text 0 0 ≢ 68 → get_or text 0 0 ≢ 80 → (s : Stage) → LastTwo s → ⊥
   not_two a b s m = elim m [
-    | inl w ↦ a (weighted_head s w)
-    | inr o ↦ b (omit_head s o)
+    | inl o ↦ a (omit_head s o)
+    | inr p ↦ b (pick_head s p)
   ]
 
-  not_three : get_or text 0 0 ≢ 69 → get_or text 0 0 ≢ 87 → get_or text 0 0 ≢ 68 → (s : Stage) → LastThree s → ⊥
+  not_three : get_or text 0 0 ≢ 87 → get_or text 0 0 ≢ 68 → get_or text 0 0 ≢ 80 → (s : Stage) → LastThree s → ⊥
   not_three a b c s m = elim m [
-    | inl e ↦ a (bar_head s e)
+    | inl w ↦ a (weighted_head s w)
     | inr l ↦ not_two b c s l
   ]
 
-  not_four : get_or text 0 0 ≢ 66 → get_or text 0 0 ≢ 69 → get_or text 0 0 ≢ 87 → get_or text 0 0 ≢ 68 → (s : Stage)
+  not_four : get_or text 0 0 ≢ 69 → get_or text 0 0 ≢ 87 → get_or text 0 0 ≢ 68 → get_or text 0 0 ≢ 80 → (s : Stage)
       → LastFour s → ⊥
   not_four a b c d s m = elim m [
-    | inl e ↦ a (branch_head s e)
+    | inl e ↦ a (bar_head s e)
     | inr l ↦ not_three b c d s l
   ]
 
-  pub at_leaf : get_or text 0 0 ≢ 66 → get_or text 0 0 ≢ 69 → get_or text 0 0 ≢ 87 → get_or text 0 0 ≢ 68
-      → Decides r (Says (codes "L") (LeafMeans version count to_come pending) text)
+  not_five : get_or text 0 0 ≢ 66 → get_or text 0 0 ≢ 69 → get_or text 0 0 ≢ 87 → get_or text 0 0 ≢ 68
+      → get_or text 0 0 ≢ 80 → (s : Stage) → LastFive s → ⊥
+  not_five a b c d e s m = elim m [
+    | inl h ↦ a (branch_head s h)
+    | inr l ↦ not_four b c d e s l
+  ]
+
+  -- what comes later in the list decides where the line begins otherwise than those before
+  past_leaf : get_or text 0 0 ≢ 76 → Decides r LastFive
       → Decides r (Takes (stage.Node version count to_come pending) text)
-  at_leaf a b c d h = pick_left Leaf LastFour r (not_four a b c d) h
+  past_leaf a h = pick_right Leaf LastFive r (λ s m. a (leaf_head s m)) h
+
+  past_branch : get_or text 0 0 ≢ 76 → get_or text 0 0 ≢ 66 → Decides r LastFour
+      → Decides r (Takes (stage.Node version count to_come pending) text)
+  past_branch a b h = past_leaf a (pick_right Branch LastFour r (λ s m. b (branch_head s m)) h)
+
+  past_bar : get_or text 0 0 ≢ 76 → get_or text 0 0 ≢ 66 → get_or text 0 0 ≢ 69 → Decides r LastThree
+      → Decides r (Takes (stage.Node version count to_come pending) text)
+  past_bar a b c h = past_branch a b (pick_right Bar LastThree r (λ s m. c (bar_head s m)) h)
+
+  past_weighted : get_or text 0 0 ≢ 76 → get_or text 0 0 ≢ 66 → get_or text 0 0 ≢ 69 → get_or text 0 0 ≢ 87
+      → Decides r LastTwo → Decides r (Takes (stage.Node version count to_come pending) text)
+  past_weighted a b c d h = past_bar a b c (pick_right Weighted LastTwo r (λ s m. d (weighted_head s m)) h)
+
+  pub at_leaf : get_or text 0 0 ≢ 66 → get_or text 0 0 ≢ 69 → get_or text 0 0 ≢ 87 → get_or text 0 0 ≢ 68
+      → get_or text 0 0 ≢ 80 → Decides r (Says (codes "L") (LeafMeans version count to_come pending) text)
+      → Decides r (Takes (stage.Node version count to_come pending) text)
+  at_leaf a b c d e h = pick_left Leaf LastFive r (not_five a b c d e) h
 
   pub at_branch : get_or text 0 0 ≡ 66 → Decides r (Says (codes "B") (BranchMeans version count to_come pending) text)
       → Decides r (Takes (stage.Node version count to_come pending) text)
-  at_branch is h = pick_right Leaf LastFour r (λ s m. let f = leaf_head s m in omega arith)
-      (pick_left Branch LastThree r (not_three (λ e. omega arith) (λ e. omega arith) (λ e. omega arith)) h)
+  at_branch is h = past_leaf (λ e. omega arith) (pick_left Branch LastFour r
+      (not_four (λ e. omega arith) (λ e. omega arith) (λ e. omega arith) (λ e. omega arith)) h)
 
   pub at_bar : get_or text 0 0 ≡ 69 → Decides r (Says (codes "E") (BarMeans version count to_come pending) text)
       → Decides r (Takes (stage.Node version count to_come pending) text)
-  at_bar is h = pick_right Leaf LastFour r (λ s m. let f = leaf_head s m in omega arith)
-      (pick_right Branch LastThree r (λ s m. let f = branch_head s m in omega arith)
-      (pick_left Bar LastTwo r (not_two (λ e. omega arith) (λ e. omega arith)) h))
+  at_bar is h = past_branch (λ e. omega arith) (λ e. omega arith) (pick_left Bar LastThree r
+      (not_three (λ e. omega arith) (λ e. omega arith) (λ e. omega arith)) h)
 
-  pub at_weighted : get_or text 0 0 ≡ 87 → Decides r (Says (codes "W") (WeightedMeans version count to_come pending) text)
+  pub at_weighted : get_or text 0 0 ≡ 87
+      → Decides r (Says (codes "W") (WeightedMeans version count to_come pending) text)
       → Decides r (Takes (stage.Node version count to_come pending) text)
-  at_weighted is h = pick_right Leaf LastFour r (λ s m. let f = leaf_head s m in omega arith)
-      (pick_right Branch LastThree r (λ s m. let f = branch_head s m in omega arith)
-      (pick_right Bar LastTwo r (λ s m. let f = bar_head s m in omega arith)
-      (pick_left Weighted Omit r (λ s m. let f = omit_head s m in omega arith) h)))
+  at_weighted is h = past_bar (λ e. omega arith) (λ e. omega arith) (λ e. omega arith) (pick_left Weighted LastTwo r
+      (not_two (λ e. omega arith) (λ e. omega arith)) h)
 
   pub at_omit : get_or text 0 0 ≡ 68 → Decides r (Says (codes "D") (OmitMeans version count to_come pending) text)
       → Decides r (Takes (stage.Node version count to_come pending) text)
-  at_omit is h = pick_right Leaf LastFour r (λ s m. let f = leaf_head s m in omega arith)
-      (pick_right Branch LastThree r (λ s m. let f = branch_head s m in omega arith)
-      (pick_right Bar LastTwo r (λ s m. let f = bar_head s m in omega arith)
-      (pick_right Weighted Omit r (λ s m. let f = weighted_head s m in omega arith) h)))
+  at_omit is h = past_weighted (λ e. omega arith) (λ e. omega arith) (λ e. omega arith) (λ e. omega arith)
+      (pick_left Omit Pick r (λ s m. let f = pick_head s m in omega arith) h)
+
+  pub at_pick : get_or text 0 0 ≡ 80 → Decides r (Says (codes "P") (PickMeans version count to_come pending) text)
+      → Decides r (Takes (stage.Node version count to_come pending) text)
+  at_pick is h = past_weighted (λ e. omega arith) (λ e. omega arith) (λ e. omega arith) (λ e. omega arith)
+      (pick_right Omit Pick r (λ s m. let f = omit_head s m in omega arith) h)
 
 pub off : (b : Bool) (A B : Type 0) → b ≡ false → MatchBool b A B → B
 off true A B e h = absurd cc

@@ -4,13 +4,14 @@ use Rattle.std.proofs.Common.{subst, ap, append_assoc, arith, ◌∙◌}
 use Rattle.std.specs.Prelude.{Bool, true, false, flat_map, nat_eq, if◌then◌else◌}
 use Rattle.std.proofs.lemmas.Bool.{eqb-true}
 use Rattle.proof_rules.specs.declared.groups.Group.{Group}
-use Rattle.proof_rules.specs.Tree.{Tree, Forest, leaf, weighted, branch, bar, omit, none, more}
-use Rattle.proof_rules.specs.Certificate.{Section, Version, first, second, third, Certificate}
+use Rattle.proof_rules.specs.Tree.{Tree, Forest, leaf, weighted, branch, bar, omit, pick, none, more}
+use Rattle.proof_rules.specs.Certificate.{Section, Version, first, second, third, fourth, Certificate}
 use Rattle.certificate_lines.specs.Nodes.{after_node, after_group, first_cell}
 use Rattle.certificate_lines.specs.Kinds.{kind_at, node_kind, region_kind}
 use Rattle.certificate_lines.specs.Orders.{is_dark, is_region, awaits_dark, IsOrdered, last_kind, AreInOrder}
 use Rattle.certificate_lines.specs.Said.{Said, said, group_said, tree_said, forest_said, section_said, said_of}
 use Rattle.certificate_lines.specs.Steps.{Takes, after_headroom}
+use Rattle.certificate_lines.proofs.KindLemmas.{one_of}
 use Rattle.certificate_lines.specs.declared.kind.LineKind.{LineKind}
 use Rattle.certificate_lines.specs.declared.kind.LineKind.TheVariants as kind
 use Rattle.certificate_lines.specs.declared.stage.Stage.{Stage}
@@ -35,6 +36,11 @@ mutual
   tree_free (branch cell kids) after f = λ k h. (sym h, forest_free kids after f kind.Branch refl)
   tree_free (bar place by kid) after f = λ k h. (sym h, tree_free kid after f kind.Bar refl)
   tree_free (omit cells kid) after f = λ k h. (sym h, tree_free kid after f kind.Omit refl)
+  tree_free (pick place with without) after f = λ k h. (
+    sym h,
+    subst IsFree (sym (append_assoc (tree_said with) (tree_said without) after))
+        (tree_free with (tree_said without ++ after) (tree_free without after f)) kind.Pick refl,
+  )
 
   -- of trees
   forest_free : (ts : Forest) (after : List Said) → IsFree after → IsFree (forest_said ts ++ after)
@@ -69,6 +75,7 @@ said_ordered c = go c.version where
   go first = (refl, (refl, (refl, rest kind.Headroom refl)))
   go (second need) = (refl, (refl, (refl, (refl, rest kind.Need refl))))
   go (third need) = (refl, (refl, (refl, (refl, rest kind.Need refl))))
+  go (fourth need) = (refl, (refl, (refl, (refl, rest kind.Need refl))))
 
 -- ---- a line more
 
@@ -83,24 +90,16 @@ last_push : (before : LineKind) (all : List Said) (s : Said) → last_kind befor
 last_push before [] s = refl
 last_push before (x ∷ all) s = last_push x.kind all s
 
--- the kind of a node's line, by the tests of its first byte
-abbrev one_of : Bool → Bool → Bool → Bool → LineKind
-one_of b d w o =
-    if b then kind.Branch else
-    if d then kind.Bar else
-    if w then kind.Weighted else
-    if o then kind.Omit else
-    kind.Leaf
-
--- is neither
+-- a node's line is neither that of dark cells nor a region's first
 node_other : (head : ℕ) → (is_dark (node_kind head) ≡ false) × (is_region (node_kind head) ≡ false)
-node_other head = go (nat_eq head 66) (nat_eq head 69) (nat_eq head 87) (nat_eq head 68) where
-  go : (b d w o : Bool) → (is_dark (one_of b d w o) ≡ false) × (is_region (one_of b d w o) ≡ false)
-  go true d w o = (refl, refl)
-  go false true w o = (refl, refl)
-  go false false true o = (refl, refl)
-  go false false false true = (refl, refl)
-  go false false false false = (refl, refl)
+node_other head = go (nat_eq head 66) (nat_eq head 69) (nat_eq head 87) (nat_eq head 68) (nat_eq head 80) where
+  go : (b d w o c : Bool) → (is_dark (one_of b d w o c) ≡ false) × (is_region (one_of b d w o c) ≡ false)
+  go true d w o c = (refl, refl)
+  go false true w o c = (refl, refl)
+  go false false true o c = (refl, refl)
+  go false false false true c = (refl, refl)
+  go false false false false true = (refl, refl)
+  go false false false false false = (refl, refl)
 
 -- a line is that of dark cells just where such a line is to come
 dark_kind : (s : Stage) (text : List ℕ) → is_dark (kind_at s text) ≡ awaits_dark s
@@ -166,8 +165,10 @@ dark_after (stage.Node version count to_come pending) next text (inr (inr (inl (
     ∙ sym (node_other (get_or text 0 0)).1
 dark_after (stage.Node version count to_come pending) next text (inr (inr (inr (inl (ns, e, m))))) = ap awaits_dark m.5
     ∙ sym (node_other (get_or text 0 0)).1
-dark_after (stage.Node version count to_come pending) next text (inr (inr (inr (inr (ns, e, m))))) = ap awaits_dark m.7
-    ∙ sym (node_other (get_or text 0 0)).1
+dark_after (stage.Node version count to_come pending) next text (inr (inr (inr (inr (inl (ns, e, m)))))) =
+    ap awaits_dark m.7 ∙ sym (node_other (get_or text 0 0)).1
+dark_after (stage.Node version count to_come pending) next text (inr (inr (inr (inr (inr (ns, e, m)))))) =
+    ap awaits_dark m.6 ∙ sym (node_other (get_or text 0 0)).1
 dark_after (stage.Group version count to_come pending left from) next text (ns, e, m) = ap awaits_dark m.10
     ∙ group_other version count to_come m.0 m.1 (first_cell m.2 + 1)
 dark_after stage.Done next text m = absurd m

@@ -59,6 +59,7 @@ Rest (stage.Region version count to_come) lines = SectionsRest version count to_
 Rest (stage.Dark version count to_come n t) lines = DarkRest version count to_come n t lines
 Rest (stage.Torches version count to_come t) lines = TorchesRest version count to_come t lines
 Rest (stage.Node version count to_come pending) lines = NodesRest version count to_come pending lines
-Rest (stage.Group version count to_come pending left from) lines = GroupsRest version count to_come pending left from lines
+Rest (stage.Group version count to_come pending left from) lines =
+    GroupsRest version count to_come pending left from lines
 Rest stage.Done lines = lines ≡ []
 Rest s lines = Unit {0}

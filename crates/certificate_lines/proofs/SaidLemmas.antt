@@ -1,11 +1,11 @@
 -- What the lines of a certificate say, and that no other lines say it.
-use Rattle.std.proofs.Common.{◌≡◌, ℕ, ◌<◌, ◌≤◌, inl, inr, List, [], ◌∷◌, ◌++◌, length, get_or, map, All, refl, sym, ap}
-use Rattle.std.proofs.Common.{subst, ◌∙◌, arith, append_assoc}
+use Rattle.std.proofs.Common.{◌≡◌, ℕ, ◌<◌, ◌≤◌, ◌⊎◌, inl, inr, List, [], ◌∷◌, ◌++◌, length, get_or, map, All, refl}
+use Rattle.std.proofs.Common.{sym, ap, subst, ◌∙◌, arith, append_assoc}
 use Rattle.std.specs.Prelude.{Bool, true, false, codes, flat_map, nat_eq, if◌then◌else◌}
 use Rattle.std.proofs.lemmas.List.Elements.{All-nil, All-cons, All-head, All-tail}
-use Rattle.proof_rules.specs.Tree.{Tree, Forest, leaf, weighted, branch, bar, omit, none, more, tree_count}
-use Rattle.proof_rules.specs.Certificate.{Section, Version, first, second, third, Certificate, AreListed, IsTreeIn}
-use Rattle.proof_rules.specs.Certificate.{AreTreesIn, IsSectionIn, IsInRange, IsVersionOf}
+use Rattle.proof_rules.specs.Tree.{Tree, Forest, leaf, weighted, branch, bar, omit, pick, none, more, tree_count}
+use Rattle.proof_rules.specs.Certificate.{Section, Version, first, second, third, fourth, Certificate, AreListed}
+use Rattle.proof_rules.specs.Certificate.{IsTreeIn, AreTreesIn, IsSectionIn, IsInRange, IsVersionOf}
 use Rattle.proof_rules.specs.Text.{line, group_line, tree_lines, forest_lines, section_lines, lines_of}
 use Rattle.certificate_lines.specs.Numbers.{IsSmall}
 use Rattle.certificate_lines.specs.Decides.{IsLineOf}
@@ -20,7 +20,7 @@ use Rattle.proof_rules.specs.Groups.{all_cells_of, IsGroup}
 use Rattle.cave_base.specs.Box.{cell_count}
 use Rattle.certificate_lines.proofs.Lift.{sides, group_numbers_small}
 use Rattle.certificate_lines.proofs.Walk.{count_small}
-use Rattle.certificate_lines.proofs.Whole.{magic_first, magic_second, magic_third}
+use Rattle.certificate_lines.proofs.Whole.{magic_first, magic_second, magic_third, magic_fourth}
 use Rattle.certificate_lines.specs.declared.kind.LineKind.{LineKind}
 use Rattle.certificate_lines.specs.declared.kind.LineKind.TheVariants as kind
 
@@ -42,6 +42,7 @@ code_of kind.Bar = 69
 code_of kind.Weighted = 87
 code_of kind.Group = 71
 code_of kind.Omit = 68
+code_of kind.Pick = 80
 code_of kind.End = 101
 
 -- the kind of such a number, if it is that of dark cells or isn't
@@ -61,6 +62,7 @@ from_code false n =
     if nat_eq n 87 then kind.Weighted else
     if nat_eq n 71 then kind.Group else
     if nat_eq n 68 then kind.Omit else
+    if nat_eq n 80 then kind.Pick else
     kind.End
 
 -- the number of the kind whose line begins with these bytes
@@ -86,6 +88,7 @@ coded kind.Bar numbers = refl
 coded kind.Weighted numbers = refl
 coded kind.Group numbers = refl
 coded kind.Omit numbers = refl
+coded kind.Pick numbers = refl
 coded kind.End numbers = refl
 
 -- the number of a kind tells the kind, if it is told whether it is that of dark cells
@@ -105,6 +108,7 @@ back kind.Bar = refl
 back kind.Weighted = refl
 back kind.Group = refl
 back kind.Omit = refl
+back kind.Pick = refl
 back kind.End = refl
 
 -- lines with the same text are of one kind, if both are those of dark cells or neither is
@@ -178,6 +182,9 @@ mutual
   tree_text (weighted groups) = ap (λ (l : List (List ℕ)). line (codes "W") (length groups ∷ []) ∷ l)
       (groups_text groups)
   tree_text (omit cells kid) = ap (λ (l : List (List ℕ)). line (codes "D") (length cells ∷ cells) ∷ l) (tree_text kid)
+  tree_text (pick place with without) = ap (λ (l : List (List ℕ)). line (codes "P") (place ∷ []) ∷ l)
+      (map_on (tree_said with) (tree_said without)
+      ∙ (let a = tree_text with in let b = tree_text without in cc))
 
   forest_text : (ts : Forest) → map text_of (forest_said ts) ≡ forest_lines ts
   forest_text none = refl
@@ -205,6 +212,21 @@ said_text c = go c.version where
       c.sections ++ codes "end" ∷ []
   rest = sections_text c.sections
 
+  -- with a need
+  later : (n need : ℕ) (t : List ℕ) → line (codes "torchproof") (n ∷ []) ≡ t
+      → map text_of (said kind.Version (n ∷ []) ∷ said kind.Size (c.size.x ∷ c.size.y ∷ c.size.z ∷ [])
+      ∷ said kind.Headroom (c.headroom ∷ []) ∷ said kind.Need (need ∷ [])
+      ∷ said kind.Regions (length c.sections ∷ []) ∷ (flat_map section_said c.sections ++ said kind.End [] ∷ []))
+      ≡ t ∷ line (codes "box") (c.size.x ∷ c.size.y ∷ c.size.z ∷ []) ∷ line (codes "headroom") (c.headroom ∷ [])
+      ∷ line (codes "need") (need ∷ []) ∷ line (codes "regions") (length c.sections ∷ [])
+      ∷ (flat_map section_lines c.sections ++ codes "end" ∷ [])
+  later n need t e = ap (λ (l : List (List ℕ)). line (codes "torchproof") (n ∷ []) ∷ line (codes "box")
+      (c.size.x ∷ c.size.y ∷ c.size.z ∷ []) ∷ line (codes "headroom") (c.headroom ∷ []) ∷ line (codes "need")
+      (need ∷ []) ∷ line (codes "regions") (length c.sections ∷ []) ∷ l) rest
+      ∙ ap (λ (t : List ℕ). t ∷ line (codes "box") (c.size.x ∷ c.size.y ∷ c.size.z ∷ []) ∷ line (codes "headroom")
+      (c.headroom ∷ []) ∷ line (codes "need") (need ∷ []) ∷ line (codes "regions")
+      (length c.sections ∷ []) ∷ (flat_map section_lines c.sections ++ codes "end" ∷ [])) e
+
   go : (v : Version) → map text_of (said_of (record c { version = v })) ≡ lines_of (record c { version = v })
   go first = ap (λ (l : List (List ℕ)). line (codes "torchproof") (1 ∷ []) ∷ line (codes "box")
       (c.size.x ∷ c.size.y ∷ c.size.z ∷ []) ∷ line (codes "headroom") (c.headroom ∷ []) ∷ line (codes "regions")
@@ -212,18 +234,9 @@ said_text c = go c.version where
       ∙ ap (λ (t : List ℕ). t ∷ line (codes "box") (c.size.x ∷ c.size.y ∷ c.size.z ∷ []) ∷ line (codes "headroom")
       (c.headroom ∷ []) ∷ line (codes "regions")
       (length c.sections ∷ []) ∷ (flat_map section_lines c.sections ++ codes "end" ∷ [])) magic_first
-  go (second need) = ap (λ (l : List (List ℕ)). line (codes "torchproof") (2 ∷ []) ∷ line (codes "box")
-      (c.size.x ∷ c.size.y ∷ c.size.z ∷ []) ∷ line (codes "headroom") (c.headroom ∷ []) ∷ line (codes "need")
-      (need ∷ []) ∷ line (codes "regions") (length c.sections ∷ []) ∷ l) rest
-      ∙ ap (λ (t : List ℕ). t ∷ line (codes "box") (c.size.x ∷ c.size.y ∷ c.size.z ∷ []) ∷ line (codes "headroom")
-      (c.headroom ∷ []) ∷ line (codes "need") (need ∷ []) ∷ line (codes "regions")
-      (length c.sections ∷ []) ∷ (flat_map section_lines c.sections ++ codes "end" ∷ [])) magic_second
-  go (third need) = ap (λ (l : List (List ℕ)). line (codes "torchproof") (3 ∷ []) ∷ line (codes "box")
-      (c.size.x ∷ c.size.y ∷ c.size.z ∷ []) ∷ line (codes "headroom") (c.headroom ∷ []) ∷ line (codes "need")
-      (need ∷ []) ∷ line (codes "regions") (length c.sections ∷ []) ∷ l) rest
-      ∙ ap (λ (t : List ℕ). t ∷ line (codes "box") (c.size.x ∷ c.size.y ∷ c.size.z ∷ []) ∷ line (codes "headroom")
-      (c.headroom ∷ []) ∷ line (codes "need") (need ∷ []) ∷ line (codes "regions")
-      (length c.sections ∷ []) ∷ (flat_map section_lines c.sections ++ codes "end" ∷ [])) magic_third
+  go (second need) = later 2 need (codes "torchproof 2") magic_second
+  go (third need) = later 3 need (codes "torchproof 3") magic_third
+  go (fourth need) = later 4 need (codes "torchproof 4") magic_fourth
 
 -- ---- its numbers are small
 
@@ -283,6 +296,9 @@ module _ (count : ℕ) (few : count ≤ 262144) where
         (All-cons IsSmall (length cells) cells (let h = listed_few count cells i.0 in omega arith)
         (listed_small cells i.0))
         (tree_small kid i.2)
+    tree_small (pick place with without) i = small_cons (said kind.Pick (place ∷ []))
+        (tree_said with ++ tree_said without) (one place (let h = i.0 in omega arith))
+        (small_on (tree_said with) (tree_said without) (tree_small with i.1) (tree_small without i.2))
 
     forest_small : (ts : Forest) → AreTreesIn count ts → AreAllSmall (forest_said ts)
     forest_small none i = small_nil
@@ -331,6 +347,28 @@ said_small c i = go c.version i.versioned where
       (one (length c.sections) (let f = i.few in omega (arith, few)))
       (sections_small (cell_count c.size) few c.sections i.each)
 
+  -- with a need
+  later : (n need : ℕ) → n ≤ 262144 → (need ≡ 1) ⊎ (need ≡ 8)
+      → AreAllSmall (said kind.Version (n ∷ []) ∷ said kind.Size (c.size.x ∷ c.size.y ∷ c.size.z ∷ [])
+      ∷ said kind.Headroom (c.headroom ∷ []) ∷ said kind.Need (need ∷ [])
+      ∷ said kind.Regions (length c.sections ∷ []) ∷ (flat_map section_said c.sections ++ said kind.End [] ∷ []))
+  later n need most needed = small_cons (said kind.Version (n ∷ []))
+      (said kind.Size (c.size.x ∷ c.size.y ∷ c.size.z ∷ []) ∷ said kind.Headroom (c.headroom ∷ []) ∷ said
+      kind.Need (need ∷ [])
+      ∷ (said kind.Regions (length c.sections ∷ []) ∷ (flat_map section_said c.sections ++ said kind.End [] ∷ [])))
+      (one n most)
+      (small_cons (said kind.Size (c.size.x ∷ c.size.y ∷ c.size.z ∷ []))
+      (said kind.Headroom (c.headroom ∷ []) ∷ said kind.Need (need ∷ [])
+      ∷ (said kind.Regions (length c.sections ∷ [])
+      ∷ (flat_map section_said c.sections ++ said kind.End [] ∷ []))) box
+      (small_cons (said kind.Headroom (c.headroom ∷ []))
+      (said kind.Need (need ∷ [])
+      ∷ (said kind.Regions (length c.sections ∷ [])
+      ∷ (flat_map section_said c.sections ++ said kind.End [] ∷ []))) headroom
+      (small_cons (said kind.Need (need ∷ []))
+      (said kind.Regions (length c.sections ∷ []) ∷ (flat_map section_said c.sections ++ said kind.End [] ∷ []))
+      (one need (elim needed [ inl e ↦ omega arith | inr e ↦ omega arith ])) rest)))
+
   go : (v : Version) → IsVersionOf c.sections v → AreAllSmall (said_of (record c { version = v }))
   go first h = small_cons (said kind.Version (1 ∷ []))
       (said kind.Size (c.size.x ∷ c.size.y ∷ c.size.z ∷ []) ∷ said kind.Headroom (c.headroom ∷ [])
@@ -343,38 +381,9 @@ said_small c i = go c.version i.versioned where
       (small_cons (said kind.Headroom (c.headroom ∷ []))
       (said kind.Regions (length c.sections ∷ []) ∷ (flat_map section_said c.sections ++ said kind.End [] ∷ []))
       headroom rest))
-  go (second need) h = small_cons (said kind.Version (2 ∷ []))
-      (said kind.Size (c.size.x ∷ c.size.y ∷ c.size.z ∷ []) ∷ said kind.Headroom (c.headroom ∷ []) ∷ said
-      kind.Need (need ∷ [])
-      ∷ (said kind.Regions (length c.sections ∷ []) ∷ (flat_map section_said c.sections ++ said kind.End [] ∷ [])))
-      (one 2 (omega arith))
-      (small_cons (said kind.Size (c.size.x ∷ c.size.y ∷ c.size.z ∷ []))
-      (said kind.Headroom (c.headroom ∷ []) ∷ said kind.Need (need ∷ [])
-      ∷ (said kind.Regions (length c.sections ∷ [])
-      ∷ (flat_map section_said c.sections ++ said kind.End [] ∷ []))) box
-      (small_cons (said kind.Headroom (c.headroom ∷ []))
-      (said kind.Need (need ∷ [])
-      ∷ (said kind.Regions (length c.sections ∷ [])
-      ∷ (flat_map section_said c.sections ++ said kind.End [] ∷ []))) headroom
-      (small_cons (said kind.Need (need ∷ []))
-      (said kind.Regions (length c.sections ∷ []) ∷ (flat_map section_said c.sections ++ said kind.End [] ∷ []))
-      (one need (elim h.needed [ inl e ↦ omega arith | inr e ↦ omega arith ])) rest)))
-  go (third need) h = small_cons (said kind.Version (3 ∷ []))
-      (said kind.Size (c.size.x ∷ c.size.y ∷ c.size.z ∷ []) ∷ said kind.Headroom (c.headroom ∷ []) ∷ said
-      kind.Need (need ∷ [])
-      ∷ (said kind.Regions (length c.sections ∷ []) ∷ (flat_map section_said c.sections ++ said kind.End [] ∷ [])))
-      (one 3 (omega arith))
-      (small_cons (said kind.Size (c.size.x ∷ c.size.y ∷ c.size.z ∷ []))
-      (said kind.Headroom (c.headroom ∷ []) ∷ said kind.Need (need ∷ [])
-      ∷ (said kind.Regions (length c.sections ∷ [])
-      ∷ (flat_map section_said c.sections ++ said kind.End [] ∷ []))) box
-      (small_cons (said kind.Headroom (c.headroom ∷ []))
-      (said kind.Need (need ∷ [])
-      ∷ (said kind.Regions (length c.sections ∷ [])
-      ∷ (flat_map section_said c.sections ++ said kind.End [] ∷ []))) headroom
-      (small_cons (said kind.Need (need ∷ []))
-      (said kind.Regions (length c.sections ∷ []) ∷ (flat_map section_said c.sections ++ said kind.End [] ∷ []))
-      (one need (elim h.needed [ inl e ↦ omega arith | inr e ↦ omega arith ])) rest)))
+  go (second need) h = later 2 need (omega arith) h.needed
+  go (third need) h = later 3 need (omega arith) h.needed
+  go (fourth need) h = later 4 need (omega arith) h.needed
 
 -- the lines of a certificate say what it says
 pub said_is : (lines : List (List ℕ)) (all : List Said) (c : Certificate) → AreSaid lines all → IsOrdered kind.End all

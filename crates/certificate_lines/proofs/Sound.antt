@@ -5,7 +5,7 @@ use Rattle.std.specs.Prelude.{codes, flat_map}
 use Rattle.std.proofs.lemmas.List.Elements.{All-nil, All-cons, All-append}
 use Rattle.proof_rules.specs.declared.groups.Group.{Group}
 use Rattle.proof_rules.specs.Groups.{cells_of, all_cells_of, first_cells, IsGroup}
-use Rattle.proof_rules.specs.Tree.{Forest, leaf, weighted, branch, bar, omit, none, more, tree_count}
+use Rattle.proof_rules.specs.Tree.{Forest, leaf, weighted, branch, bar, omit, pick, none, more, tree_count}
 use Rattle.proof_rules.specs.Certificate.{Section, AreListed, AreTreesIn, IsKnownTo, AreKnownTo, IsSectionIn}
 use Rattle.proof_rules.specs.Text.{line, group_line, forest_lines, tree_lines, section_lines}
 use Rattle.certificate_lines.specs.Nodes.{after_node, after_group, first_cell}
@@ -76,7 +76,8 @@ nodes_left version count to_come (suc p) lines r = r
 
 -- what is left after a group, whichever stage that is
 groups_left : (version count to_come p left from : ℕ) (lines : List (List ℕ))
-    → Rest (after_group version count to_come p left from) lines → GroupsRest version count to_come (p + 1) left from lines
+    → Rest (after_group version count to_come p left from) lines
+    → GroupsRest version count to_come (p + 1) left from lines
 groups_left version count to_come p zero from lines r = record {
   groups = [];
   many = refl;
@@ -167,6 +168,26 @@ module _ (version count to_come : ℕ) (text : List ℕ) (lines : List (List ℕ
       rest = r.rest;
       is = ap (λ (t : List ℕ). t ∷ lines) e
           ∙ ap (λ (ls : List (List ℕ)). line (codes "D") (length cells ∷ cells) ∷ ls) is;
+    }
+
+  pick_first : (p place : ℕ) → 4 ≤ version → text ≡ line (codes "P") (place ∷ []) → place < count
+      → NodesRest version count to_come (p + 2) lines → NodesRest version count to_come (p + 1) (text ∷ lines)
+  pick_first p place allowed e below r = onto r.trees r.many r.each r.known r.is where
+    onto : (trees : Forest) → tree_count trees ≡ p + 2 → AreTreesIn count trees → AreKnownTo version trees
+        → lines ≡ forest_lines trees ++ r.after → NodesRest version count to_come (p + 1) (text ∷ lines)
+    onto none many i b is = absurd (omega arith)
+    onto (more t none) many i b is = absurd (omega arith)
+    onto (more t (more u ts)) many i b is = record {
+      trees = more (pick place t u) ts;
+      many = omega (arith, many);
+      each = ((below, i.0, i.1.0), i.1.1);
+      known = ((allowed, b.0, b.1.0), b.1.1);
+      after = r.after;
+      rest = r.rest;
+      is = ap (λ (t : List ℕ). t ∷ lines) e
+          ∙ ap (λ (ls : List (List ℕ)). line (codes "P") (place ∷ []) ∷ ls)
+          (is ∙ ap (λ (ls : List (List ℕ)). ls ++ r.after)
+          (sym (append_assoc (tree_lines t) (tree_lines u) (forest_lines ts))));
     }
 
   weighted_first : (pending groups : ℕ) → 3 ≤ version → text ≡ line (codes "W") (groups ∷ []) → 0 < groups
@@ -326,18 +347,25 @@ left (text ∷ ls) (stage.Node version count to_come pending)
     (e ∙ ap (λ (ns : List ℕ). line (codes "W") ns) ns) filled
     (subst (λ (s : Stage). Rest s ls) nx (left ls next rest))
 left (text ∷ ls) (stage.Node version count to_come pending)
-    (next, inr (inr (inr (inr (numbers, e, (p, cells, allowed, z, ns, filled, listed, nx))))), rest) =
+    (next, inr (inr (inr (inr (inl (numbers, e, (p, cells, allowed, z, ns, filled, listed, nx)))))), rest) =
     subst (λ (k : ℕ). NodesRest version count to_come k (text ∷ ls)) (sym z)
     (omit_first version count to_come text ls p cells allowed (e ∙ ap (λ (ns : List ℕ). line (codes "D") ns) ns)
     filled listed
     (subst (λ (k : ℕ). NodesRest version count to_come k ls) z
     (subst (λ (s : Stage). Rest s ls) nx (left ls next rest))))
+left (text ∷ ls) (stage.Node version count to_come pending)
+    (next, inr (inr (inr (inr (inr (numbers, e, (p, place, allowed, z, ns, below, nx)))))), rest) =
+    let two : pending + 1 ≡ p + 2 = omega (arith, z) in
+    subst (λ (k : ℕ). NodesRest version count to_come k (text ∷ ls)) (sym z)
+    (pick_first version count to_come text ls p place allowed (e ∙ ap (λ (ns : List ℕ). line (codes "P") ns) ns) below
+    (subst (λ (k : ℕ). NodesRest version count to_come k ls) two
+    (subst (λ (s : Stage). Rest s ls) nx (left ls next rest))))
 left (text ∷ ls) (stage.Group version count to_come pending l from)
     (next, (numbers, e, (p, m, group, z, zl, ns, form, below, least, room, nx)), rest) =
     subst (λ (k : ℕ). GroupsRest version count to_come k l from (text ∷ ls)) (sym z)
     (subst (λ (k : ℕ). GroupsRest version count to_come (p + 1) k from (text ∷ ls)) (sym zl)
-    (group_first version count to_come text ls p m from group (e ∙ ap (λ (ns : List ℕ). line (codes "G") ns) ns) form below
-    least
+    (group_first version count to_come text ls p m from group (e ∙ ap (λ (ns : List ℕ). line (codes "G") ns) ns) form
+    below least
     (groups_left version count to_come p m (first_cell group + 1) ls
     (subst (λ (s : Stage). Rest s ls) nx (left ls next rest)))))
 left (text ∷ ls) stage.Done (next, h, rest) = absurd h

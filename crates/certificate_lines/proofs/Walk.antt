@@ -54,7 +54,8 @@ sound_group version count to_come pending (suc left) from h i room =
 
 pub sound_after : (s next : Stage) (text : List ℕ) → IsSoundStage s → Takes s text next → IsSoundStage next
 sound_after stage.Start next text h (ns, e, m) = subst IsSoundStage (sym m.4) tt
-sound_after (stage.Box version) next text h (ns, e, m) = subst IsSoundStage (sym m.3) (count_small m.0.x m.0.y m.0.z m.2)
+sound_after (stage.Box version) next text h (ns, e, m) = subst IsSoundStage (sym m.3)
+    (count_small m.0.x m.0.y m.0.z m.2)
 sound_after (stage.Headroom version count) next text h (ns, e, m) = subst IsSoundStage (sym m.1)
     (sound_headroom version count h)
 sound_after (stage.Need version count) next text h (ns, e, m) = subst IsSoundStage (sym m.1) h
@@ -72,10 +73,12 @@ sound_after (stage.Node version count to_come pending) next text h (inr (inl (ns
     (sound_node version count to_come (m.2 + m.0) h.0 h.1)
 sound_after (stage.Node version count to_come pending) next text h (inr (inr (inl (ns, e, m)))) = subst IsSoundStage
     (sym m.8) h
-sound_after (stage.Node version count to_come pending) next text h (inr (inr (inr (inl (ns, e, m))))) = subst IsSoundStage
-    (sym m.5) (h.0, h.1, h.2, m.3, omega (arith, m.4))
-sound_after (stage.Node version count to_come pending) next text h (inr (inr (inr (inr (ns, e, m))))) = subst IsSoundStage
-    (sym m.7) h
+sound_after (stage.Node version count to_come pending) next text h (inr (inr (inr (inl (ns, e, m))))) =
+    subst IsSoundStage (sym m.5) (h.0, h.1, h.2, m.3, omega (arith, m.4))
+sound_after (stage.Node version count to_come pending) next text h (inr (inr (inr (inr (inl (ns, e, m)))))) =
+    subst IsSoundStage (sym m.7) h
+sound_after (stage.Node version count to_come pending) next text h (inr (inr (inr (inr (inr (ns, e, m)))))) =
+    subst IsSoundStage (sym m.6) (h.0, h.1, omega arith)
 sound_after (stage.Group version count to_come pending left from) next text h (ns, e, m) = subst IsSoundStage (sym m.10)
     (sound_group version count to_come m.0 m.1 (first_cell m.2 + 1) h.0 h.1 (λ s. omega (arith, m.4, m.9)))
 sound_after stage.Done next text h m = absurd m
@@ -173,7 +176,8 @@ from_node version count k p h =
     let e : tree_count (leaves (suc p)) + 0 ≡ suc p = omega (arith, tree_count-leaves (suc p)) in (
       forest_lines (leaves (suc p)) ++ r.0,
       subst (λ (n : ℕ). Leads (forest_lines (leaves (suc p)) ++ r.0) (after_node version count k n) stage.Done) e
-          (leads_trees version count k (leaves (suc p)) (leaves_in count (suc p)) (leaves_known version (suc p)) 0 r.0 r.1),
+          (leads_trees version count k (leaves (suc p)) (leaves_in count (suc p)) (leaves_known version (suc p)) 0 r.0
+          r.1),
     )
 
 -- a group of one cell
@@ -283,8 +287,8 @@ leads_on (stage.Node version count to_come zero) h = absurd (omega (arith, h.2))
 leads_on (stage.Node version count to_come (suc p)) h = from_node version count to_come p (omega (arith, h.1))
 leads_on (stage.Group version count to_come zero left from) h = absurd (omega (arith, h.2))
 leads_on (stage.Group version count to_come (suc p) zero from) h = absurd (omega (arith, h.3))
-leads_on (stage.Group version count to_come (suc p) (suc left) from) h = from_groups version count to_come p (suc left) from
-    (omega (arith, h.1)) h.4
+leads_on (stage.Group version count to_come (suc p) (suc left) from) h =
+    from_groups version count to_come p (suc left) from (omega (arith, h.1)) h.4
 leads_on stage.Done h = ([], refl)
 
 -- ---- how many trees are still to come
@@ -293,7 +297,8 @@ pending_node : (version : ℕ) (count to_come p : ℕ) → pending_of (after_nod
 pending_node version count to_come zero = omega arith
 pending_node version count to_come (suc p) = omega arith
 
-pending_group : (version count to_come p left from : ℕ) → pending_of (after_group version count to_come p left from) ≤ p + 1
+pending_group : (version count to_come p left from : ℕ)
+    → pending_of (after_group version count to_come p left from) ≤ p + 1
 pending_group version count to_come p zero from = omega (arith, pending_node version count to_come p)
 pending_group version count to_come p (suc left) from = omega arith
 
@@ -323,8 +328,10 @@ pending_after (stage.Node version count to_come pending) next text h (inr (inr (
     omega (arith, ap pending_of m.8)
 pending_after (stage.Node version count to_come pending) next text h (inr (inr (inr (inl (ns, e, m))))) =
     omega (arith, ap pending_of m.5)
-pending_after (stage.Node version count to_come pending) next text h (inr (inr (inr (inr (ns, e, m))))) =
+pending_after (stage.Node version count to_come pending) next text h (inr (inr (inr (inr (inl (ns, e, m)))))) =
     omega (arith, ap pending_of m.7)
+pending_after (stage.Node version count to_come pending) next text h (inr (inr (inr (inr (inr (ns, e, m)))))) =
+    omega (arith, ap pending_of m.6)
 pending_after (stage.Group version count to_come pending left from) next text h (ns, e, m) =
     omega (arith, ap pending_of m.10, pending_group version count to_come m.0 m.1 (first_cell m.2 + 1), m.3)
 pending_after stage.Done next text h m = absurd m

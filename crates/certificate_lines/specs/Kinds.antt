@@ -23,6 +23,7 @@ word_of kind.Bar = codes "E"
 word_of kind.Weighted = codes "W"
 word_of kind.Group = codes "G"
 word_of kind.Omit = codes "D"
+word_of kind.Pick = codes "P"
 word_of kind.End = codes "end"
 
 -- a region's first line, or the end where none is to come
@@ -36,6 +37,7 @@ node_kind head =
     if nat_eq head 69 then kind.Bar else
     if nat_eq head 87 then kind.Weighted else
     if nat_eq head 68 then kind.Omit else
+    if nat_eq head 80 then kind.Pick else
     kind.Leaf
 
 -- the one kind of line that may come at the stage and begin as the text does
@@ -71,6 +73,8 @@ MeansAt (stage.Node version count to_come pending) kind.Weighted numbers next =
     nodes.WeightedMeans version count to_come pending numbers next
 MeansAt (stage.Node version count to_come pending) kind.Omit numbers next =
     nodes.OmitMeans version count to_come pending numbers next
+MeansAt (stage.Node version count to_come pending) kind.Pick numbers next =
+    nodes.PickMeans version count to_come pending numbers next
 MeansAt (stage.Node version count to_come pending) k numbers next =
     nodes.LeafMeans version count to_come pending numbers next
 MeansAt (stage.Group version count to_come pending left from) k numbers next =

@@ -15,7 +15,8 @@ after_node version count to_come (suc p) = stage.Node version count to_come (suc
 -- trees
 abbrev pub after_group : ℕ → ℕ → ℕ → ℕ → ℕ → ℕ → Stage
 after_group version count to_come pending zero from = after_node version count to_come pending
-after_group version count to_come pending (suc left) from = stage.Group version count to_come (suc pending) (suc left) from
+after_group version count to_come pending (suc left) from =
+    stage.Group version count to_come (suc pending) (suc left) from
 
 -- the numbers of a group: its capacity, how many cells it has, and each cell with its weight
 abbrev pub group_numbers : Group → List ℕ
@@ -50,6 +51,11 @@ abbrev pub OmitMeans : ℕ → ℕ → ℕ → ℕ → List ℕ → Stage → Ty
 OmitMeans version count to_come pending numbers next = (p : ℕ) × (cells : List ℕ) × (3 ≤ version) × (pending ≡ p + 1)
     × (numbers ≡ length cells ∷ cells) × (0 < length cells) × AreListed count cells
     × (next ≡ stage.Node version count to_come pending)
+
+-- a place of the box to choose or to bar, from the fourth version on; two trees come in its place
+abbrev pub PickMeans : ℕ → ℕ → ℕ → ℕ → List ℕ → Stage → Type 0
+PickMeans version count to_come pending numbers next = (p place : ℕ) × (4 ≤ version) × (pending ≡ p + 1)
+    × (numbers ≡ place ∷ []) × (place < count) × (next ≡ stage.Node version count to_come (pending + 1))
 
 -- how many groups a weighted leaf has, some, no more than the box has cells, from the third version on; so many groups
 -- come next

@@ -1,9 +1,9 @@
 -- The lines of a certificate as kinds and numbers. This is this project's own.
 use Rattle.std.specs.Prelude.{ℕ, List, [], ◌∷◌, ◌++◌, length, map, flat_map}
-use Rattle.proof_rules.specs.Tree.{Tree, Forest, leaf, weighted, branch, bar, omit, none, more, tree_count}
+use Rattle.proof_rules.specs.Tree.{Tree, Forest, leaf, weighted, branch, bar, omit, pick, none, more, tree_count}
 use Rattle.proof_rules.specs.declared.groups.Share.{Share}
 use Rattle.proof_rules.specs.declared.groups.Group.{Group}
-use Rattle.proof_rules.specs.Certificate.{Section, Version, first, second, third, Certificate}
+use Rattle.proof_rules.specs.Certificate.{Section, Version, first, second, third, fourth, Certificate}
 use Rattle.proof_rules.specs.Text.{line}
 use Rattle.certificate_lines.specs.Kinds.{word_of}
 use Rattle.certificate_lines.specs.Decides.{IsLineOf}
@@ -39,6 +39,7 @@ abbrev mutual
   tree_said (bar place by kid) = said kind.Bar (place ∷ by ∷ []) ∷ tree_said kid
   tree_said (weighted groups) = said kind.Weighted (length groups ∷ []) ∷ map group_said groups
   tree_said (omit cells kid) = said kind.Omit (length cells ∷ cells) ∷ tree_said kid
+  tree_said (pick place with without) = said kind.Pick (place ∷ []) ∷ (tree_said with ++ tree_said without)
 
   -- what the lines of the trees say, one tree after another
   pub forest_said : Forest → List Said
@@ -57,6 +58,7 @@ abbrev pub head_said : Version → Said → Said → List Said
 head_said first box headroom = said kind.Version (1 ∷ []) ∷ box ∷ headroom ∷ []
 head_said (second need) box headroom = said kind.Version (2 ∷ []) ∷ box ∷ headroom ∷ said kind.Need (need ∷ []) ∷ []
 head_said (third need) box headroom = said kind.Version (3 ∷ []) ∷ box ∷ headroom ∷ said kind.Need (need ∷ []) ∷ []
+head_said (fourth need) box headroom = said kind.Version (4 ∷ []) ∷ box ∷ headroom ∷ said kind.Need (need ∷ []) ∷ []
 
 -- what the lines of a certificate say
 abbrev pub said_of : Certificate → List Said

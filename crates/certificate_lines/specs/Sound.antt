@@ -16,8 +16,8 @@ IsSoundStage (stage.Dark version count to_come n t) = (count ≤ 262144) × (to_
     × (0 < t) × (t ≤ count)
 IsSoundStage (stage.Torches version count to_come t) = (count ≤ 262144) × (to_come < count) × (0 < t) × (t ≤ count)
 IsSoundStage (stage.Node version count to_come pending) = (count ≤ 262144) × (to_come < count) × (0 < pending)
-IsSoundStage (stage.Group version count to_come pending left from) = (count ≤ 262144) × (to_come < count) × (0 < pending)
-    × (0 < left) × (from + left ≤ count)
+IsSoundStage (stage.Group version count to_come pending left from) = (count ≤ 262144) × (to_come < count)
+    × (0 < pending) × (0 < left) × (from + left ≤ count)
 IsSoundStage stage.Done = Unit {0}
 
 -- how many trees are still to come

@@ -5,7 +5,8 @@ use Rattle.proof_rules.specs.Certificate.{AreListed}
 use Rattle.proof_rules.specs.Text.{line}
 use Rattle.certificate_lines.specs.declared.stage.Stage.{Stage}
 use Rattle.certificate_lines.specs.declared.stage.Stage.TheVariants as stage
-use Rattle.certificate_lines.specs.Nodes.{LeafMeans, BranchMeans, BarMeans, OmitMeans, WeightedMeans, GroupMeans}
+use Rattle.certificate_lines.specs.Nodes.{LeafMeans, BranchMeans, BarMeans, OmitMeans, PickMeans, WeightedMeans}
+use Rattle.certificate_lines.specs.Nodes.{GroupMeans}
 
 -- a line that begins with this word, whose numbers mean that
 abbrev pub Says : List ℕ → (List ℕ → Stage → Type 0) → List ℕ → Stage → Type 0
@@ -17,9 +18,10 @@ after_headroom version count = if nat_eq version 1 then stage.Regions version co
 
 -- ---- what the numbers of a line mean
 
--- the version, from 1 to 3; the box comes next
+-- the version, from 1 to 4; the box comes next
 abbrev pub StartMeans : List ℕ → Stage → Type 0
-StartMeans numbers next = (version : ℕ) × (numbers ≡ version ∷ []) × (0 < version) × (version ≤ 3) × (next ≡ stage.Box version)
+StartMeans numbers next = (version : ℕ) × (numbers ≡ version ∷ []) × (0 < version) × (version ≤ 4)
+    × (next ≡ stage.Box version)
 
 -- the sides of a small box; the headroom comes next
 abbrev pub BoxMeans : ℕ → List ℕ → Stage → Type 0
@@ -55,7 +57,8 @@ CellsMean count many after numbers next = AreListed count numbers × (length num
 
 -- the cells of the region, ascending, of the box, as many as were told; its torches come next
 abbrev pub DarkMeans : ℕ → ℕ → ℕ → ℕ → ℕ → List ℕ → Stage → Type 0
-DarkMeans version count to_come n t numbers next = CellsMean count n (stage.Torches version count to_come t) numbers next
+DarkMeans version count to_come n t numbers next =
+    CellsMean count n (stage.Torches version count to_come t) numbers next
 
 -- the torches of the region, ascending, in the box, as many as were told; its tree comes next
 abbrev pub TorchesMeans : ℕ → ℕ → ℕ → ℕ → List ℕ → Stage → Type 0
@@ -83,6 +86,7 @@ Takes (stage.Node version count to_come pending) text next =
     ⊎ Says (codes "E") (BarMeans version count to_come pending) text next
     ⊎ Says (codes "W") (WeightedMeans version count to_come pending) text next
     ⊎ Says (codes "D") (OmitMeans version count to_come pending) text next
+    ⊎ Says (codes "P") (PickMeans version count to_come pending) text next
 Takes (stage.Group version count to_come pending left from) text next =
     Says (codes "G") (GroupMeans version count to_come pending left from) text next
 Takes stage.Done text next = ⊥

@@ -1,3 +1,4 @@
+//! The numbers of a group's line: `IsGroupFrom` of specs/Shares.antt.
 ghost use Rattle.std.specs.Prelude.{◌↔◌, IsTrue, MatchOption};
 ghost use Rattle.certificate_lines.specs.Shares.{AreSharesIn, IsGroupFrom, IsNoGroup};
 

@@ -1,3 +1,4 @@
+//! The kinds of lines, and which of them may come at a stage: `word_of` and `kind_at` of specs/Kinds.antt.
 ghost use Rattle.std.specs.Prelude.{◌≡◌, slice_index_or};
 ghost use Rattle.certificate_lines.specs.Kinds as kinds;
 
@@ -20,6 +21,7 @@ pub enum LineKind {
     Weighted,
     Group,
     Omit,
+    Pick,
     End,
 }
 
@@ -43,6 +45,7 @@ impl LineKind {
             LineKind::Weighted => b"W",
             LineKind::Group => b"G",
             LineKind::Omit => b"D",
+            LineKind::Pick => b"P",
             LineKind::End => b"end",
         }
     }
@@ -88,6 +91,8 @@ fn node_kind(head: u8) -> LineKind
         LineKind::Weighted
     } else if head == b'D' {
         LineKind::Omit
+    } else if head == b'P' {
+        LineKind::Pick
     } else {
         LineKind::Leaf
     }

@@ -1,3 +1,4 @@
+//! Lines taken one after another: `Fits` of specs/Moves.antt.
 ghost use Rattle.std.specs.Prelude.{◌≡◌, ◌<◌, ◌+◌, ◌-◌, ◌^◌, IfOk, MatchOption, IsTrue, ◌↔◌};
 ghost use Rattle.certificate_lines.specs.Moves.{Fits, FitsNot};
 ghost use Rattle.certificate_lines.specs.Sound.{IsSoundStage, pending_of};

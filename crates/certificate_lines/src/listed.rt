@@ -1,3 +1,4 @@
+//! Cells that ascend and are below a count: `AreListed` of specs/Certificate.antt in proof_rules.
 ghost use Rattle.std.specs.List.Sorted.{IsStrictlyIncreasing};
 ghost use Rattle.std.specs.Prelude.{◌↔◌, ◌<◌, All, IsTrue};
 ghost use Rattle.proof_rules.specs.Certificate.{AreListed};

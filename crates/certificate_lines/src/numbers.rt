@@ -1,3 +1,4 @@
+//! The numbers of a line, each after a space: `AreNumbers` of specs/Numbers.antt.
 ghost use Rattle.std.specs.Prelude.{◌≡◌, ◌+◌, ◌<◌, ◌∷◌, MatchOption, IfOk, MatchBool};
 ghost use Rattle.certificate_lines.specs.Numbers.{AreNoNumbers};
 ghost use Rattle.certificate_lines.specs.Numbers.{HasNoSpace, IsCut, BeginsWith, BeginsWithNone, AreNumbers};

@@ -1,3 +1,4 @@
+//! The text of a certificate, given in pieces: `Holds` and `Tells` of specs/Held.antt.
 ghost use Rattle.std.specs.Prelude.{◌≡◌, ◌<◌, ◌+◌, ◌^◌, [], length, IfOk, MatchBool, MatchOption, IsTrue, ◌↔◌, None};
 ghost use Rattle.certificate_lines.specs.Held.{EndsPiece, HasRoom, Holds, HeldText, TakesLine, Tells};
 ghost use Rattle.certificate_lines.specs.Keeping.{IsOverlong, IsKeptOn};

@@ -1,3 +1,5 @@
+//! Bytes read as a certificate, or up to the first line that doesn't fit: `IsTextOf` and `IsFirstMisfit` of
+//! specs/Text.antt in proof_rules.
 ghost use Rattle.std.specs.Prelude.{◌≡◌, ℕ, Some, None, IfOk, MatchOption};
 ghost use Rattle.proof_rules.specs.Certificate.{Certificate};
 ghost use Rattle.proof_rules.specs.Text.{IsTextOf, IsFirstMisfit};

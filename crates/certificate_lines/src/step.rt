@@ -1,3 +1,4 @@
+//! A step from one stage to the next by a line: `Takes` of specs/Steps.antt.
 ghost use Rattle.std.specs.Prelude.{◌≡◌, ◌≤◌, ◌<◌, ◌+◌, ◌^◌, IfOk, IfSome};
 ghost use Rattle.certificate_lines.specs.Decides.{Decides, IsLineOf};
 ghost use Rattle.certificate_lines.specs.Kinds as kinds;
@@ -11,7 +12,7 @@ use crate::meaning::{
     after_start, after_torches,
 };
 use crate::node::{
-    Trees, after_bar, after_branch, after_group, after_leaf, after_omit, after_weighted,
+    Trees, after_bar, after_branch, after_group, after_leaf, after_omit, after_pick, after_weighted,
 };
 use crate::stage::Stage;
 use std::alloc::AllocError;
@@ -104,6 +105,7 @@ fn after_node_line(trees: Trees, kind: LineKind, numbers: &[u32]) -> Option<Stag
         LineKind::Bar => after_bar(trees, numbers),
         LineKind::Weighted => after_weighted(trees, numbers),
         LineKind::Omit => after_omit(trees, numbers),
+        LineKind::Pick => after_pick(trees, numbers),
         _ => after_leaf(trees, numbers),
     }
 }

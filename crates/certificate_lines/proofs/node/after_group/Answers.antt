@@ -16,5 +16,6 @@ returns-then-saturating_sub-left c = group_misfits c.args.trees.version c.args.t
 pub returns : goal.returns
 returns c = subst (IsJust (GroupMeans c.args.trees.version c.args.trees.count c.args.trees.to_come c.args.trees.pending
     c.args.left c.args.from c.args.numbers.now)) (sym c.with_groups.ensures)
-    (group_just c.args.trees.version c.args.trees.count c.args.trees.to_come c.args.trees.pending c.args.left c.args.from
-    c.args.numbers.now c.in-Some.cell c.in-Some.ensures c.if-trees-eq0.false c.if-left-eq0.false (omega arith))
+    (group_just c.args.trees.version c.args.trees.count c.args.trees.to_come c.args.trees.pending c.args.left
+    c.args.from c.args.numbers.now c.in-Some.cell c.in-Some.ensures c.if-trees-eq0.false c.if-left-eq0.false
+    (omega arith))

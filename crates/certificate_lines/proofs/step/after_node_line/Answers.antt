@@ -25,7 +25,12 @@ returns-in-Omit c = subst (λ (k : LineKind). Decides c.after_omit.result
     (MeansAt (node_stage c.args.trees.version c.args.trees.count c.args.trees.to_come c.args.trees.pending) k
     c.args.numbers.now)) (sym c.in-Omit.is) c.after_omit.ensures
 
+pub returns-in-Pick : goal.returns-in-Pick
+returns-in-Pick c = subst (λ (k : LineKind). Decides c.after_pick.result
+    (MeansAt (node_stage c.args.trees.version c.args.trees.count c.args.trees.to_come c.args.trees.pending) k
+    c.args.numbers.now)) (sym c.in-Pick.is) c.after_pick.ensures
+
 pub returns-in_default : goal.returns-in_default
 returns-in_default c = leaf_means c.args.trees.version c.args.trees.count c.args.trees.to_come c.args.trees.pending
     c.args.numbers.now c.after_leaf.result c.args.kind c.in_default.not-Branch c.in_default.not-Bar
-    c.in_default.not-Weighted c.in_default.not-Omit c.after_leaf.ensures
+    c.in_default.not-Weighted c.in_default.not-Omit c.in_default.not-Pick c.after_leaf.ensures
