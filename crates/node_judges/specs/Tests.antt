@@ -51,6 +51,12 @@ pub record IsDominatedIn (lists : LitLists) (cells chosen barred : List ℕ) (pl
   pub unchosen : ¬ Contains chosen place
   pub served : AreServed lists cells chosen by (row_at lists.pairs.lights place)
 
+-- a legal place that is neither chosen nor barred
+pub record MayBePickedIn (lists : LitLists) (chosen barred : List ℕ) (place : ℕ) : Type 0 where
+  pub legal : IsTrue (is_marked lists.places place)
+  pub unchosen : ¬ Contains chosen place
+  pub free : ¬ Contains barred place
+
 -- each place that lights a cell is below this number
 pub record AreInside (lists : LitLists) (limit : ℕ) : Type 0 where
   pub each : (place cell : ℕ) → Contains (lit_by lists cell) place → place < limit

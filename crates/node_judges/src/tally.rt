@@ -1,3 +1,4 @@
+//! A list of cells of a box with how often each stands in it: specs/Tally.antt.
 ghost use Rattle.std.specs.Prelude.{OnOk};
 ghost use Rattle.std.specs.Prelude.{◌≡◌, ◌<◌, ◌≤◌, [], ◌∷◌, ◌++◌, ◌-◌, ◌↔◌, length, take, Contains, IsTrue, IfOk};
 

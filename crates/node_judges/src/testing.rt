@@ -151,3 +151,14 @@ pub fn is_dominated(setting: &Setting, place: Cell, by: Cell) -> bool
     }
     are_served(setting, by, lists.lights(place))
 }
+
+/// Whether the place may be picked: it is legal, and neither chosen nor barred.
+pub fn may_be_picked(setting: &Setting, place: Cell) -> bool
+    ensures { IsTrue result ↔ tests.MayBePickedIn setting.now.lists.now setting.now.chosen.now.items
+        setting.now.barred.now.items place }
+{
+    if !setting.lists.is_place(place) || setting.chosen.has(place) {
+        return false;
+    }
+    !setting.barred.has(place)
+}

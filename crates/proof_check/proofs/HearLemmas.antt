@@ -56,6 +56,7 @@ dark_other kind.Bar ne = refl
 dark_other kind.Weighted ne = refl
 dark_other kind.Group ne = refl
 dark_other kind.Omit ne = refl
+dark_other kind.Pick ne = refl
 dark_other kind.End ne = refl
 
 -- any other kind is no line of torches
@@ -74,6 +75,7 @@ torch_other kind.Bar ne = refl
 torch_other kind.Weighted ne = refl
 torch_other kind.Group ne = refl
 torch_other kind.Omit ne = refl
+torch_other kind.Pick ne = refl
 torch_other kind.End ne = refl
 
 -- a line of another kind leaves the regions as they were
@@ -161,6 +163,10 @@ step_line cave kind.Group (a ∷ b ∷ ns) s (at t) (inr (inr h)) = ap line_of h
 step_line cave kind.Omit [] s (at t) h = ap line_of h
 step_line cave kind.Omit (n ∷ ns) s (at t) (inl h) = ap line_of h.1
 step_line cave kind.Omit (n ∷ ns) s (at t) (inr h) = absurd (let e = h.1 in cc)
+step_line cave kind.Pick [] s (at t) h = ap line_of h
+step_line cave kind.Pick (a ∷ []) s (at t) (inl h) = ap line_of h.1
+step_line cave kind.Pick (a ∷ []) s (at t) (inr h) = absurd (let e = h.1 in cc)
+step_line cave kind.Pick (a ∷ b ∷ ns) s (at t) h = ap line_of h
 
 -- a line more, judged by its kind, leads the judge of nodes on
 pub nodes_led : (cave : Cave) (old new : Judge) (all : List Said) (k : LineKind) (numbers : List ℕ) (line : ℕ)

@@ -1,13 +1,13 @@
 -- What judging has found at the end of a tree, of a region, of a certificate.
 use Rattle.std.proofs.Common.{◌≡◌, ℕ, ◌+◌, ◌⊎◌, inl, inr, List, [], ◌∷◌, ◌++◌, length, All, refl, sym, subst, ◌∙◌}
 use Rattle.std.proofs.Common.{ap, arith, append_assoc, length-append}
-use Rattle.std.specs.Prelude.{Option, Some, None, flat_map, map}
+use Rattle.std.specs.Prelude.{Option, Some, None, true, false, flat_map, map}
 use Rattle.std.specs.Option.{option_or}
 use Rattle.std.proofs.lemmas.List.Elements.{All-nil, All-cons, All-head, All-tail}
 use Rattle.cave_base.specs.Box.{cell_count}
 use Rattle.cave_model.specs.Cave.{Cave}
 use Rattle.cave_model.specs.Coverage.{of_cave}
-use Rattle.proof_rules.specs.Tree.{Tree, Forest, leaf, weighted, branch, bar, omit, none, more, tree_count}
+use Rattle.proof_rules.specs.Tree.{Tree, Forest, leaf, weighted, branch, bar, omit, pick, none, more, tree_count}
 use Rattle.proof_rules.specs.Tree.{node_count, node_counts}
 use Rattle.proof_rules.specs.declared.groups.Share.{Share}
 use Rattle.proof_rules.specs.declared.groups.Group.{Group}
@@ -17,8 +17,8 @@ use Rattle.proof_rules.proofs.OmitLemmas.{left_without-append, left_without-nil}
 use Rattle.proof_rules.specs.Good.{AreWeighted, Good, AreGood}
 use Rattle.std.proofs.lemmas.List.Kept.{AllPairs-from_increasing}
 use Rattle.cave_model.specs.Plan.{AreDistinct}
-use Rattle.proof_rules.specs.Certificate.{Section, Version, first, second, third, Certificate, AreListed, IsTreeIn}
-use Rattle.proof_rules.specs.Certificate.{AreTreesIn, IsSectionIn}
+use Rattle.proof_rules.specs.Certificate.{Section, Version, first, second, third, fourth, Certificate, AreListed}
+use Rattle.proof_rules.specs.Certificate.{IsTreeIn, AreTreesIn, IsSectionIn}
 use Rattle.certificate_lines.specs.Said.{Said, said, share_numbers, group_said, tree_said, forest_said, section_said}
 use Rattle.certificate_lines.specs.Said.{said_of}
 use Rattle.certificate_lines.specs.declared.kind.LineKind.TheVariants as kind
@@ -245,6 +245,54 @@ module _ (cave : Cave) (box : ℕ) (cells : List ℕ) (floor : ℕ) where
           stays cave (tree_said kid ++ rest) line final
               (subst (λ (j : Judged). Runs cave (tree_said kid ++ rest) j final) e r),
         )
+    tree_runs (pick place with without) i line chosen barred omitted frames weak rest final (next, inl (may, e), r) =
+        let frame : Frame = record {
+          chosen = chosen;
+          barred = barred;
+          omitted = omitted;
+          place = place;
+          later = [];
+          picked = true;
+        } in
+        let long : length (chosen ++ place ∷ []) ≡ length chosen + 1 = length-append chosen (place ∷ []) in
+        let apart = subst (λ (l : List Said). Runs cave l
+        (at (state (line + 1) (spot_of (chosen ++ place ∷ []) barred omitted (frame ∷ frames)) weak)) final)
+        (append_assoc (tree_said with) (tree_said without) rest)
+        (subst (λ (j : Judged). Runs cave ((tree_said with ++ tree_said without) ++ rest) j final) e r) in
+        elim (tree_runs with i.1 (line + 1) (chosen ++ place ∷ []) barred omitted (frame ∷ frames) weak
+        (tree_said without ++ rest) final apart) [
+          | inl (bad, b, f) ↦ inl (bad, inr (may, inl b), f)
+          | inr (good, q) ↦
+              let w = option_or weak (weak_leaf floor (length chosen + 1) with (line + 1)) in
+              let q' = subst (λ (n : ℕ). Runs cave (tree_said without ++ rest)
+              (at (state (line + 1 + node_count with) (close (frame ∷ frames))
+              (option_or weak (weak_leaf floor n with (line + 1))))) final) long q in
+              elim (tree_runs without i.2 (line + 1 + node_count with) chosen (barred ++ place ∷ []) omitted frames w
+              rest final q') [
+                | inl (bad, b, f) ↦ inl (bad, inr (may, inr (good, b)), f)
+                | inr (fine, s) ↦
+                    let n : line + 1 + node_count with + node_count without
+                    ≡ line + (1 + (node_count with + node_count without)) = omega arith in
+                    let o = option_or_assoc weak (weak_leaf floor (length chosen + 1) with (line + 1))
+                    (weak_leaf floor (length chosen) without (line + 1 + node_count with)) in
+                    inr (
+                      (may, good, fine),
+                      subst (λ (o : Option ℕ). Runs cave rest
+                          (at (state (line + (1 + (node_count with + node_count without))) (close frames) o)) final) o
+                          (subst (λ (k : ℕ). Runs cave rest
+                          (at (state k (close frames)
+                          (option_or w (weak_leaf floor (length chosen) without
+                          (line + 1 + node_count with))))) final) n s),
+                    )
+              ]
+        ]
+    tree_runs (pick place with without) i line chosen barred omitted frames weak rest final (next, inr (bad, e), r) =
+        inl (
+          line,
+          inl (bad, refl),
+          stays cave ((tree_said with ++ tree_said without) ++ rest) line final
+              (subst (λ (j : Judged). Runs cave ((tree_said with ++ tree_said without) ++ rest) j final) e r),
+        )
 
     -- and so does a run over the lines of kids
     pub forest_runs : (ts : Forest) → AreTreesIn box ts
@@ -273,6 +321,7 @@ module _ (cave : Cave) (box : ℕ) (cells : List ℕ) (floor : ℕ) where
           omitted = omitted;
           place = p;
           later = ps;
+          picked = false;
         } in
         let long : length (chosen ++ p ∷ []) ≡ length chosen + 1 = length-append chosen (p ∷ []) in
         let apart = subst (λ (l : List Said). Runs cave l
@@ -398,6 +447,28 @@ pub certificate_runs : (cave : Cave) (c : Certificate) (final : Judged)
     → All (IsSectionIn (cell_count c.size)) c.sections → Runs cave (said_of c) start final
     → Found cave c.sections (start_line c.version) None final
 certificate_runs cave c final i r = go c.version r where
+  needed : (number need : ℕ)
+      → Runs cave (said kind.Version (number ∷ []) ∷ said kind.Size (c.size.x ∷ c.size.y ∷ c.size.z ∷ []) ∷ said
+      kind.Headroom (c.headroom ∷ []) ∷ said kind.Need (need ∷ []) ∷ said kind.Regions (length c.sections ∷ [])
+      ∷ (flat_map section_said c.sections ++ said kind.End [] ∷ [])) start final
+      → Found cave c.sections 6 None final
+  needed number need (j1, e1, (j2, e2, (j3, e3, (j4, e4, (j5, e5, r5))))) =
+      let f2 = subst (λ (x : Judged). StepsOver cave (said kind.Size (c.size.x ∷ c.size.y ∷ c.size.z ∷ [])) x j2) e1
+      e2 in
+      let f3 = subst (λ (x : Judged). StepsOver cave (said kind.Headroom (c.headroom ∷ [])) x j3) f2 e3 in
+      let f4 = subst (λ (x : Judged). StepsOver cave (said kind.Need (need ∷ [])) x j4) f3 e4 in
+      let f5 = subst (λ (x : Judged). StepsOver cave (said kind.Regions (length c.sections ∷ [])) x j5) f4 e5 in
+      regions_run cave (cell_count c.size)
+      c.sections (record {
+        line = 6;
+        cells = [];
+        floor = 0;
+        spot = outset;
+        weak = None;
+        weighing = idle;
+      }) final i refl
+      (subst (λ (x : Judged). Runs cave (flat_map section_said c.sections ++ said kind.End [] ∷ []) x final) f5 r5)
+
   go : (v : Version) → Runs cave (said_of (record c { version = v })) start final
       → Found cave c.sections (start_line v) None final
   go first (j1, e1, (j2, e2, (j3, e3, (j4, e4, r4)))) =
@@ -415,35 +486,6 @@ certificate_runs cave c final i r = go c.version r where
         weighing = idle;
       }) final i refl
       (subst (λ (x : Judged). Runs cave (flat_map section_said c.sections ++ said kind.End [] ∷ []) x final) f4 r4)
-  go (second need) (j1, e1, (j2, e2, (j3, e3, (j4, e4, (j5, e5, r5))))) =
-      let f2 = subst (λ (x : Judged). StepsOver cave (said kind.Size (c.size.x ∷ c.size.y ∷ c.size.z ∷ [])) x j2) e1
-      e2 in
-      let f3 = subst (λ (x : Judged). StepsOver cave (said kind.Headroom (c.headroom ∷ [])) x j3) f2 e3 in
-      let f4 = subst (λ (x : Judged). StepsOver cave (said kind.Need (need ∷ [])) x j4) f3 e4 in
-      let f5 = subst (λ (x : Judged). StepsOver cave (said kind.Regions (length c.sections ∷ [])) x j5) f4 e5 in
-      regions_run cave (cell_count c.size)
-      c.sections (record {
-        line = 6;
-        cells = [];
-        floor = 0;
-        spot = outset;
-        weak = None;
-        weighing = idle;
-      }) final i refl
-      (subst (λ (x : Judged). Runs cave (flat_map section_said c.sections ++ said kind.End [] ∷ []) x final) f5 r5)
-  go (third need) (j1, e1, (j2, e2, (j3, e3, (j4, e4, (j5, e5, r5))))) =
-      let f2 = subst (λ (x : Judged). StepsOver cave (said kind.Size (c.size.x ∷ c.size.y ∷ c.size.z ∷ [])) x j2) e1
-      e2 in
-      let f3 = subst (λ (x : Judged). StepsOver cave (said kind.Headroom (c.headroom ∷ [])) x j3) f2 e3 in
-      let f4 = subst (λ (x : Judged). StepsOver cave (said kind.Need (need ∷ [])) x j4) f3 e4 in
-      let f5 = subst (λ (x : Judged). StepsOver cave (said kind.Regions (length c.sections ∷ [])) x j5) f4 e5 in
-      regions_run cave (cell_count c.size)
-      c.sections (record {
-        line = 6;
-        cells = [];
-        floor = 0;
-        spot = outset;
-        weak = None;
-        weighing = idle;
-      }) final i refl
-      (subst (λ (x : Judged). Runs cave (flat_map section_said c.sections ++ said kind.End [] ∷ []) x final) f5 r5)
+  go (second need) r = needed 2 need r
+  go (third need) r = needed 3 need r
+  go (fourth need) r = needed 4 need r

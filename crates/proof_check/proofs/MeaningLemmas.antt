@@ -6,9 +6,9 @@ use Rattle.cave_model.specs.Spawn.{IsDark}
 use Rattle.cave_model.specs.Torches.{IsPlace, Lights}
 use Rattle.cave_model.specs.Plan.{AreDistinct}
 use Rattle.cave_model.specs.Coverage.{of_cave}
-use Rattle.proof_rules.specs.Good.{IsUnlit, AreScattered, AreOpen, IsDominated}
+use Rattle.proof_rules.specs.Good.{IsUnlit, AreScattered, AreOpen, IsDominated, MayBePicked}
 use Rattle.lit_lists.specs.Lists.{LitLists, AreListsOf}
-use Rattle.node_judges.specs.Tests.{IsFree, AreApartIn, AreLeft, IsDominatedIn, lit_by}
+use Rattle.node_judges.specs.Tests.{IsFree, AreApartIn, AreLeft, IsDominatedIn, MayBePickedIn, lit_by}
 
 module _ (cave : Cave) (lists : LitLists) (known : AreListsOf cave lists) (cells : List ℕ)
     (dark : (cell : ℕ) → Contains cells cell → IsDark cave cell) (chosen : List ℕ)
@@ -99,4 +99,23 @@ module _ (cave : Cave) (lists : LitLists) (known : AreListsOf cave lists) (cells
       | inl w ↦ inl (w.0, lit w.0 cell (legal w.0 w.1) c w.2, w.1)
       | inr l ↦ inr (lit by cell d.by_legal c l)
     ]);
+  }
+
+module _ (cave : Cave) (lists : LitLists) (known : AreListsOf cave lists) where
+  -- a place that may be picked by the lists may be picked
+  pub picked : (chosen barred : List ℕ) (place : ℕ) → MayBePickedIn lists chosen barred place
+      → MayBePicked (of_cave cave) chosen barred place
+  picked chosen barred place may = record {
+    legal = (known.places.exact place).0 may.legal;
+    unchosen = may.unchosen;
+    free = may.free;
+  }
+
+  -- and one that may be picked may be so by the lists
+  pub picked_in : (chosen barred : List ℕ) (place : ℕ) → MayBePicked (of_cave cave) chosen barred place
+      → MayBePickedIn lists chosen barred place
+  picked_in chosen barred place may = record {
+    legal = (known.places.exact place).1 may.legal;
+    unchosen = may.unchosen;
+    free = may.free;
   }

@@ -15,20 +15,20 @@ use Rattle.cave_model.specs.Spawn.{IsDark}
 use Rattle.cave_model.specs.Torches.{IsPlace}
 use Rattle.cave_model.specs.Plan.{AreDistinct}
 use Rattle.lit_lists.specs.Lists.{LitLists, AreListsOf, is_marked}
-use Rattle.proof_check.specs.Judged.{Frame, Weighing, idle, JudgeState, left, at, stuck, enter, goes_to, after_leaf}
-use Rattle.proof_check.specs.Judged.{after_groups}
-use Rattle.node_judges.specs.Tests.{IsFree, AreApartIn, AreLeft, IsDominatedIn, lit_by}
-use Rattle.proof_check.specs.Track.{Fits, IsAt, ClosesFrames, Enters}
+use Rattle.proof_check.specs.Judged.{Frame, Weighing, idle, JudgeState, left, at, stuck, enter, pick_at, goes_to}
+use Rattle.proof_check.specs.Judged.{after_leaf, after_groups}
+use Rattle.node_judges.specs.Tests.{IsFree, AreApartIn, AreLeft, IsDominatedIn, MayBePickedIn, lit_by}
+use Rattle.proof_check.specs.Track.{Fits, IsAt, ClosesFrames, Enters, EntersPick}
 use Rattle.proof_check.specs.Kept.{IsIn, IsWeighing, left_in, JudgesLeaf, JudgesWeighted, JudgesBranch, JudgesBar}
-use Rattle.proof_check.specs.Kept.{JudgesOmission}
+use Rattle.proof_check.specs.Kept.{JudgesOmission, JudgesPick}
 use Rattle.node_judges.specs.Weighed.{MayBeWeighted, MayNotBeWeighted}
 use Rattle.proof_check.specs.declared.nodes.NodeJudge.{NodeJudge}
 use Rattle.proof_check.specs.declared.track.Frame as held
 use Rattle.proof_check.specs.declared.weighing.Weighing as held_weighing
 use Rattle.node_judges.proofs.TestLemmas.{element_of}
-use Rattle.proof_check.proofs.TrackLemmas.{fits_wider, fits_less}
+use Rattle.proof_check.proofs.TrackLemmas.{fits_wider, fits_less, moved}
 use Rattle.proof_check.proofs.MeaningLemmas.{free_unlit, unlit_free, apart_scattered, scattered_apart, left_open}
-use Rattle.proof_check.proofs.MeaningLemmas.{dominated, dominated_in}
+use Rattle.proof_check.proofs.MeaningLemmas.{dominated, dominated_in, picked, picked_in}
 use Rattle.proof_check.proofs.WeighedLemmas.{is_weighted, not_weighted}
 use Rattle.proof_check.proofs.RefusalLemmas.{open_once}
 
@@ -81,17 +81,6 @@ weak_same nodes count line here s w c f l = cc
 weighed_on : (old new : held_weighing.Weighing) (weighing : Weighing) → new ≡ old → IsWeighing old weighing
     → IsWeighing new weighing
 weighed_on old new weighing e i = subst (λ (w : held_weighing.Weighing). IsWeighing w weighing) (sym e) i
-
--- the same lists fit the same frames
-moved : (lists : LitLists) (frames : List Frame) (chosen now_chosen barred now_barred omitted now_omitted : List ℕ)
-    (kept now_kept : List held.Frame) → now_chosen ≡ chosen → now_barred ≡ barred → now_omitted ≡ omitted
-    → now_kept ≡ kept → Fits lists chosen barred omitted kept frames
-    → Fits lists now_chosen now_barred now_omitted now_kept frames
-moved lists frames chosen now_chosen barred now_barred omitted now_omitted kept now_kept c b o k f =
-    subst (λ (l : List ℕ). Fits lists l now_barred now_omitted now_kept frames) (sym c)
-    (subst (λ (l : List ℕ). Fits lists chosen l now_omitted now_kept frames) (sym b)
-    (subst (λ (l : List ℕ). Fits lists chosen barred l now_kept frames) (sym o)
-    (subst (λ (l : List held.Frame). Fits lists chosen barred omitted l frames) (sym k) f)))
 
 module _ (lists : LitLists) (old new : NodeJudge) (line : ℕ) where
   weighed : (s : JudgeState) → new.weighing ≡ old.weighing → IsWeighing old.weighing s.weighing
@@ -338,6 +327,60 @@ module _ (lists : LitLists) (old new : NodeJudge) (line : ℕ) where
         dark = k.dark;
       },
     );
+  }
+
+  -- a pick of a place that may not be picked is bad
+  pub pick_bad : (place : ℕ) → (¬ MayBePickedIn lists old.track.chosen.items old.track.barred.items place)
+      → new.bad ≡ Some line → JudgesPick lists place line old new
+  pick_bad place never bad = record {
+    each = λ cave s known k e. (
+      stuck s.line,
+      inr (
+        (λ may. in_state lists cave old s (λ a b c. ¬ MayBePickedIn lists b c place) k never
+            (picked_in cave lists known s.spot.chosen s.spot.barred place may)),
+        refl,
+      ),
+      bad ∙ ap Some e,
+    );
+  }
+
+  -- any other is entered
+  pub pick_good : (place : ℕ) → MayBePickedIn lists old.track.chosen.items old.track.barred.items place
+      → new.bad ≡ old.bad → new.region.items ≡ old.region.items → new.floor ≡ old.floor → new.weak ≡ old.weak
+      → new.weighing ≡ old.weighing
+      → (limit : ℕ) → limit ≡ length lists.places
+      → EntersPick limit place old.track.chosen.items old.track.barred.items old.track.omitted.items
+      old.track.frames.items new.track.chosen.items new.track.barred.items new.track.omitted.items
+      new.track.frames.items
+      → JudgesPick lists place line old new
+  pick_good place may bad region floor weak weighing limit wide picks = record {
+    each = λ cave s known k e.
+        (let spot = picks.each lists s.spot.frames (sym wide) may.legal k.spot.fits in (
+          at (goes_to s (pick_at s.spot.chosen s.spot.barred s.spot.omitted place s.spot.frames)),
+          inl (
+            picked cave lists known s.spot.chosen s.spot.barred place
+                (in_state lists cave old s (λ a b c. MayBePickedIn lists b c place) k may),
+            refl,
+          ),
+          record {
+            good = bad ∙ k.good;
+            cells = region ∙ k.cells;
+            floor = floor ∙ k.floor;
+            weak = weak ∙ k.weak;
+            spot = subst (λ (c : List ℕ). IsAt lists (pick_at c s.spot.barred s.spot.omitted place s.spot.frames)
+                new.track.chosen.items new.track.barred.items new.track.omitted.items new.track.frames.items)
+                k.spot.chosen_is
+                (subst (λ (b : List ℕ). IsAt lists (pick_at old.track.chosen.items b s.spot.omitted place s.spot.frames)
+                new.track.chosen.items new.track.barred.items new.track.omitted.items new.track.frames.items)
+                k.spot.barred_is
+                (subst (λ (o : List ℕ). IsAt lists
+                (pick_at old.track.chosen.items old.track.barred.items o place s.spot.frames)
+                new.track.chosen.items new.track.barred.items new.track.omitted.items new.track.frames.items)
+                k.spot.omitted_is spot));
+            weighing = weighed s weighing k.weighing;
+            dark = k.dark;
+          },
+        ));
   }
 
   -- groups that may not stand in a weighted leaf are bad

@@ -3,7 +3,7 @@ use Rattle.std.proofs.Common.{◌≡◌, ℕ, ◌+◌, inl, inr, List, [], ◌�
 use Rattle.std.specs.Prelude.{Option, Some}
 use Rattle.cave_model.specs.Cave.{Cave}
 use Rattle.cave_model.specs.Least.{IsLeast}
-use Rattle.proof_rules.specs.Tree.{Tree, Forest, leaf, weighted, branch, bar, omit, none, more, node_count}
+use Rattle.proof_rules.specs.Tree.{Tree, Forest, leaf, weighted, branch, bar, omit, pick, none, more, node_count}
 use Rattle.proof_rules.specs.Omitted.{left_without}
 use Rattle.proof_rules.specs.Certificate.{Section, Certificate, regions_of}
 use Rattle.proof_check.specs.Refused.{IsBadAt, AreBadAt, IsFirstBad, first_weak, start_line, IsReasonOf}
@@ -40,6 +40,17 @@ mutual
   one_bad cave cells chosen barred (omit these kid) line m n (inr a) (inl b) = absurd (b.0 a.0)
   one_bad cave cells chosen barred (omit these kid) line m n (inr a) (inr b) = one_bad cave (left_without these cells)
       chosen barred kid (line + 1) m n a.1 b.1
+  one_bad cave cells chosen barred (pick place with without) line m n (inl a) (inl b) = a.1 ∙ sym b.1
+  one_bad cave cells chosen barred (pick place with without) line m n (inl a) (inr b) = absurd (a.0 b.0)
+  one_bad cave cells chosen barred (pick place with without) line m n (inr a) (inl b) = absurd (b.0 a.0)
+  one_bad cave cells chosen barred (pick place with without) line m n (inr (may, inl a)) (inr (can, inl b)) =
+      one_bad cave cells (chosen ++ place ∷ []) barred with (line + 1) m n a b
+  one_bad cave cells chosen barred (pick place with without) line m n (inr (may, inl a)) (inr (can, inr b)) =
+      absurd (bad_proves_none cave cells (chosen ++ place ∷ []) barred with (line + 1) m 0 a b.0)
+  one_bad cave cells chosen barred (pick place with without) line m n (inr (may, inr a)) (inr (can, inl b)) =
+      absurd (bad_proves_none cave cells (chosen ++ place ∷ []) barred with (line + 1) n 0 b a.0)
+  one_bad cave cells chosen barred (pick place with without) line m n (inr (may, inr a)) (inr (can, inr b)) =
+      one_bad cave cells chosen (barred ++ place ∷ []) without (line + 1 + node_count with) m n a.1 b.1
 
   one_bad_kid : (cave : Cave) (cells chosen barred places : List ℕ) (trees : Forest) (line m n : ℕ)
       → AreBadAt cave cells chosen barred places trees line m

@@ -9,7 +9,8 @@ use Rattle.std.proofs.lemmas.List.Kept.{AllPairs-from_increasing}
 use Rattle.proof_rules.proofs.ListLemmas.{no_member, cons_cases, later, here, at_member}
 use Rattle.std.proofs.lemmas.List.Elements.{All-head, All-tail, All-cons}
 use Rattle.cave_model.specs.Cave.{Cave}
-use Rattle.proof_rules.specs.Tree.{Tree, Forest, leaf, weighted, branch, bar, omit, none, more, tree_count, node_count}
+use Rattle.proof_rules.specs.Tree.{Tree, Forest, leaf, weighted, branch, bar, omit, pick, none, more, tree_count}
+use Rattle.proof_rules.specs.Tree.{node_count}
 use Rattle.proof_rules.specs.Groups.{places_for_all}
 use Rattle.proof_rules.specs.Omitted.{left_without}
 use Rattle.cave_model.specs.Coverage.{of_cave}
@@ -43,6 +44,10 @@ if_none false n e = refl
 not_below : (a b : ℕ) → nat_lt a b ≡ false → b ≤ a
 not_below a b e = grind (arith, nat_tests)
 
+-- with a place more, one more is chosen
+one_more : (chosen : List ℕ) (place count : ℕ) → length chosen ≡ count → length (chosen ++ place ∷ []) ≡ count + 1
+one_more chosen place count n = length-append chosen (place ∷ []) ∙ ap (λ (m : ℕ). m + 1) n
+
 -- where no leaf is too weak, the tree proves so much
 mutual
   -- a sound tree with no weak leaf proves the floor
@@ -66,6 +71,14 @@ mutual
   )
   strong cave cells chosen barred floor count line (omit these kid) n g e =
       (g.0, strong cave (left_without these cells) chosen barred floor count (line + 1) kid n g.1 e)
+  strong cave cells chosen barred floor count line (pick place with without) n g e =
+      let both = neither (weak_leaf floor (count + 1) with (line + 1))
+      (weak_leaf floor count without (line + 1 + node_count with)) e in (
+        g.0,
+        strong cave cells (chosen ++ place ∷ []) barred floor (count + 1) (line + 1) with
+            (one_more chosen place count n) g.1 both.0,
+        strong cave cells chosen (barred ++ place ∷ []) floor count (line + 1 + node_count with) without n g.2 both.1,
+      )
 
   strong_all : (cave : Cave) (cells chosen barred : List ℕ) (floor count line : ℕ) (places : List ℕ) (trees : Forest)
       → length chosen ≡ count → AreGood (of_cave cave) cells chosen barred 0 places trees
@@ -76,8 +89,7 @@ mutual
   strong_all cave cells chosen barred floor count line (p ∷ ps) (more k ks) n g e =
       let both = neither (weak_leaf floor (count + 1) k line)
       (weak_leaf_of floor (count + 1) ks (line + node_count k)) e in (
-        strong cave cells (chosen ++ p ∷ []) barred floor (count + 1) line k
-            (length-append chosen (p ∷ []) ∙ ap (λ (m : ℕ). m + 1) n) g.0 both.0,
+        strong cave cells (chosen ++ p ∷ []) barred floor (count + 1) line k (one_more chosen p count n) g.0 both.0,
         strong_all cave cells chosen (barred ++ p ∷ []) floor count (line + node_count k) ps ks n g.1 both.1,
       )
 
@@ -165,6 +177,11 @@ mutual
   bad_proves_none cave cells chosen barred (omit these kid) line bad floor (inl b) g = b.0 g.0
   bad_proves_none cave cells chosen barred (omit these kid) line bad floor (inr b) g =
       bad_proves_none cave (left_without these cells) chosen barred kid (line + 1) bad floor b.1 g.1
+  bad_proves_none cave cells chosen barred (pick place with without) line bad floor (inl b) g = b.0 g.0
+  bad_proves_none cave cells chosen barred (pick place with without) line bad floor (inr (may, inl b)) g =
+      bad_proves_none cave cells (chosen ++ place ∷ []) barred with (line + 1) bad floor b g.1
+  bad_proves_none cave cells chosen barred (pick place with without) line bad floor (inr (may, inr b)) g =
+      bad_proves_none cave cells chosen (barred ++ place ∷ []) without (line + 1 + node_count with) bad floor b.1 g.2
 
   bad_kid : (cave : Cave) (cells chosen barred places : List ℕ) (trees : Forest) (line bad floor : ℕ)
       → AreBadAt cave cells chosen barred places trees line bad
@@ -256,6 +273,14 @@ mutual
       absurd (omega arith)
   weak_fails cave cells chosen barred floor count line weak (omit these kid) n e g = weak_fails cave
       (left_without these cells) chosen barred floor count (line + 1) weak kid n e g.1
+  weak_fails cave cells chosen barred floor count line weak (pick place with without) n e g =
+      elim (option_or_some (weak_leaf floor (count + 1) with (line + 1))
+      (weak_leaf floor count without (line + 1 + node_count with)) weak e) [
+        | inl e ↦ weak_fails cave cells (chosen ++ place ∷ []) barred floor (count + 1) (line + 1) weak with
+            (one_more chosen place count n) e g.1
+        | inr e ↦ weak_fails cave cells chosen (barred ++ place ∷ []) floor count (line + 1 + node_count with) weak
+            without n e g.2
+      ]
 
   weak_kid : (cave : Cave) (cells chosen barred : List ℕ) (floor count line weak : ℕ) (places : List ℕ) (trees : Forest)
       → length chosen ≡ count → weak_leaf_of floor (count + 1) trees line ≡ Some weak
@@ -266,7 +291,7 @@ mutual
       elim (option_or_some (weak_leaf floor (count + 1) k line)
       (weak_leaf_of floor (count + 1) ks (line + node_count k)) weak e) [
         | inl e ↦ weak_fails cave cells (chosen ++ p ∷ []) barred floor (count + 1) line weak k
-            (length-append chosen (p ∷ []) ∙ ap (λ (m : ℕ). m + 1) n) e g.0
+            (one_more chosen p count n) e g.0
         | inr e ↦ weak_kid cave cells chosen (barred ++ p ∷ []) floor count (line + node_count k) weak ps ks n e g.1
       ]
 

@@ -6,9 +6,9 @@ use Rattle.std.proofs.lemmas.Grind.{flat_map-append}
 use Rattle.std.proofs.lemmas.List.Elements.{All-nil, All-cons, All-head, All-tail, All-append}
 use Rattle.cave_base.specs.Box.{Point}
 use Rattle.cave_model.specs.Cave.{Cave}
-use Rattle.proof_rules.specs.Tree.{Tree, Forest, leaf, weighted, branch, bar, omit, none, more, tree_count}
+use Rattle.proof_rules.specs.Tree.{Tree, Forest, leaf, weighted, branch, bar, omit, pick, none, more, tree_count}
 use Rattle.proof_rules.specs.declared.groups.Group.{Group}
-use Rattle.proof_rules.specs.Certificate.{Section, Version, first, second, third, Certificate, AreListed}
+use Rattle.proof_rules.specs.Certificate.{Section, Version, first, second, third, fourth, Certificate, AreListed}
 use Rattle.proof_rules.specs.Certificate.{IsSectionIn}
 use Rattle.proof_rules.specs.Certificate.{need_of, regions_of, torch_lists}
 use Rattle.certificate_lines.specs.Said.{Said, said, share_numbers, group_said, tree_said, forest_said, section_said}
@@ -27,7 +27,7 @@ two_none xs ys e f = ap (λ (x : List (List ℕ)). x ++ ys) e ∙ f
 module _ (f : Said → List (List ℕ)) (l : (ns : List ℕ) → f (said kind.Leaf ns) ≡ [])
     (b : (ns : List ℕ) → f (said kind.Branch ns) ≡ []) (e : (ns : List ℕ) → f (said kind.Bar ns) ≡ [])
     (w : (ns : List ℕ) → f (said kind.Weighted ns) ≡ []) (g : (ns : List ℕ) → f (said kind.Group ns) ≡ [])
-    (o : (ns : List ℕ) → f (said kind.Omit ns) ≡ []) where
+    (o : (ns : List ℕ) → f (said kind.Omit ns) ≡ []) (p : (ns : List ℕ) → f (said kind.Pick ns) ≡ []) where
   groups_none : (groups : List Group) → flat_map f (map group_said groups) ≡ []
   groups_none [] = refl
   groups_none (h ∷ hs) = two_none (f (group_said h)) (flat_map f (map group_said hs))
@@ -44,6 +44,10 @@ module _ (f : Said → List (List ℕ)) (l : (ns : List ℕ) → f (said kind.Le
         (flat_map f (map group_said groups)) (w (length groups ∷ [])) (groups_none groups)
     tree_none (omit cells kid) = two_none (f (said kind.Omit (length cells ∷ cells))) (flat_map f (tree_said kid))
         (o (length cells ∷ cells)) (tree_none kid)
+    tree_none (pick place with without) = two_none (f (said kind.Pick (place ∷ [])))
+        (flat_map f (tree_said with ++ tree_said without)) (p (place ∷ []))
+        (flat_map-append f (tree_said with) (tree_said without) ∙ two_none (flat_map f (tree_said with))
+        (flat_map f (tree_said without)) (tree_none with) (tree_none without))
 
     forest_none : (ts : Forest) → flat_map f (forest_said ts) ≡ []
     forest_none none = refl
@@ -61,7 +65,8 @@ torch_sections (s ∷ ss) = ap torch_parts
     (append_assoc (section_said s) (flat_map section_said ss) (said kind.End [] ∷ []))
     ∙ ap (λ (p : List (List ℕ)). s.torches ∷ p)
     (after_tree (λ s. part_if (is_torch_line s.kind) s.numbers) (λ ns. refl) (λ ns. refl)
-    (λ ns. refl) (λ ns. refl) (λ ns. refl) (λ ns. refl) s.tree (flat_map section_said ss ++ said kind.End [] ∷ [])
+    (λ ns. refl) (λ ns. refl) (λ ns. refl) (λ ns. refl) (λ ns. refl) s.tree
+    (flat_map section_said ss ++ said kind.End [] ∷ [])
     ∙ torch_sections ss)
 
 -- the lines of a certificate say its lists of torches
@@ -71,6 +76,7 @@ torches_said c = go c.version where
   go first = torch_sections c.sections
   go (second need) = torch_sections c.sections
   go (third need) = torch_sections c.sections
+  go (fourth need) = torch_sections c.sections
 
 -- the lines of sections say their regions
 dark_sections : (ss : List Section)
@@ -80,7 +86,8 @@ dark_sections (s ∷ ss) = ap dark_parts
     (append_assoc (section_said s) (flat_map section_said ss) (said kind.End [] ∷ []))
     ∙ ap (λ (p : List (List ℕ)). s.cells ∷ p)
     (after_tree (λ s. part_if (is_dark_line s.kind) s.numbers) (λ ns. refl) (λ ns. refl)
-    (λ ns. refl) (λ ns. refl) (λ ns. refl) (λ ns. refl) s.tree (flat_map section_said ss ++ said kind.End [] ∷ [])
+    (λ ns. refl) (λ ns. refl) (λ ns. refl) (λ ns. refl) (λ ns. refl) s.tree
+    (flat_map section_said ss ++ said kind.End [] ∷ [])
     ∙ dark_sections ss)
 
 -- the lines of a certificate say its regions
@@ -90,6 +97,7 @@ regions_said c = go c.version where
   go first = dark_sections c.sections
   go (second need) = dark_sections c.sections
   go (third need) = dark_sections c.sections
+  go (fourth need) = dark_sections c.sections
 
 -- sections within a box list torches within it
 pub torches_in : (count : ℕ) (ss : List Section) → All (IsSectionIn count) ss → All (AreListed count) (torch_lists ss)
@@ -134,6 +142,9 @@ module _ (cave : Cave) where
         (groups_agree groups)
     tree_agrees (omit cells kid) = with_line (said kind.Omit (length cells ∷ cells)) (tree_said kid) tt
         (tree_agrees kid)
+    tree_agrees (pick place with without) = with_line (said kind.Pick (place ∷ []))
+        (tree_said with ++ tree_said without) tt (All-append (AgreesWithSaid cave) (tree_said with) (tree_said without)
+        (tree_agrees with) (tree_agrees without))
 
     forest_agrees : (ts : Forest) → AllAgree (forest_said ts)
     forest_agrees none = All-nil (AgreesWithSaid cave)
@@ -173,6 +184,26 @@ module _ (cave : Cave) where
         (sections_agree c.sections)
         (with_line (said kind.End []) [] tt (All-nil (AgreesWithSaid cave))))
 
+    with_need : (number need : ℕ) → (number ∷ [] ≡ 1 ∷ [] → cave.rule.need ≡ 1) → need ≡ cave.rule.need
+        → AllAgree (said kind.Version (number ∷ []) ∷ said kind.Size (c.size.x ∷ c.size.y ∷ c.size.z ∷ []) ∷ said
+        kind.Headroom (c.headroom ∷ []) ∷ said kind.Need (need ∷ []) ∷ said kind.Regions (length c.sections ∷ [])
+        ∷ (flat_map section_said c.sections ++ said kind.End [] ∷ []))
+    with_need number need other n =
+        with_line (said kind.Version (number ∷ []))
+        (said kind.Size (c.size.x ∷ c.size.y ∷ c.size.z ∷ []) ∷ said kind.Headroom (c.headroom ∷ []) ∷ said
+        kind.Need (need ∷ []) ∷ said kind.Regions (length c.sections ∷ [])
+        ∷ (flat_map section_said c.sections ++ said kind.End [] ∷ [])) other
+        (with_line (said kind.Size (c.size.x ∷ c.size.y ∷ c.size.z ∷ []))
+        (said kind.Headroom (c.headroom ∷ []) ∷ said kind.Need (need ∷ []) ∷ said
+        kind.Regions (length c.sections ∷ []) ∷ (flat_map section_said c.sections ++ said kind.End [] ∷ []))
+        size
+        (with_line (said kind.Headroom (c.headroom ∷ []))
+        (said kind.Need (need ∷ []) ∷ said kind.Regions (length c.sections ∷ [])
+        ∷ (flat_map section_said c.sections ++ said kind.End [] ∷ [])) headroom
+        (with_line (said kind.Need (need ∷ []))
+        (said kind.Regions (length c.sections ∷ []) ∷ (flat_map section_said c.sections ++ said kind.End [] ∷ []))
+        (ap (λ (k : ℕ). k ∷ []) n) rest)))
+
     go : (v : Version) → need_of v ≡ cave.rule.need → AllAgree (said_of (record c { version = v }))
     go first n =
         with_line (said kind.Version (1 ∷ []))
@@ -185,36 +216,9 @@ module _ (cave : Cave) where
         (with_line (said kind.Headroom (c.headroom ∷ []))
         (said kind.Regions (length c.sections ∷ []) ∷ (flat_map section_said c.sections ++ said kind.End [] ∷ []))
         headroom rest))
-    go (second need) n =
-        with_line (said kind.Version (2 ∷ []))
-        (said kind.Size (c.size.x ∷ c.size.y ∷ c.size.z ∷ []) ∷ said kind.Headroom (c.headroom ∷ []) ∷ said
-        kind.Need (need ∷ []) ∷ said kind.Regions (length c.sections ∷ [])
-        ∷ (flat_map section_said c.sections ++ said kind.End [] ∷ [])) (λ e. absurd cc)
-        (with_line (said kind.Size (c.size.x ∷ c.size.y ∷ c.size.z ∷ []))
-        (said kind.Headroom (c.headroom ∷ []) ∷ said kind.Need (need ∷ []) ∷ said
-        kind.Regions (length c.sections ∷ []) ∷ (flat_map section_said c.sections ++ said kind.End [] ∷ []))
-        size
-        (with_line (said kind.Headroom (c.headroom ∷ []))
-        (said kind.Need (need ∷ []) ∷ said kind.Regions (length c.sections ∷ [])
-        ∷ (flat_map section_said c.sections ++ said kind.End [] ∷ [])) headroom
-        (with_line (said kind.Need (need ∷ []))
-        (said kind.Regions (length c.sections ∷ []) ∷ (flat_map section_said c.sections ++ said kind.End [] ∷ []))
-        (ap (λ (k : ℕ). k ∷ []) n) rest)))
-    go (third need) n =
-        with_line (said kind.Version (3 ∷ []))
-        (said kind.Size (c.size.x ∷ c.size.y ∷ c.size.z ∷ []) ∷ said kind.Headroom (c.headroom ∷ []) ∷ said
-        kind.Need (need ∷ []) ∷ said kind.Regions (length c.sections ∷ [])
-        ∷ (flat_map section_said c.sections ++ said kind.End [] ∷ [])) (λ e. absurd cc)
-        (with_line (said kind.Size (c.size.x ∷ c.size.y ∷ c.size.z ∷ []))
-        (said kind.Headroom (c.headroom ∷ []) ∷ said kind.Need (need ∷ []) ∷ said
-        kind.Regions (length c.sections ∷ []) ∷ (flat_map section_said c.sections ++ said kind.End [] ∷ []))
-        size
-        (with_line (said kind.Headroom (c.headroom ∷ []))
-        (said kind.Need (need ∷ []) ∷ said kind.Regions (length c.sections ∷ [])
-        ∷ (flat_map section_said c.sections ++ said kind.End [] ∷ [])) headroom
-        (with_line (said kind.Need (need ∷ []))
-        (said kind.Regions (length c.sections ∷ []) ∷ (flat_map section_said c.sections ++ said kind.End [] ∷ []))
-        (ap (λ (k : ℕ). k ∷ []) n) rest)))
+    go (second need) n = with_need 2 need (λ e. absurd cc) n
+    go (third need) n = with_need 3 need (λ e. absurd cc) n
+    go (fourth need) n = with_need 4 need (λ e. absurd cc) n
 
   one_number : (a b : ℕ) → a ∷ [] ≡ b ∷ [] → a ≡ b
   one_number a b e = cc
@@ -232,6 +236,26 @@ module _ (cave : Cave) where
   -- and where all lines agree it is one
   pub of_agreeing : (c : Certificate) → AllAgree (said_of c) → IsOfCave cave c
   of_agreeing c a = go c.version a where
+    needed : (number need : ℕ)
+        → AllAgree (said kind.Version (number ∷ []) ∷ said kind.Size (c.size.x ∷ c.size.y ∷ c.size.z ∷ []) ∷ said
+        kind.Headroom (c.headroom ∷ []) ∷ said kind.Need (need ∷ []) ∷ said kind.Regions (length c.sections ∷ [])
+        ∷ (flat_map section_said c.sections ++ said kind.End [] ∷ []))
+        → (c.size ≡ cave.size) × (c.headroom ≡ cave.rule.headroom) × (need ≡ cave.rule.need)
+    needed number need a =
+        let regions : List Said = said kind.Regions (length c.sections ∷ [])
+        ∷ (flat_map section_said c.sections ++ said kind.End [] ∷ []) in
+        let version : Said = said kind.Version (number ∷ []) in
+        let size : Said = said kind.Size (c.size.x ∷ c.size.y ∷ c.size.z ∷ []) in
+        let headroom : Said = said kind.Headroom (c.headroom ∷ []) in
+        let level : Said = said kind.Need (need ∷ []) in
+        let a1 = All-tail (AgreesWithSaid cave) version (size ∷ headroom ∷ level ∷ regions) a in
+        let a2 = All-tail (AgreesWithSaid cave) size (headroom ∷ level ∷ regions) a1 in
+        let a3 = All-tail (AgreesWithSaid cave) headroom (level ∷ regions) a2 in (
+          size_from c.size cave.size (All-head (AgreesWithSaid cave) size (headroom ∷ level ∷ regions) a1),
+          one_number c.headroom cave.rule.headroom (All-head (AgreesWithSaid cave) headroom (level ∷ regions) a2),
+          one_number need cave.rule.need (All-head (AgreesWithSaid cave) level regions a3),
+        )
+
     go : (v : Version) → AllAgree (said_of (record c { version = v })) → IsOfCave cave (record c { version = v })
     go first a =
         let regions : List Said = said kind.Regions (length c.sections ∷ [])
@@ -245,36 +269,9 @@ module _ (cave : Cave) where
           headroom = one_number c.headroom cave.rule.headroom (All-head (AgreesWithSaid cave) headroom regions a2);
           need = sym (All-head (AgreesWithSaid cave) (said kind.Version (1 ∷ [])) (size ∷ headroom ∷ regions) a refl);
         }
-    go (second need) a =
-        let regions : List Said = said kind.Regions (length c.sections ∷ [])
-        ∷ (flat_map section_said c.sections ++ said kind.End [] ∷ []) in
-        let size : Said = said kind.Size (c.size.x ∷ c.size.y ∷ c.size.z ∷ []) in
-        let headroom : Said = said kind.Headroom (c.headroom ∷ []) in
-        let needed : Said = said kind.Need (need ∷ []) in
-        let a1 = All-tail (AgreesWithSaid cave) (said kind.Version (2 ∷ [])) (size ∷ headroom ∷ needed ∷ regions) a in
-        let a2 = All-tail (AgreesWithSaid cave) size (headroom ∷ needed ∷ regions) a1 in
-        let a3 = All-tail (AgreesWithSaid cave) headroom (needed ∷ regions) a2 in
-        record {
-          box = size_from c.size cave.size (All-head (AgreesWithSaid cave) size (headroom ∷ needed ∷ regions) a1);
-          headroom = one_number c.headroom cave.rule.headroom
-              (All-head (AgreesWithSaid cave) headroom (needed ∷ regions) a2);
-          need = one_number need cave.rule.need (All-head (AgreesWithSaid cave) needed regions a3);
-        }
-    go (third need) a =
-        let regions : List Said = said kind.Regions (length c.sections ∷ [])
-        ∷ (flat_map section_said c.sections ++ said kind.End [] ∷ []) in
-        let size : Said = said kind.Size (c.size.x ∷ c.size.y ∷ c.size.z ∷ []) in
-        let headroom : Said = said kind.Headroom (c.headroom ∷ []) in
-        let needed : Said = said kind.Need (need ∷ []) in
-        let a1 = All-tail (AgreesWithSaid cave) (said kind.Version (3 ∷ [])) (size ∷ headroom ∷ needed ∷ regions) a in
-        let a2 = All-tail (AgreesWithSaid cave) size (headroom ∷ needed ∷ regions) a1 in
-        let a3 = All-tail (AgreesWithSaid cave) headroom (needed ∷ regions) a2 in
-        record {
-          box = size_from c.size cave.size (All-head (AgreesWithSaid cave) size (headroom ∷ needed ∷ regions) a1);
-          headroom = one_number c.headroom cave.rule.headroom
-              (All-head (AgreesWithSaid cave) headroom (needed ∷ regions) a2);
-          need = one_number need cave.rule.need (All-head (AgreesWithSaid cave) needed regions a3);
-        }
+    go (second need) a = (let n = needed 2 need a in record { box = n.0; headroom = n.1; need = n.2 })
+    go (third need) a = (let n = needed 3 need a in record { box = n.0; headroom = n.1; need = n.2 })
+    go (fourth need) a = (let n = needed 4 need a in record { box = n.0; headroom = n.1; need = n.2 })
 
   -- where a line differs it isn't
   pub differing : (c : Certificate) → Differs cave (said_of c) → ¬ IsOfCave cave c

@@ -66,6 +66,13 @@ bar_nothing lists (a ∷ b ∷ []) line nodes h = absurd (h refl)
 bar_nothing lists (a ∷ b ∷ c ∷ ns) line nodes h = nothing_said lists kind.Bar (a ∷ b ∷ c ∷ ns) line nodes
     (λ cave s. refl)
 
+-- nor a pick with other than one
+pub pick_nothing : (lists : LitLists) (numbers : List ℕ) (line : ℕ) (nodes : NodeJudge) → (length numbers ≢ 1)
+    → StepsOn lists kind.Pick numbers line nodes nodes
+pick_nothing lists [] line nodes h = nothing_said lists kind.Pick [] line nodes (λ cave s. refl)
+pick_nothing lists (a ∷ []) line nodes h = absurd (h refl)
+pick_nothing lists (a ∷ b ∷ ns) line nodes h = nothing_said lists kind.Pick (a ∷ b ∷ ns) line nodes (λ cave s. refl)
+
 -- a leaf that is judged by the cells after its count is a step
 pub leaf_steps : (lists : LitLists) (numbers : List ℕ) (line : ℕ) (old new : NodeJudge) → 0 < length numbers
     → JudgesLeaf lists (take (length numbers - 1) (drop 1 numbers)) line old new
@@ -80,31 +87,31 @@ leaf_steps lists (n ∷ ns) line old new h j =
 pub other_nothing : (lists : LitLists) (k : LineKind) (numbers : List ℕ) (line : ℕ) (nodes : NodeJudge)
     → (k ≢ kind.Dark)
     → (k ≢ kind.Torches) → (k ≢ kind.Leaf) → (k ≢ kind.Branch) → (k ≢ kind.Bar)
-    → (k ≢ kind.Weighted) → (k ≢ kind.Group) → (k ≢ kind.Omit)
+    → (k ≢ kind.Weighted) → (k ≢ kind.Group) → (k ≢ kind.Omit) → (k ≢ kind.Pick)
     → StepsOn lists k numbers line nodes nodes
-other_nothing lists kind.Version numbers line nodes a b c d e f g h = nothing_said lists kind.Version numbers line nodes
-    (λ cave s. refl)
-other_nothing lists kind.Size numbers line nodes a b c d e f g h = nothing_said lists kind.Size numbers line nodes
-    (λ cave s. refl)
-other_nothing lists kind.Headroom numbers line nodes a b c d e f g h = nothing_said lists kind.Headroom numbers line
-    nodes
-    (λ cave s. refl)
-other_nothing lists kind.Need numbers line nodes a b c d e f g h = nothing_said lists kind.Need numbers line nodes
-    (λ cave s. refl)
-other_nothing lists kind.Regions numbers line nodes a b c d e f g h = nothing_said lists kind.Regions numbers line nodes
-    (λ cave s. refl)
-other_nothing lists kind.Region numbers line nodes a b c d e f g h = nothing_said lists kind.Region numbers line nodes
-    (λ cave s. refl)
-other_nothing lists kind.End numbers line nodes a b c d e f g h = nothing_said lists kind.End numbers line nodes
-    (λ cave s. refl)
-other_nothing lists kind.Dark numbers line nodes a b c d e f g h = absurd (a refl)
-other_nothing lists kind.Torches numbers line nodes a b c d e f g h = absurd (b refl)
-other_nothing lists kind.Leaf numbers line nodes a b c d e f g h = absurd (c refl)
-other_nothing lists kind.Branch numbers line nodes a b c d e f g h = absurd (d refl)
-other_nothing lists kind.Bar numbers line nodes a b c d e f g h = absurd (e refl)
-other_nothing lists kind.Weighted numbers line nodes a b c d e f g h = absurd (f refl)
-other_nothing lists kind.Group numbers line nodes a b c d e f g h = absurd (g refl)
-other_nothing lists kind.Omit numbers line nodes a b c d e f g h = absurd (h refl)
+other_nothing lists kind.Version numbers line nodes a b c d e f g h i =
+    nothing_said lists kind.Version numbers line nodes (λ cave s. refl)
+other_nothing lists kind.Size numbers line nodes a b c d e f g h i =
+    nothing_said lists kind.Size numbers line nodes (λ cave s. refl)
+other_nothing lists kind.Headroom numbers line nodes a b c d e f g h i =
+    nothing_said lists kind.Headroom numbers line nodes (λ cave s. refl)
+other_nothing lists kind.Need numbers line nodes a b c d e f g h i =
+    nothing_said lists kind.Need numbers line nodes (λ cave s. refl)
+other_nothing lists kind.Regions numbers line nodes a b c d e f g h i =
+    nothing_said lists kind.Regions numbers line nodes (λ cave s. refl)
+other_nothing lists kind.Region numbers line nodes a b c d e f g h i =
+    nothing_said lists kind.Region numbers line nodes (λ cave s. refl)
+other_nothing lists kind.End numbers line nodes a b c d e f g h i =
+    nothing_said lists kind.End numbers line nodes (λ cave s. refl)
+other_nothing lists kind.Dark numbers line nodes a b c d e f g h i = absurd (a refl)
+other_nothing lists kind.Torches numbers line nodes a b c d e f g h i = absurd (b refl)
+other_nothing lists kind.Leaf numbers line nodes a b c d e f g h i = absurd (c refl)
+other_nothing lists kind.Branch numbers line nodes a b c d e f g h i = absurd (d refl)
+other_nothing lists kind.Bar numbers line nodes a b c d e f g h i = absurd (e refl)
+other_nothing lists kind.Weighted numbers line nodes a b c d e f g h i = absurd (f refl)
+other_nothing lists kind.Group numbers line nodes a b c d e f g h i = absurd (g refl)
+other_nothing lists kind.Omit numbers line nodes a b c d e f g h i = absurd (h refl)
+other_nothing lists kind.Pick numbers line nodes a b c d e f g h i = absurd (i refl)
 
 -- the same track is at the same spot
 spot_kept : (lists : LitLists) (s : JudgeState) (old new : Track) → new ≡ old

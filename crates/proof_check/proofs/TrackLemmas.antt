@@ -1,13 +1,14 @@
--- Open branches, as they end and begin.
+-- Open branches and picks, as they end and begin.
 use Rattle.std.proofs.Common.{◌≡◌, ℕ, suc, ◌+◌, ◌-◌, ◌<◌, ◌≤◌, inl, inr, List, [], ◌∷◌, ◌++◌, length, take, drop}
 use Rattle.std.proofs.Common.{slice_index, Contains, IsTrue, refl, sym, ap, subst, ◌∙◌, arith, append_assoc}
 use Rattle.std.proofs.Common.{length-append, drop-cons}
-use Rattle.std.specs.Prelude.{Bool, false}
+use Rattle.std.specs.Prelude.{Bool, true, false, if◌then◌else◌}
 use Rattle.std.proofs.lemmas.Bool.{true≢false, cases_lt}
 use Rattle.std.proofs.lemmas.List.{append-nil, get_or_past, drop_all}
 use Rattle.lit_lists.specs.Lists.{LitLists, is_marked}
-use Rattle.proof_check.specs.Judged.{Frame, Spot, close, enter_or}
-use Rattle.proof_check.specs.Track.{IsFrameOf, Fits, IsAt, ClosesFrames, Enters}
+use Rattle.proof_rules.proofs.ListLemmas.{no_member, cons_cases}
+use Rattle.proof_check.specs.Judged.{Frame, Spot, close, enter_or, without_place}
+use Rattle.proof_check.specs.Track.{IsFrameOf, Fits, IsAt, ClosesFrames, Enters, EntersPick}
 use Rattle.proof_check.specs.declared.track.Frame as held
 use Rattle.node_judges.proofs.TestLemmas.{element_of}
 
@@ -53,7 +54,7 @@ pub record Popped (lists : LitLists) (chosen barred omitted : List ℕ) (front :
   pub omitted_is : take last.omits omitted ≡ frame.omitted
   pub fits : Fits lists frame.chosen frame.barred frame.omitted front outer
 
--- the last frame kept is the innermost open branch
+-- the last frame kept is the innermost open branch or pick
 pub popped : (lists : LitLists) (chosen barred omitted : List ℕ) (kept front : List held.Frame) (last : held.Frame)
     (frames : List Frame) → Fits lists chosen barred omitted kept frames → kept ≡ front ++ last ∷ []
     → Popped lists chosen barred omitted front last frames
@@ -74,15 +75,29 @@ popped lists chosen barred omitted kept front last (a ∷ fs) (front2, last2, at
       fits = subst (λ (l : List held.Frame). Fits lists a.chosen a.barred a.omitted l fs) same.0 rest;
     }
 
--- where no frame is kept no branch is open, and nothing is chosen
+-- where no frame is kept no branch or pick is open, and nothing is chosen
 pub no_frames : (lists : LitLists) (chosen barred omitted : List ℕ) (kept : List held.Frame) (frames : List Frame)
     → Fits lists chosen barred omitted kept frames → kept ≡ [] → (frames ≡ []) × (chosen ≡ [])
 no_frames lists chosen barred omitted kept [] f e = (refl, f.1)
 no_frames lists chosen barred omitted kept (a ∷ fs) f e = snoc_nil f.0 f.1 (sym f.2 ∙ e)
 
--- a frame with no later place
-pub ended : (frame : Frame) (frames : List Frame) → frame.later ≡ [] → close (frame ∷ frames) ≡ close frames
-ended frame frames e = ap (λ (l : List ℕ). enter_or frame.chosen
+-- after a kid of a branch its next place is entered
+next_place : (frame : Frame) (frames : List Frame) → frame.picked ≡ false
+    → close (frame ∷ frames) ≡ enter_or frame.chosen (frame.barred ++ frame.place ∷ []) frame.omitted frame.later frames
+    (close frames)
+next_place frame frames branch = ap (λ (b : Bool). if b then without_place frame frames else
+    enter_or frame.chosen (frame.barred ++ frame.place ∷ []) frame.omitted frame.later frames (close frames)) branch
+
+-- after the first tree of a pick its place is barred
+place_barred : (frame : Frame) (frames : List Frame) → frame.picked ≡ true
+    → close (frame ∷ frames) ≡ without_place frame frames
+place_barred frame frames pick = ap (λ (b : Bool). if b then without_place frame frames else
+    enter_or frame.chosen (frame.barred ++ frame.place ∷ []) frame.omitted frame.later frames (close frames)) pick
+
+-- a branch with no later place
+pub ended : (frame : Frame) (frames : List Frame) → frame.picked ≡ false → frame.later ≡ []
+    → close (frame ∷ frames) ≡ close frames
+ended frame frames branch e = next_place frame frames branch ∙ ap (λ (l : List ℕ). enter_or frame.chosen
     (frame.barred ++ frame.place ∷ []) frame.omitted l frames
     (close frames)) e
 
@@ -136,6 +151,18 @@ fits_less lists chosen barred omitted more kept (a ∷ fs) (front, last, k, is, 
   outer,
 )
 
+-- the same lists fit the same frames
+pub moved : (lists : LitLists) (frames : List Frame)
+    (chosen now_chosen barred now_barred omitted now_omitted : List ℕ)
+    (kept now_kept : List held.Frame) → now_chosen ≡ chosen → now_barred ≡ barred → now_omitted ≡ omitted
+    → now_kept ≡ kept → Fits lists chosen barred omitted kept frames
+    → Fits lists now_chosen now_barred now_omitted now_kept frames
+moved lists frames chosen now_chosen barred now_barred omitted now_omitted kept now_kept c b o k f =
+    subst (λ (l : List ℕ). Fits lists l now_barred now_omitted now_kept frames) (sym c)
+    (subst (λ (l : List ℕ). Fits lists chosen l now_omitted now_kept frames) (sym b)
+    (subst (λ (l : List ℕ). Fits lists chosen barred l now_kept frames) (sym o)
+    (subst (λ (l : List held.Frame). Fits lists chosen barred omitted l frames) (sym k) f)))
+
 -- the next place of a frame
 next_later : (places : List ℕ) (index : ℕ) → index + 1 < length places
     → drop (index + 1) places ≡ slice_index places (index + 1) ∷ drop (index + 1 + 1) places
@@ -148,13 +175,15 @@ pub next_fits : (lists : LitLists) (last now : held.Frame) (frame : Frame) (fram
     (front : List held.Frame)
     (chosen barred omitted : List ℕ) (kept : List held.Frame)
     → IsFrameOf lists last frame → Fits lists frame.chosen frame.barred frame.omitted front frames
-    → last.index + 1 < length last.places.items
-    → now.places.items ≡ last.places.items → now.index ≡ last.index + 1 → kept ≡ front ++ now ∷ []
+    → last.is_pick ≡ false → last.index + 1 < length last.places.items
+    → now.places.items ≡ last.places.items → now.index ≡ last.index + 1 → now.is_pick ≡ false
+    → kept ≡ front ++ now ∷ []
     → chosen ≡ frame.chosen ++ slice_index last.places.items (last.index + 1) ∷ []
     → barred ≡ frame.barred ++ slice_index last.places.items last.index ∷ []
     → omitted ≡ frame.omitted → now.bars ≡ length barred → now.omits ≡ length omitted
     → IsAt lists (close (frame ∷ frames)) chosen barred omitted kept
-next_fits lists last now frame frames front chosen barred omitted kept is fits more same index at c b o bars omits =
+next_fits lists last now frame frames front chosen barred omitted kept is fits was more same index branch at c b o bars
+    omits =
     let later : frame.later ≡ slice_index last.places.items (last.index + 1) ∷ drop
     (last.index + 1 + 1) last.places.items = sym is.later ∙ next_later last.places.items last.index more in
     let next : ℕ = slice_index last.places.items (last.index + 1) in
@@ -162,7 +191,8 @@ next_fits lists last now frame frames front chosen barred omitted kept is fits m
     let closed : close (frame ∷ frames) ≡ enter_or frame.chosen (frame.barred ++ frame.place ∷ []) frame.omitted
     (slice_index last.places.items (last.index + 1) ∷ drop (last.index + 1 + 1) last.places.items) frames
     (close frames)
-    = ap (λ (l : List ℕ). enter_or frame.chosen (frame.barred ++ frame.place ∷ []) frame.omitted l frames
+    = next_place frame frames (sym is.picked ∙ was)
+    ∙ ap (λ (l : List ℕ). enter_or frame.chosen (frame.barred ++ frame.place ∷ []) frame.omitted l frames
     (close frames))
     later in
     subst (λ (s : Spot). IsAt lists s chosen barred omitted kept) (sym closed) (record {
@@ -180,6 +210,7 @@ next_fits lists last now frame frames front chosen barred omitted kept is fits m
           place = ap (λ (l : List ℕ). slice_index l now.index) same ∙ ap (slice_index last.places.items) index;
           later = ap (λ (l : List ℕ). drop (now.index + 1) l) same
               ∙ ap (λ (n : ℕ). drop (n + 1) last.places.items) index;
+          picked = branch;
           legal = λ place has. is.legal place (subst (λ (l : List ℕ). Contains l place) same has);
         },
         c,
@@ -204,22 +235,21 @@ pub record Closing (limit : ℕ) (chosen barred omitted : List ℕ) (kept : List
 pub closing_next : (limit : ℕ) (c0 b0 o0 : List ℕ) (k0 : List held.Frame) (chosen barred omitted : List ℕ)
     (kept front : List held.Frame) (last : held.Frame) (new_chosen new_barred new_omitted : List ℕ)
     → Closing limit c0 b0 o0 k0 chosen barred omitted kept → kept ≡ front ++ last ∷ []
-    → length last.places.items ≤ last.index + 1
+    → last.is_pick ≡ false → length last.places.items ≤ last.index + 1
     → new_chosen ≡ take (length chosen - 1) chosen → new_barred ≡ take last.bars barred
     → new_omitted ≡ take last.omits omitted
     → Closing limit c0 b0 o0 k0 new_chosen new_barred new_omitted front
-closing_next limit c0 b0 o0 k0 chosen barred omitted kept front last new_chosen new_barred new_omitted s e done c b o =
+closing_next limit c0 b0 o0 k0 chosen barred omitted kept front last new_chosen new_barred new_omitted s e branch done
+    c b o =
     record {
       each = λ lists frames el f.
           (let g = s.each lists frames el f in
           let p = popped lists chosen barred omitted kept front last g.0 g.1 e in
           let none : p.frame.later ≡ [] = sym p.is.later ∙ drop_all (last.index + 1) last.places.items done in (
             p.outer,
-            subst (λ (l : List ℕ). Fits lists l new_barred new_omitted front p.outer) (sym (c ∙ p.chosen_is))
-                (subst (λ (l : List ℕ). Fits lists p.frame.chosen l new_omitted front p.outer) (sym (b ∙ p.barred_is))
-                (subst (λ (l : List ℕ). Fits lists p.frame.chosen p.frame.barred l front p.outer)
-                (sym (o ∙ p.omitted_is)) p.fits)),
-            sym (ended p.frame p.outer none) ∙ sym (ap close p.are) ∙ g.2,
+            moved lists p.outer p.frame.chosen new_chosen p.frame.barred new_barred p.frame.omitted new_omitted front
+                front (c ∙ p.chosen_is) (b ∙ p.barred_is) (o ∙ p.omitted_is) refl p.fits,
+            sym (ended p.frame p.outer (sym p.is.picked ∙ branch) none) ∙ sym (ap close p.are) ∙ g.2,
           ));
     }
 
@@ -241,7 +271,7 @@ pub closing_kid : (limit : ℕ) (c0 b0 o0 : List ℕ) (k0 : List held.Frame) (ch
     (kept front : List held.Frame) (last now : held.Frame)
     (cut_chosen cut_barred new_chosen new_barred new_omitted : List ℕ) (new_kept : List held.Frame)
     → Closing limit c0 b0 o0 k0 chosen barred omitted kept → kept ≡ front ++ last ∷ []
-    → last.index + 1 < length last.places.items
+    → last.is_pick ≡ false → last.index + 1 < length last.places.items
     → cut_chosen ≡ take (length chosen - 1) chosen → cut_barred ≡ take last.bars barred
     → new_omitted ≡ take last.omits omitted
     → (slice_index last.places.items last.index < limit
@@ -249,10 +279,10 @@ pub closing_kid : (limit : ℕ) (c0 b0 o0 : List ℕ) (k0 : List held.Frame) (ch
     → (slice_index last.places.items (last.index + 1) < limit
     → new_chosen ≡ cut_chosen ++ slice_index last.places.items (last.index + 1) ∷ [])
     → new_kept ≡ front ++ now ∷ [] → now.places.items ≡ last.places.items → now.index ≡ last.index + 1
-    → now.bars ≡ length new_barred → now.omits ≡ length new_omitted
+    → now.is_pick ≡ false → now.bars ≡ length new_barred → now.omits ≡ length new_omitted
     → ClosesFrames limit c0 b0 o0 k0 new_chosen new_barred new_omitted new_kept
 closing_kid limit c0 b0 o0 k0 chosen barred omitted kept front last now cut_chosen cut_barred new_chosen new_barred
-    new_omitted new_kept s e more c b o place next k same index bars omits = record {
+    new_omitted new_kept s e was more c b o place next k same index branch bars omits = record {
       each = λ lists frames el f.
           (let g = s.each lists frames el f in
           let p = popped lists chosen barred omitted kept front last g.0 g.1 e in
@@ -264,46 +294,122 @@ closing_kid limit c0 b0 o0 k0 chosen barred omitted kept front last now cut_chos
           (b ∙ p.barred_is) in
           subst (λ (spot : Spot). IsAt lists spot new_chosen new_barred new_omitted new_kept)
           (sym (ap close p.are) ∙ g.2)
-          (next_fits lists last now p.frame p.outer front new_chosen new_barred new_omitted new_kept p.is p.fits more
-          same index k chosen_now barred_now (o ∙ p.omitted_is) bars omits));
+          (next_fits lists last now p.frame p.outer front new_chosen new_barred new_omitted new_kept p.is p.fits was
+          more same index branch k chosen_now barred_now (o ∙ p.omitted_is) bars omits));
     }
 
--- ---- a branch begins
+-- a pick goes on to its second tree
+pub closing_pick : (limit : ℕ) (c0 b0 o0 : List ℕ) (k0 : List held.Frame) (chosen barred omitted : List ℕ)
+    (kept front : List held.Frame) (last : held.Frame) (cut_barred new_chosen new_barred new_omitted : List ℕ)
+    (new_kept : List held.Frame)
+    → Closing limit c0 b0 o0 k0 chosen barred omitted kept → kept ≡ front ++ last ∷ [] → last.is_pick ≡ true
+    → new_chosen ≡ take (length chosen - 1) chosen → cut_barred ≡ take last.bars barred
+    → new_omitted ≡ take last.omits omitted
+    → (last.index < length last.places.items → slice_index last.places.items last.index < limit
+    → new_barred ≡ cut_barred ++ slice_index last.places.items last.index ∷ [])
+    → new_kept ≡ front
+    → ClosesFrames limit c0 b0 o0 k0 new_chosen new_barred new_omitted new_kept
+closing_pick limit c0 b0 o0 k0 chosen barred omitted kept front last cut_barred new_chosen new_barred new_omitted
+    new_kept s e pick c b o place k = record {
+      each = λ lists frames el f.
+          (let g = s.each lists frames el f in
+          let p = popped lists chosen barred omitted kept front last g.0 g.1 e in
+          let low = place_below lists last p.frame limit last.index el p.is p.is.within in
+          let bars : new_barred ≡ p.frame.barred ++ p.frame.place ∷ [] = place p.is.within low
+          ∙ ap (λ (l : List ℕ). l ++ slice_index last.places.items last.index ∷ []) (b ∙ p.barred_is)
+          ∙ ap (λ (q : ℕ). p.frame.barred ++ q ∷ []) p.is.place in
+          subst (λ (spot : Spot). IsAt lists spot new_chosen new_barred new_omitted new_kept)
+          (sym (place_barred p.frame p.outer (sym p.is.picked ∙ pick)) ∙ sym (ap close p.are) ∙ g.2)
+          (record {
+            chosen_is = c ∙ p.chosen_is;
+            barred_is = bars;
+            omitted_is = o ∙ p.omitted_is;
+            fits = moved lists p.outer p.frame.chosen new_chosen (p.frame.barred ++ p.frame.place ∷ []) new_barred
+                p.frame.omitted new_omitted front new_kept (c ∙ p.chosen_is) bars (o ∙ p.omitted_is) k
+                (fits_wider lists p.frame.chosen p.frame.barred p.frame.omitted (p.frame.place ∷ []) front p.outer
+                p.fits);
+          }));
+    }
+
+-- ---- a branch or a pick begins
+
+-- the first of a frame's places is chosen
+begun : (lists : LitLists) (place : ℕ) (places chosen barred omitted : List ℕ) (kept : List held.Frame)
+    (now : held.Frame) (new_chosen : List ℕ) (new_kept : List held.Frame) (frames : List Frame) (picked : Bool)
+    → ((other : ℕ) → Contains (place ∷ places) other → IsTrue (is_marked lists.places other))
+    → new_chosen ≡ chosen ++ place ∷ [] → new_kept ≡ kept ++ now ∷ []
+    → now.places.items ≡ place ∷ places → now.index ≡ 0 → now.bars ≡ length barred → now.omits ≡ length omitted
+    → now.is_pick ≡ picked → Fits lists chosen barred omitted kept frames
+    → IsAt lists (record {
+      chosen = chosen ++ place ∷ [];
+      barred = barred;
+      omitted = omitted;
+      frames = record {
+        chosen = chosen;
+        barred = barred;
+        omitted = omitted;
+        place = place;
+        later = places;
+        picked = picked;
+      } ∷ frames;
+    }) new_chosen barred omitted new_kept
+begun lists place places chosen barred omitted kept now new_chosen new_kept frames picked legal c k same index bars
+    omits pick f = record {
+      chosen_is = c;
+      barred_is = refl;
+      omitted_is = refl;
+      fits = (
+        kept,
+        now,
+        k,
+        record {
+          bars = bars;
+          omits = omits;
+          within = omega (arith, ap length same);
+          place = ap (λ (l : List ℕ). slice_index l now.index) same ∙ ap (slice_index (place ∷ places)) index;
+          later = ap (λ (l : List ℕ). drop (now.index + 1) l) same
+              ∙ ap (λ (n : ℕ). drop (n + 1) (place ∷ places)) index;
+          picked = pick;
+          legal = λ other has. legal other (subst (λ (l : List ℕ). Contains l other) same has);
+        },
+        c,
+        [],
+        sym (append-nil barred),
+        [],
+        sym (append-nil omitted),
+        f,
+      );
+    }
 
 -- a branch with places enters the first
 pub entered : (limit : ℕ) (places chosen barred omitted : List ℕ) (kept : List held.Frame) (now : held.Frame)
     (new_chosen : List ℕ) (new_kept : List held.Frame) → 0 < length places
     → (slice_index places 0 < limit → new_chosen ≡ chosen ++ slice_index places 0 ∷ []) → new_kept ≡ kept ++ now ∷ []
     → now.places.items ≡ places → now.index ≡ 0 → now.bars ≡ length barred → now.omits ≡ length omitted
+    → now.is_pick ≡ false
     → Enters limit places chosen barred omitted kept new_chosen barred omitted new_kept
-entered limit [] chosen barred omitted kept now new_chosen new_kept some c k same index bars omits =
+entered limit [] chosen barred omitted kept now new_chosen new_kept some c k same index bars omits branch =
     absurd (omega arith)
-entered limit (p ∷ ps) chosen barred omitted kept now new_chosen new_kept some c k same index bars omits = record {
-  each = λ lists frames el legal f.
-      (let low : p < limit = marked_below lists.places p limit el (legal p (element_of (p ∷ ps) 0 some)) in
-      let chosen_now = c low in
-      record {
-        chosen_is = chosen_now;
-        barred_is = refl;
-        omitted_is = refl;
-        fits = (
-          kept,
-          now,
-          k,
-          record {
-            bars = bars;
-            omits = omits;
-            within = omega (arith, ap length same);
-            place = ap (λ (l : List ℕ). slice_index l now.index) same ∙ ap (slice_index (p ∷ ps)) index;
-            later = ap (λ (l : List ℕ). drop (now.index + 1) l) same ∙ ap (λ (n : ℕ). drop (n + 1) (p ∷ ps)) index;
-            legal = λ place has. legal place (subst (λ (l : List ℕ). Contains l place) same has);
-          },
-          chosen_now,
-          [],
-          sym (append-nil barred),
-          [],
-          sym (append-nil omitted),
-          f,
-        );
-      });
+entered limit (p ∷ ps) chosen barred omitted kept now new_chosen new_kept some c k same index bars omits branch =
+    record {
+      each = λ lists frames el legal f.
+          (let low : p < limit = marked_below lists.places p limit el (legal p (element_of (p ∷ ps) 0 some)) in
+          begun lists p ps chosen barred omitted kept now new_chosen new_kept frames false legal (c low) k same index
+          bars omits branch f);
+    }
+
+-- a pick chooses its place
+pub picked_first : (limit place : ℕ) (chosen barred omitted : List ℕ) (kept : List held.Frame) (now : held.Frame)
+    (new_chosen : List ℕ) (new_kept : List held.Frame)
+    → (place < limit → new_chosen ≡ chosen ++ place ∷ []) → new_kept ≡ kept ++ now ∷ []
+    → now.places.items ≡ place ∷ [] → now.index ≡ 0 → now.bars ≡ length barred → now.omits ≡ length omitted
+    → now.is_pick ≡ true
+    → EntersPick limit place chosen barred omitted kept new_chosen barred omitted new_kept
+picked_first limit place chosen barred omitted kept now new_chosen new_kept c k same index bars omits pick = record {
+  each = λ lists frames el legal f. begun lists place [] chosen barred omitted kept now new_chosen new_kept frames true
+      (λ other has. elim (cons_cases place [] other has) [
+        | inl e ↦ subst (λ (p : ℕ). IsTrue (is_marked lists.places p)) e legal
+        | inr none ↦ no_member other none
+      ])
+      (c (marked_below lists.places place limit el legal)) k same index bars omits pick f;
 }

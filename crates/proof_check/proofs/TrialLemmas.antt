@@ -109,6 +109,7 @@ on_length kind.Bar ns = refl
 on_length kind.Weighted ns = refl
 on_length kind.Group ns = refl
 on_length kind.Omit ns = refl
+on_length kind.Pick ns = refl
 on_length kind.End ns = refl
 
 -- a line more adds its torches to the number

@@ -1,7 +1,7 @@
 -- How nodes are judged, line by line: which piece the next tree is of, and which comes after it.
 -- This is this project's own.
-use Rattle.std.specs.Prelude.{◌≡◌, ℕ, ◌+◌, ◌<◌, ◌⊎◌, nat_lt, if◌then◌else◌, List, [], ◌∷◌, ◌++◌, length, Option, Some}
-use Rattle.std.specs.Prelude.{None}
+use Rattle.std.specs.Prelude.{◌≡◌, ℕ, ◌+◌, ◌<◌, ◌⊎◌, nat_lt, Bool, true, false, if◌then◌else◌, List, [], ◌∷◌, ◌++◌}
+use Rattle.std.specs.Prelude.{length, Option, Some, None}
 use Rattle.std.specs.Option.{option_or}
 use Rattle.std.specs.List.Sorted.{IsStrictlyIncreasing}
 use Rattle.cave_model.specs.Cave.{Cave}
@@ -11,22 +11,24 @@ use Rattle.proof_rules.specs.declared.groups.Share.{Share}
 use Rattle.proof_rules.specs.declared.groups.Group.{Group}
 use Rattle.proof_rules.specs.Groups.{AreGroups, places_for_all}
 use Rattle.proof_rules.specs.Omitted.{left_without, MayBeOmitted}
-use Rattle.proof_rules.specs.Good.{AreScattered, AreWeighted, IsDominated}
+use Rattle.proof_rules.specs.Good.{AreScattered, AreWeighted, IsDominated, MayBePicked}
 use Rattle.certificate_lines.specs.Said.{Said}
 use Rattle.certificate_lines.specs.declared.kind.LineKind.{LineKind}
 use Rattle.certificate_lines.specs.declared.kind.LineKind.TheVariants as kind
 use Rattle.proof_check.specs.Refused.{IsBranching}
 
 -- an open branch: its piece with the cells left out, the place of the kid that is judged, with those before it
--- barred, and the later places
+-- barred, and the later places; or an open pick, whose tree with its place chosen is judged
 pub record Frame : Type 0 where
   pub chosen : List ℕ
   pub barred : List ℕ
   pub omitted : List ℕ
   pub place : ℕ
   pub later : List ℕ
+  -- whether the place was picked: the tree with it barred comes after its own
+  pub picked : Bool
 
--- the piece of the next tree, the cells left out of the region, and the open branches, the innermost first
+-- the piece of the next tree, the cells left out of the region, and the open branches and picks, the innermost first
 pub record Spot : Type 0 where
   pub chosen : List ℕ
   pub barred : List ℕ
@@ -40,22 +42,54 @@ enter_or chosen barred omitted (place ∷ places) frames closed = record {
   chosen = chosen ++ place ∷ [];
   barred = barred;
   omitted = omitted;
-  frames = record { chosen = chosen; barred = barred; omitted = omitted; place = place; later = places } ∷ frames;
+  frames = record {
+    chosen = chosen;
+    barred = barred;
+    omitted = omitted;
+    place = place;
+    later = places;
+    picked = false;
+  } ∷ frames;
 }
 
--- where nothing is chosen, barred or left out, and no branch is open
+-- where nothing is chosen, barred or left out, and no branch or pick is open
 abbrev pub outset : Spot
 outset = record { chosen = []; barred = []; omitted = []; frames = [] }
+
+-- where the tree with the picked place barred is judged, whose end is the pick's
+abbrev pub without_place : Frame → List Frame → Spot
+without_place frame frames = record {
+  chosen = frame.chosen;
+  barred = frame.barred ++ frame.place ∷ [];
+  omitted = frame.omitted;
+  frames = frames;
+}
 
 -- what comes after a tree
 abbrev pub close : List Frame → Spot
 close [] = outset
-close (frame ∷ frames) = enter_or frame.chosen (frame.barred ++ frame.place ∷ []) frame.omitted frame.later frames
-    (close frames)
+close (frame ∷ frames) = if frame.picked then without_place frame frames else
+    enter_or frame.chosen (frame.barred ++ frame.place ∷ []) frame.omitted frame.later frames (close frames)
 
 -- where a branch on these places leads: to its first kid, or where it has none to what comes after the branch
 abbrev pub enter : List ℕ → List ℕ → List ℕ → List ℕ → List Frame → Spot
 enter chosen barred omitted places frames = enter_or chosen barred omitted places frames (close frames)
+
+-- where a pick of this place leads: to the tree with it chosen, after which the one with it barred comes
+abbrev pub pick_at : List ℕ → List ℕ → List ℕ → ℕ → List Frame → Spot
+pick_at chosen barred omitted place frames = record {
+  chosen = chosen ++ place ∷ [];
+  barred = barred;
+  omitted = omitted;
+  frames = record {
+    chosen = chosen;
+    barred = barred;
+    omitted = omitted;
+    place = place;
+    later = [];
+    picked = true;
+  } ∷ frames;
+}
 
 -- a weighted leaf of which not all groups are told: its line, how many groups are to come, and those before them
 pub record Weighing : Type 0 where
@@ -162,6 +196,11 @@ OmitSteps cave these j new =
     × (new ≡ at (goes_to j (record j.spot { omitted = j.spot.omitted ++ these }))))
     ⊎ ((¬ MayBeOmitted (left j) these) × (new ≡ stuck j.line))
 
+-- whether the place may be picked: its two trees come next, or its line is bad
+abbrev pub PickSteps : Cave → ℕ → JudgeState → Judged → Type 0
+PickSteps cave place j new = Tests (MayBePicked (of_cave cave) j.spot.chosen j.spot.barred place) j
+    (at (goes_to j (pick_at j.spot.chosen j.spot.barred j.spot.omitted place j.spot.frames))) new
+
 -- the shares of a group's line, each a cell and its weight
 abbrev pub shares_of : List ℕ → List Share
 shares_of (cell ∷ weight ∷ numbers) = record { cell = cell; weight = weight } ∷ shares_of numbers
@@ -177,6 +216,7 @@ NodeSteps cave kind.Weighted (count ∷ []) j new =
 NodeSteps cave kind.Group (capacity ∷ count ∷ numbers) j new =
     GroupSteps cave (record { capacity = capacity; shares = shares_of numbers }) j new
 NodeSteps cave kind.Omit (count ∷ these) j new = OmitSteps cave these j new
+NodeSteps cave kind.Pick (place ∷ []) j new = PickSteps cave place j new
 NodeSteps cave kind.Dark cells j new = new ≡ at (record (next_line j) { cells = cells })
 NodeSteps cave kind.Torches torches j new =
     new ≡ at (record (next_line j) { floor = length torches; spot = outset })

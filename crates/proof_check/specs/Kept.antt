@@ -9,7 +9,7 @@ use Rattle.proof_rules.specs.declared.groups.Group.{Group}
 use Rattle.proof_rules.specs.Omitted.{left_without}
 use Rattle.proof_check.specs.Judged.{Weighing, idle, JudgeState, Judged, at, stuck, LeafSteps, WeightedSteps}
 use Rattle.proof_check.specs.Judged.{GroupSteps}
-use Rattle.proof_check.specs.Judged.{BranchSteps, BarSteps, OmitSteps, NodeSteps}
+use Rattle.proof_check.specs.Judged.{BranchSteps, BarSteps, OmitSteps, PickSteps, NodeSteps}
 use Rattle.proof_check.specs.Track.{IsAt}
 use Rattle.weight_judge.specs.Rooms.{AreNoRooms}
 use Rattle.node_judges.specs.Tests.{AreInside, AreMatched}
@@ -109,6 +109,11 @@ pub record JudgesOmission (lists : LitLists) (these : List ℕ) (line : ℕ) (ol
   pub each : (cave : Cave) (state : JudgeState) → AreListsOf cave lists → IsIn cave lists old state → line ≡ state.line
       → (next : Judged) × OmitSteps cave these state next × Keeps cave lists new next
 
+-- from any state on this line the judge takes the step of a pick of this place
+pub record JudgesPick (lists : LitLists) (place line : ℕ) (old new : NodeJudge) : Type 0 where
+  pub each : (cave : Cave) (state : JudgeState) → AreListsOf cave lists → IsIn cave lists old state → line ≡ state.line
+      → (next : Judged) × PickSteps cave place state next × Keeps cave lists new next
+
 -- a line of the kind Dark has dark cells alone
 abbrev pub AreDarkAt : Cave → LineKind → List ℕ → Type 0
 AreDarkAt cave k numbers = k ≡ kind.Dark → (cell : ℕ) → Contains numbers cell → IsDark cave cell
@@ -136,7 +141,7 @@ pub record BeginsRegion (cells : List ℕ) (old new : NodeJudge) : Type 0 where
   pub bad : new.bad ≡ old.bad
   pub weighing : new.weighing ≡ old.weighing
 
--- so many are to be proved, and no branch is open; all else stays
+-- so many are to be proved, and no branch or pick is open; all else stays
 pub record Expects (count : ℕ) (old new : NodeJudge) : Type 0 where
   pub floor : new.floor ≡ count
   pub chosen : new.track.chosen.items ≡ []

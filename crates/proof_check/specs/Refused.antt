@@ -7,13 +7,14 @@ use Rattle.cave_model.specs.Least.{IsLeast}
 use Rattle.cave_model.specs.Spawn.{IsDark}
 use Rattle.cave_model.specs.Torches.{IsPlace, Lights}
 use Rattle.cave_model.specs.Regions.{AreRegions}
-use Rattle.proof_rules.specs.Tree.{Tree, Forest, leaf, weighted, branch, bar, omit, none, more, tree_count, node_count}
+use Rattle.proof_rules.specs.Tree.{Tree, Forest, leaf, weighted, branch, bar, omit, pick, none, more, tree_count}
+use Rattle.proof_rules.specs.Tree.{node_count}
 use Rattle.proof_rules.specs.Groups.{places_for_all}
 use Rattle.proof_rules.specs.Omitted.{left_without, MayBeOmitted}
 use Rattle.cave_model.specs.Coverage.{of_cave}
 use Rattle.cave_model.specs.Coverage.{IsLitBy}
-use Rattle.proof_rules.specs.Good.{Good, IsUnlit, AreScattered, AreWeighted, AreOpen, IsDominated}
-use Rattle.proof_rules.specs.Certificate.{Section, Version, first, second, third, Certificate, regions_of}
+use Rattle.proof_rules.specs.Good.{Good, IsUnlit, AreScattered, AreWeighted, AreOpen, IsDominated, MayBePicked}
+use Rattle.proof_rules.specs.Certificate.{Section, Version, first, second, third, fourth, Certificate, regions_of}
 use Rattle.proof_rules.specs.Certificate.{torch_lists, torches_of}
 use Rattle.proof_rules.specs.Text.{IsTextOf, IsFirstMisfit}
 use Rattle.proof_check.specs.Accepted.{IsOfCave, AreDistinctPlaces, LeaveNoneDark, AreProved}
@@ -79,6 +80,12 @@ abbrev mutual
   IsBadAt cave cells chosen barred (omit these kid) line bad =
       ((¬ MayBeOmitted cells these) × (bad ≡ line))
       ⊎ (MayBeOmitted cells these × IsBadAt cave (left_without these cells) chosen barred kid (line + 1) bad)
+  IsBadAt cave cells chosen barred (pick place with without) line bad =
+      ((¬ MayBePicked (of_cave cave) chosen barred place) × (bad ≡ line))
+      ⊎ (MayBePicked (of_cave cave) chosen barred place
+      × (IsBadAt cave cells (chosen ++ place ∷ []) barred with (line + 1) bad
+      ⊎ (Good (of_cave cave) cells (chosen ++ place ∷ []) barred 0 with
+      × IsBadAt cave cells chosen (barred ++ place ∷ []) without (line + 1 + node_count with) bad)))
 
   -- the same for trees of these places in turn, each chosen in its own tree and barred in those after it; the trees
   -- before that with the bad line are good
@@ -108,6 +115,8 @@ abbrev mutual
   weak_leaf floor chosen (branch cell kids) line = weak_leaf_of floor (chosen + 1) kids (line + 1)
   weak_leaf floor chosen (bar place by kid) line = weak_leaf floor chosen kid (line + 1)
   weak_leaf floor chosen (omit these kid) line = weak_leaf floor chosen kid (line + 1)
+  weak_leaf floor chosen (pick place with without) line = option_or (weak_leaf floor (chosen + 1) with (line + 1))
+      (weak_leaf floor chosen without (line + 1 + node_count with))
 
   -- the same of trees, one after another
   pub weak_leaf_of : ℕ → ℕ → Forest → ℕ → Option ℕ
@@ -127,6 +136,7 @@ abbrev pub start_line : Version → ℕ
 start_line first = 5
 start_line (second need) = 6
 start_line (third need) = 6
+start_line (fourth need) = 6
 
 -- ---- the order
 

@@ -66,6 +66,18 @@ impl NodeJudge {
         Ok(())
     }
 
+    /// A pick's line: the place.
+    fn pick_line(&mut self, lists: &Lists, numbers: &[u32], line: u64) -> Result<(), AllocError>
+        requires wide { IsWide lists.now self.old }
+        ensures steps { OnOk result (StepsOn lists.now kinds.Pick numbers.now line self.old self.new) }
+        ensures wide { OnOk result (IsWide lists.now self.new) }
+    {
+        if numbers.len() == 1 {
+            self.pick(lists, numbers[0], line)?;
+        }
+        Ok(())
+    }
+
     /// Judges a line; stands still after one against the rules.
     pub fn line(
         &mut self,
@@ -96,6 +108,7 @@ impl NodeJudge {
             }
             LineKind::Branch => self.branch_line(lists, numbers, line)?,
             LineKind::Bar => self.bar_line(lists, numbers, line)?,
+            LineKind::Pick => self.pick_line(lists, numbers, line)?,
             LineKind::Weighted => self.weighted_line(lists, numbers, line),
             LineKind::Group => self.group_line(lists, numbers, line)?,
             LineKind::Dark => self.begin(numbers)?,

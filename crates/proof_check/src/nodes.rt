@@ -5,13 +5,16 @@ ghost use Rattle.std.specs.Prelude.{◌≡◌, ◌+◌, length, nat_lt, if◌the
 ghost use Rattle.lit_lists.specs.Lists.{row_at};
 ghost use Rattle.node_judges.specs.Tests.{AreAscending};
 ghost use Rattle.proof_check.specs.Kept.{BeginsRegion, Expects, IsNew, IsWide, JudgesBar};
-ghost use Rattle.proof_check.specs.Kept.{JudgesBranch, JudgesGroup, JudgesLeaf, JudgesOmission, JudgesWeighted};
+ghost use Rattle.proof_check.specs.Kept.{JudgesBranch, JudgesGroup, JudgesLeaf, JudgesOmission, JudgesPick};
+ghost use Rattle.proof_check.specs.Kept.{JudgesWeighted};
 
 use crate::track::Track;
 use crate::weighing::Weighing;
 use cave_base::Cell;
 use lit_lists::Lists;
-use node_judges::{Tally, are_left, is_dominated, is_free, is_leaf, is_weighted, left_of, mark};
+use node_judges::{
+    Tally, are_left, is_dominated, is_free, is_leaf, is_weighted, left_of, mark, may_be_picked,
+};
 use proof_rules::Group;
 use std::alloc::{AllocError, Global};
 use std::mem;
@@ -192,6 +195,21 @@ impl NodeJudge {
             return Ok(());
         }
         mark(these, &mut self.track.omitted)?;
+        Ok(())
+    }
+
+    /// A place to choose, and then to bar.
+    pub fn pick(&mut self, lists: &Lists, place: Cell, line: u64) -> Result<(), AllocError>
+        requires wide { IsWide lists.now self.old }
+        ensures pick { OnOk result (JudgesPick lists.now place line self.old self.new) }
+        ensures wide { OnOk result (IsWide lists.now self.new) }
+    {
+        let setting = self.track.setting(lists, &self.region);
+        if !may_be_picked(&setting, place) {
+            self.bad = Some(line);
+            return Ok(());
+        }
+        self.track.pick(self.alloc, place)?;
         Ok(())
     }
 

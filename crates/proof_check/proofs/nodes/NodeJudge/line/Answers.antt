@@ -28,7 +28,7 @@ returns-in_default c = record {
       c.is_some.result c.is_some.ensures c.if-is_some.false
       (other_nothing c.args.lists.now c.args.kind c.args.numbers.now c.args.line c.args.self.now
       c.in_default.not-Dark c.in_default.not-Torches c.in_default.not-Leaf c.in_default.not-Branch c.in_default.not-Bar
-      c.in_default.not-Weighted c.in_default.not-Group c.in_default.not-Omit);
+      c.in_default.not-Weighted c.in_default.not-Group c.in_default.not-Omit c.in_default.not-Pick);
   wide = c.requires.wide;
 }
 

@@ -1,4 +1,5 @@
 use Rattle.std.proofs.Common.{◌≡◌, ◌+◌, [], ◌∷◌, ◌++◌, ℕ, slice_index, ap, ◌∙◌, refl, arith}
+use Rattle.std.specs.Prelude.{false}
 use Rattle.std.proofs.lemmas.Grind.{get_or_default_zero}
 use Rattle.proof_check.proofs.track.Track.next_kid.Goals as goal
 
@@ -20,13 +21,14 @@ returns-clause-kid c =
         places = c.args.frame.places;
         index = c.args.frame.index + 1;
         bars = c.len.result;
-        omits =
-            c.len-2.result;
+        omits = c.len-2.result;
+        is_pick = false;
       };
       frames = c.in_ok-push-3.ensures.items;
       same = refl;
       index = refl;
       bars = c.len.ensures;
       omits = c.len-2.ensures;
+      branch = refl;
       still = refl;
     }
