@@ -11,7 +11,7 @@ use Rattle.std.proofs.lemmas.List.Sorted.{IsPermutation-sym, Contains-permutatio
 use Rattle.cave_model.specs.Plan.{AreDistinct}
 use Rattle.set_cover.proofs.OrderLemmas.{sorted_rises}
 use Rattle.proof_rules.specs.declared.groups.Group.{Group}
-use Rattle.proof_rules.specs.Tree.{Tree, Forest, weighted, branch, none, more, tree_count}
+use Rattle.proof_rules.specs.Tree.{Tree, Forest, weighted, branch, pick, none, more, tree_count}
 use Rattle.proof_rules.specs.Text.{ended, line, group_line, tree_lines, forest_lines}
 use Rattle.certificate_text.specs.Lines.{groups_text, tree_text, forest_text, HaveDistinctCells}
 use Rattle.proof_tree.specs.Order.{in_order, ordered_tree, ordered_trees}
@@ -49,6 +49,14 @@ pub branch_text : (cell count : ℕ) (kids : Forest) → count ≡ tree_count ki
     → (line (codes "B") (cell ∷ count ∷ []) ++ 10 ∷ []) ++ forest_text kids ≡ tree_text (branch cell kids)
 branch_text cell count kids e = ap (λ (n : ℕ). (line (codes "B") (cell ∷ n ∷ []) ++ 10 ∷ []) ++ forest_text kids)
     (e ∙ sym (ordered_count kids))
+
+-- a pick's line and the texts of its trees are its text
+pub pick_text : (place : ℕ) (with without : Tree)
+    → (line (codes "P") (place ∷ []) ++ 10 ∷ []) ++ (tree_text with ++ tree_text without)
+    ≡ tree_text (pick place with without)
+pick_text place with without = ap (λ (l : List ℕ). (line (codes "P") (place ∷ []) ++ 10 ∷ []) ++ l)
+    (sym (flat_map-append (λ text. text ++ 10 ∷ []) (tree_lines (ordered_tree with))
+    (tree_lines (ordered_tree without))))
 
 -- the text of a tree and that of those after it
 pub more_text : (tree : Tree) (trees : Forest) → tree_text tree ++ forest_text trees ≡ forest_text (more tree trees)

@@ -17,14 +17,14 @@ versions_some none = omega arith
 versions_some (more tree trees) = (let rest = versions_some trees in omega (arith, rest))
 
 -- with the version of the plans that are still to come, this is the version of all
-pub record IsRankSoFar (version whole : ℕ) (plans : List Plan) (index : ℕ) : Type 0 where
+pub record IsVersionSoFar (version whole : ℕ) (plans : List Plan) (index : ℕ) : Type 0 where
   pub some : 1 ≤ version
   pub with_rest : max version (plans_version (drop index plans)) ≡ whole
 
 -- one plan more
 pub next_version : (version whole : ℕ) (plans : List Plan) (index : ℕ) (plan : Plan) (next : ℕ) → index < length plans
-    → plan ≡ get_or plans index plan → IsRankSoFar version whole plans index → next ≡ max (version_for plan.tree) version
-    → IsRankSoFar next whole plans (index + 1)
+    → plan ≡ get_or plans index plan → IsVersionSoFar version whole plans index
+    → next ≡ max (version_for plan.tree) version → IsVersionSoFar next whole plans (index + 1)
 next_version version whole plans index plan next lt is s e =
     let parts = ap plans_version (drop_more plans index plan lt) in
     let one = ap (λ (p : Plan). version_for p.tree) is in record {
@@ -34,6 +34,7 @@ next_version version whole plans index plan next lt is s e =
 
 -- after the last plan it is the version of all
 pub last_version : (version whole : ℕ) (plans : List Plan) (index : ℕ) → length plans ≤ index
-    → IsRankSoFar version whole plans index → version ≡ whole
+    → IsVersionSoFar version whole plans index → version ≡ whole
 last_version version whole plans index past s =
-    let none = ap plans_version (drop_all index plans past) in let some = s.some in let rest = s.with_rest in omega arith
+    let none = ap plans_version (drop_all index plans past) in
+    let some = s.some in let rest = s.with_rest in omega arith

@@ -10,7 +10,7 @@ use Rattle.std.proofs.lemmas.List.Elements.{All-weaker}
 use Rattle.cave_model.specs.Cave.{Cave}
 use Rattle.cave_model.specs.Coverage.{Coverage}
 use Rattle.set_cover.specs.Instance.{of_instance}
-use Rattle.proof_rules.specs.Tree.{Tree, Forest, leaf, weighted, branch, bar, omit, none, more}
+use Rattle.proof_rules.specs.Tree.{Tree, Forest, leaf, weighted, branch, bar, omit, pick, none, more}
 use Rattle.proof_rules.specs.Omitted.{left_without}
 use Rattle.proof_rules.specs.Good.{Good, AreGood}
 use Rattle.proof_rules.specs.Text.{ended, line, head_lines, section_lines}
@@ -92,6 +92,10 @@ mutual
       good_distinct coverage cells chosen (barred ++ place ∷ []) floor kid g.1
   good_distinct coverage cells chosen barred floor (omit these kid) g =
       good_distinct coverage (left_without these cells) chosen barred floor kid g.1
+  good_distinct coverage cells chosen barred floor (pick place with without) g = (
+    good_distinct coverage cells (chosen ++ place ∷ []) barred floor with g.1,
+    good_distinct coverage cells chosen (barred ++ place ∷ []) floor without g.2,
+  )
 
   all_distinct : (coverage : Coverage) (cells chosen barred : List ℕ) (floor : ℕ) (places : List ℕ) (trees : Forest)
       → AreGood coverage cells chosen barred floor places trees → HaveDistinctCells trees

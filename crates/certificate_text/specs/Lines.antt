@@ -2,7 +2,7 @@
 use Rattle.std.specs.Prelude.{ℕ, List, [], ◌∷◌, ◌++◌, flat_map}
 use Rattle.cave_model.specs.Plan.{AreDistinct}
 use Rattle.proof_rules.specs.declared.groups.Group.{Group}
-use Rattle.proof_rules.specs.Tree.{Tree, Forest, leaf, weighted, branch, bar, omit, none, more}
+use Rattle.proof_rules.specs.Tree.{Tree, Forest, leaf, weighted, branch, bar, omit, pick, none, more}
 use Rattle.proof_rules.specs.Text.{ended, group_line, tree_lines, forest_lines}
 use Rattle.proof_tree.specs.Order.{ordered_tree, ordered_trees}
 
@@ -30,6 +30,7 @@ abbrev mutual
   HasDistinctCells (branch cell kids) = HaveDistinctCells kids
   HasDistinctCells (bar place by kid) = HasDistinctCells kid
   HasDistinctCells (omit cells kid) = HasDistinctCells kid
+  HasDistinctCells (pick place with without) = HasDistinctCells with × HasDistinctCells without
 
   -- no cell stands twice in one leaf of the trees
   pub HaveDistinctCells : Forest → Type 0

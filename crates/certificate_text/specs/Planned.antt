@@ -4,9 +4,9 @@ use Rattle.cave_model.specs.Cave.{Cave}
 use Rattle.cave_model.specs.Coverage.{of_cave, Agrees}
 use Rattle.cave_model.specs.Regions.{AreRegions}
 use Rattle.set_cover.specs.Instance.{Instance, of_instance}
-use Rattle.proof_rules.specs.Tree.{Tree, Forest, leaf, weighted, branch, bar, omit, none, more}
+use Rattle.proof_rules.specs.Tree.{Tree, Forest, leaf, weighted, branch, bar, omit, pick, none, more}
 use Rattle.proof_rules.specs.Good.{Good}
-use Rattle.proof_rules.specs.Certificate.{Section, Version, first, second, third, Certificate}
+use Rattle.proof_rules.specs.Certificate.{Section, Version, first, second, third, fourth, Certificate}
 use Rattle.proof_rules.specs.Text.{ended, lines_of}
 use Rattle.instance_regions.specs.Cover.{IsCoverOfRegion}
 use Rattle.instance_regions.specs.Region.{IsRegion}
@@ -25,7 +25,8 @@ abbrev mutual
   version_for (weighted groups) = 3
   version_for (branch cell kids) = versions_for kids
   version_for (bar place by kid) = max (version_for kid) 2
-  version_for (omit cells kid) = 3
+  version_for (omit cells kid) = max (version_for kid) 3
+  version_for (pick place with without) = 4
 
   -- the number of the first version that knows each node of the trees
   pub versions_for : Forest → ℕ
@@ -47,7 +48,8 @@ version_needed need plans = max (need_version need) (plans_version plans)
 
 -- the version with this number, under this need
 abbrev pub version_at : ℕ → ℕ → Version
-version_at need version = if nat_le 3 version then third need else (if nat_le 2 version then second need else first)
+version_at need version = if nat_le 4 version then fourth need
+    else (if nat_le 3 version then third need else (if nat_le 2 version then second need else first))
 
 -- the version for these plans under this need: the first that can say all
 abbrev pub version_of : ℕ → List Plan → Version

@@ -33,7 +33,7 @@ fn first_heading(alloc: Global, world: &World, regions: usize) -> Result<String,
     Ok(out)
 }
 
-/// The lines of need and how many regions there are, which both later versions have.
+/// The lines of need and how many regions there are, which all later versions have.
 fn need_text(alloc: Global, world: &World, regions: usize) -> Result<String, AllocError>
     ensures { IfOk result (λ s. string_bytes s ≡ texts.need_text world.now.rule.need regions) }
 {
@@ -70,7 +70,9 @@ pub fn heading(
     ensures { IfOk result (λ s. string_bytes s
         ≡ texts.heading_text world.now regions (version_at world.now.rule.need version)) }
 {
-    if version >= 3 {
+    if version >= 4 {
+        later_heading(alloc, "torchproof 4", world, regions)
+    } else if version >= 3 {
         later_heading(alloc, "torchproof 3", world, regions)
     } else if version >= 2 {
         later_heading(alloc, "torchproof 2", world, regions)

@@ -7,9 +7,9 @@ mod groups;
 mod heading;
 mod line;
 mod nodes;
-mod versions;
 mod sections;
 mod sink;
+mod versions;
 mod writing;
 
 pub use certificate::{Planned, write_certificate};

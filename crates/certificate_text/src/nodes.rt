@@ -80,6 +80,15 @@ pub fn put_tree<W: Write>(sink: &mut Sink<'_, W>, proof: &Proof) -> Result<(), W
             sink.put_line("D", &numbers)?;
             put_tree(sink, kid.tree())
         }
+        Proof::Pick {
+            place,
+            with,
+            without,
+        } => {
+            sink.put_line("P", &[*place as u64])?;
+            put_tree(sink, with.tree())?;
+            put_tree(sink, without.tree())
+        }
     }
 }
 

@@ -5,8 +5,8 @@ ghost use Rattle.proof_tree.specs.Shape.{forest_of, tree_of};
 
 use proof_tree::Proof;
 
-/// The number of the first version that knows each node of the tree: the second a place that is left out, and the third
-/// cells that are left out or weigh.
+/// The number of the first version that knows each node of the tree: the second a place that is left out, the third
+/// cells that are left out or weigh, and the fourth a pick.
 #[cycle(versions)]
 pub fn least_version(proof: &Proof) -> u8
     ensures { result ≡ version_for (tree_of proof.now) }
@@ -20,7 +20,8 @@ pub fn least_version(proof: &Proof) -> u8
             by: _,
             kid,
         } => least_version(kid.tree()).max(2),
-        Proof::Omit { .. } => 3,
+        Proof::Omit { cells: _, kid } => least_version(kid.tree()).max(3),
+        Proof::Pick { .. } => 4,
     }
 }
 

@@ -1,7 +1,7 @@
 -- Shapes in which nothing waits or is held.
 use Rattle.std.proofs.Common.{◌≡◌, ◌⊎◌, inl, inr, ℕ, zero, suc, ◌+◌, Bool, true, false, ◌&&◌, true≢false, List, []}
 use Rattle.std.proofs.Common.{◌∷◌, ◌++◌, length, Some, refl, sym, ap, ◌∙◌, subst, arith, append_assoc, append-nil}
-use Rattle.proof_rules.specs.Tree.{Tree, leaf, weighted, branch, bar, omit}
+use Rattle.proof_rules.specs.Tree.{Tree, leaf, weighted, branch, bar, omit, pick}
 use Rattle.event_core.specs.State.{State, Part, waiting, held, opened, closed, IsLeft}
 use Rattle.event_core.specs.Assembled.{IsAssembled, AreAssembled, IsClosedBy}
 use Rattle.event_core.specs.Shape.{Shape, Shapes, at_rest, in_hand, settled, parted, no_shape, one_shape, part_in}
@@ -98,6 +98,7 @@ closed_tree state name (weighted groups) k = k
 closed_tree state name (branch cell kids) k = inl k
 closed_tree state name (bar place by kid) k = k
 closed_tree state name (omit cells kid) k = k
+closed_tree state name (pick place with without) k = k
 
 mutual
   -- the shape stands in the state below this name

@@ -5,7 +5,7 @@ use Rattle.std.specs.Prelude.{take, drop, slice_index}
 use Rattle.std.proofs.lemmas.Bool.{cases_lt}
 use Rattle.std.proofs.lemmas.List.{take_more, drop_more}
 use Rattle.set_cover.specs.Instance.{Instance, of_instance}
-use Rattle.proof_rules.specs.Tree.{Tree, Forest, leaf, weighted, branch, bar, omit, none, more}
+use Rattle.proof_rules.specs.Tree.{Tree, Forest, leaf, weighted, branch, bar, omit, pick, none, more}
 use Rattle.proof_rules.specs.Good.{Good, AreGood}
 use Rattle.proof_rules.proofs.LessLemmas.{good_at_less}
 use Rattle.event_core.specs.State.{State, Part, Status, opened, closed, HasPart}
@@ -37,6 +37,8 @@ there state name (bar place by kid) (c, b, floor, h) =
     (record { chosen = c; barred = b; status = closed floor (bar place by kid) }, h)
 there state name (omit cells kid) (c, b, floor, h) =
     (record { chosen = c; barred = b; status = closed floor (omit cells kid) }, h)
+there state name (pick place with without) (c, b, floor, h) =
+    (record { chosen = c; barred = b; status = closed floor (pick place with without) }, h)
 
 module _ (state : State) (sound : IsSoundState state) where
   abbrev GoodHere : List ℕ → List ℕ → Tree → Type 0
@@ -71,6 +73,7 @@ module _ (state : State) (sound : IsSoundState state) where
         )
     good (bar place by kid) name c b status h a = closed_good name c b status (bar place by kid) h a
     good (omit cells kid) name c b status h a = closed_good name c b status (omit cells kid) h a
+    good (pick place with without) name c b status h a = closed_good name c b status (pick place with without) h a
 
     -- and so do the trees of its kids, from any of them on
     pub all_good : (kids : Forest) (name c b : List ℕ) (cell : ℕ) (k : HasKids state name c b cell) (i : ℕ)

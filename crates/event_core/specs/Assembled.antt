@@ -1,6 +1,6 @@
 -- The tree of what is opened and closed. This is this project's own.
 use Rattle.std.specs.Prelude.{◌≡◌, ◌⊎◌, ℕ, ◌+◌, List, [], ◌∷◌, ◌++◌, None}
-use Rattle.proof_rules.specs.Tree.{Tree, Forest, leaf, weighted, branch, bar, omit, none, more}
+use Rattle.proof_rules.specs.Tree.{Tree, Forest, leaf, weighted, branch, bar, omit, pick, none, more}
 use Rattle.event_core.specs.State.{State, HasPart, opened, closed}
 
 -- the piece is closed by this tree
@@ -21,6 +21,7 @@ abbrev mutual
       IsClosedBy state name (branch cell kids) ⊎ (IsOpenedOn state name cell × AreAssembled state name 0 kids)
   IsAssembled state name (bar place by kid) = IsClosedBy state name (bar place by kid)
   IsAssembled state name (omit cells kid) = IsClosedBy state name (omit cells kid)
+  IsAssembled state name (pick place with without) = IsClosedBy state name (pick place with without)
 
   -- the trees of the kids from this number on, as many as there are
   pub AreAssembled : State → List ℕ → ℕ → Forest → Type 0

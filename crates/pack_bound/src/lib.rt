@@ -16,7 +16,7 @@ mod pieces;
 pub use cover::cover_of;
 pub use dominance::dominated;
 pub use greedy::{first_places, first_plan};
-pub use judge::{is_bar, is_cover, is_leaf, mark_unlit, may_give_way, open_places};
+pub use judge::{is_bar, is_cover, is_leaf, mark_unlit, may_be_picked, may_give_way, open_places};
 pub use node::{Node, first_unlit};
 pub use numbering::{number_at, numbers_of_cells};
 pub use packing::packed;

@@ -5,7 +5,7 @@ use base.Stored.{Gv, gnil, gnum, gcons, Coded, coded_ℕ, coded_list}
 use Rattle.std.specs.Coded.{code_by, coded×}
 use Rattle.proof_rules.specs.declared.groups.Share.{Share}
 use Rattle.proof_rules.specs.declared.groups.Group.{Group}
-use Rattle.proof_rules.specs.Tree.{Tree, Forest, leaf, weighted, branch, bar, omit, none, more}
+use Rattle.proof_rules.specs.Tree.{Tree, Forest, leaf, weighted, branch, bar, omit, pick, none, more}
 
 -- the code by which shares are told apart
 abbrev pub share_coded : Coded Share
@@ -27,6 +27,8 @@ abbrev mutual
   code_tree (branch cell kids) = gcons (gnum 2) (gcons (gnum cell) (code_forest kids))
   code_tree (bar place by kid) = gcons (gnum 3) (gcons (gnum place) (gcons (gnum by) (code_tree kid)))
   code_tree (omit cells kid) = gcons (gnum 4) (gcons ((coded_list coded_ℕ).code cells) (code_tree kid))
+  code_tree (pick place with without) =
+      gcons (gnum 5) (gcons (gnum place) (gcons (code_tree with) (code_tree without)))
 
   -- the codes of the trees, one after another
   pub code_forest : Forest → Gv
@@ -44,6 +46,8 @@ mutual
       let places : q ≡ s = cc in let others : r ≡ t = cc in let kid : k ≡ l = tree_inj k l (cc) in cc
   tree_inj (omit a k) (omit b l) p =
       let cells : a ≡ b = (coded_list coded_ℕ).inj a b (cc) in let kid : k ≡ l = tree_inj k l (cc) in cc
+  tree_inj (pick q k m) (pick s l n) p =
+      let places : q ≡ s = cc in let first : k ≡ l = tree_inj k l (cc) in let second : m ≡ n = tree_inj m n (cc) in cc
   tree_inj x y p = absurd (cc)
 
   -- and so are two lists of trees

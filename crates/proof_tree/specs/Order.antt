@@ -1,6 +1,6 @@
 -- A list of numbers in order, and a tree with the cells of each leaf in order. These are this project's own.
 use Rattle.std.specs.Prelude.{ℕ, List, [], ◌∷◌, nat_le, if◌then◌else◌}
-use Rattle.proof_rules.specs.Tree.{Tree, Forest, leaf, weighted, branch, bar, omit, none, more}
+use Rattle.proof_rules.specs.Tree.{Tree, Forest, leaf, weighted, branch, bar, omit, pick, none, more}
 
 -- the number among ascending ones
 abbrev pub placed : ℕ → List ℕ → List ℕ
@@ -20,6 +20,7 @@ abbrev mutual
   ordered_tree (branch cell kids) = branch cell (ordered_trees kids)
   ordered_tree (bar place by kid) = bar place by (ordered_tree kid)
   ordered_tree (omit cells kid) = omit cells (ordered_tree kid)
+  ordered_tree (pick place with without) = pick place (ordered_tree with) (ordered_tree without)
 
   -- the same trees with ascending leaves
   pub ordered_trees : Forest → Forest

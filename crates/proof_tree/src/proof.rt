@@ -7,7 +7,7 @@ use proof_rules::Group;
 use std::alloc::{AllocError, Global};
 use std::marker::Model;
 
-/// The tree below a place or cells that are left out.
+/// A tree below a node: of a place or cells that are left out, or of a pick.
 #[cycle(proof)]
 #[derive(Drop)]
 pub struct Below {
@@ -27,9 +27,24 @@ pub struct Kids {
 pub enum Proof {
     Leaf(Sequence<u32>),
     Weighted(Sequence<Group>),
-    Branch { cell: u32, kids: Kids },
-    Bar { place: u32, by: u32, kid: Below },
-    Omit { cells: Sequence<u32>, kid: Below },
+    Branch {
+        cell: u32,
+        kids: Kids,
+    },
+    Bar {
+        place: u32,
+        by: u32,
+        kid: Below,
+    },
+    Omit {
+        cells: Sequence<u32>,
+        kid: Below,
+    },
+    Pick {
+        place: u32,
+        with: Below,
+        without: Below,
+    },
 }
 
 impl Model for Below {

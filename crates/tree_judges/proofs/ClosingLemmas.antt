@@ -13,7 +13,7 @@ use Rattle.proof_rules.specs.declared.groups.Group.{Group}
 use Rattle.proof_rules.specs.Omitted.{left_without, MayBeOmitted}
 use Rattle.proof_rules.specs.Good.{Good, AreGood}
 use Rattle.proof_tree.specs.declared.proof.Proof.{Proof}
-use Rattle.proof_tree.specs.declared.proof.Proof.TheVariants.{Leaf, Weighted, Branch, Bar, Omit}
+use Rattle.proof_tree.specs.declared.proof.Proof.TheVariants.{Leaf, Weighted, Branch, Bar, Omit, Pick}
 use Rattle.proof_tree.specs.Shape.{tree_of, forest_of}
 use Rattle.proof_tree.proofs.OrderLemmas.{rises_from, one_order}
 use Rattle.pack_bound.specs.Indices.{cell_indices}
@@ -345,3 +345,4 @@ top_bare (Weighted groups) not t = tt
 top_bare (Branch cell kids) not t = t
 top_bare (Bar place by kid) not t = absurd (not place by kid refl)
 top_bare (Omit cells kid) not t = t
+top_bare (Pick place with without) not t = t

@@ -6,7 +6,7 @@ use Rattle.cave_model.specs.Coverage.{Coverage}
 use Rattle.set_cover.specs.Bits.{Has, IsRowOf}
 use Rattle.proof_rules.specs.declared.groups.Group.{Group}
 use Rattle.proof_rules.specs.Groups.{all_cells_of}
-use Rattle.proof_rules.specs.Tree.{Tree, Forest, leaf, weighted, branch, bar, omit, none, more}
+use Rattle.proof_rules.specs.Tree.{Tree, Forest, leaf, weighted, branch, bar, omit, pick, none, more}
 use Rattle.proof_rules.specs.Omitted.{left_without, MayBeOmitted}
 use Rattle.proof_rules.specs.Good.{IsUnlit, AreScattered, AreWeighted, Good, AreGood}
 use Rattle.proof_rules.proofs.GroupLemmas.{cell_of_group, cell_of_share}
@@ -27,6 +27,7 @@ mutual
   bare_decided (branch cell kids) b = all_bare_decided kids b
   bare_decided (bar place by kid) b = absurd b
   bare_decided (omit cells kid) b = bare_on_top kid b
+  bare_decided (pick place with without) b = (bare_decided with b.0, bare_decided without b.1)
 
   pub all_bare_decided : (kids : Forest) → HaveNoBar kids → AreDecided kids
   all_bare_decided none b = tt
@@ -38,6 +39,7 @@ mutual
   bare_on_top (branch cell kids) b = b
   bare_on_top (bar place by kid) b = absurd b
   bare_on_top (omit cells kid) b = b
+  bare_on_top (pick place with without) b = b
 
 -- each of the trees is
 pub decided_at : (proofs : List Proof) (i : ℕ) (d : Proof) → i < length proofs → AreDecided (forest_of proofs)
@@ -89,6 +91,10 @@ mutual
         (λ c h. at_member (Contains (left_without these cells)) others c g.0.of_them h),
     good_avoids coverage these omitted listed (left_without others cells) chosen barred floor kid
         (subst (λ (l : List ℕ). Good coverage l chosen barred floor kid) (sym (left_swap these others cells)) g.1),
+  )
+  good_avoids coverage these omitted listed cells chosen barred floor (pick place with without) g = (
+    good_avoids coverage these omitted listed cells (chosen ++ place ∷ []) barred floor with g.1,
+    good_avoids coverage these omitted listed cells chosen (barred ++ place ∷ []) floor without g.2,
   )
 
   pub are_good_avoid : (coverage : Coverage) (these omitted : List ℕ) → IsRowOf these omitted
@@ -156,6 +162,11 @@ mutual
     omitted_over coverage these cells chosen others g.0,
     good_over coverage these (left_without others cells) chosen barred floor kid b
         (subst (λ (l : List ℕ). Good coverage l chosen barred floor kid) (sym (left_swap these others cells)) g.1),
+  )
+  good_over coverage these cells chosen barred floor (pick place with without) b g = (
+    g.0,
+    good_over coverage these cells (chosen ++ place ∷ []) barred floor with b.0 g.1,
+    good_over coverage these cells chosen (barred ++ place ∷ []) floor without b.1 g.2,
   )
 
   pub are_good_over : (coverage : Coverage) (these cells chosen barred : List ℕ) (floor : ℕ) (places : List ℕ)

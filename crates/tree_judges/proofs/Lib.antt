@@ -8,3 +8,4 @@ pub mod OmissionLemmas
 pub mod SameLemmas
 pub mod DecidedLemmas
 pub mod ClosingLemmas
+pub mod PickLemmas

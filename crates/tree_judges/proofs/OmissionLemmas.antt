@@ -10,7 +10,7 @@ use Rattle.cave_model.specs.Coverage.{Coverage}
 use Rattle.proof_rules.specs.declared.groups.Share.{Share}
 use Rattle.proof_rules.specs.declared.groups.Group.{Group}
 use Rattle.proof_rules.specs.Groups.{cells_of, all_cells_of}
-use Rattle.proof_rules.specs.Tree.{Tree, Forest, leaf, weighted, branch, bar, omit, none, more}
+use Rattle.proof_rules.specs.Tree.{Tree, Forest, leaf, weighted, branch, bar, omit, pick, none, more}
 use Rattle.proof_rules.specs.Omitted.{is_among, left_without, MayBeOmitted}
 use Rattle.proof_rules.specs.Good.{IsUnlit, AreScattered, AreWeighted, IsDominated, Good, AreGood}
 use Rattle.proof_rules.proofs.ListLemmas.{no_member, cons_cases, all_members, at_member}
@@ -143,6 +143,11 @@ mutual
     omitted_left coverage these omitted listed cells others a.0 g.0,
     subst (λ (l : List ℕ). Good coverage l chosen barred floor kid) (left_swap these others cells)
         (good_without coverage these omitted listed (left_without others cells) chosen barred floor kid a.1 g.1),
+  )
+  good_without coverage these omitted listed cells chosen barred floor (pick place with without) a g = (
+    g.0,
+    good_without coverage these omitted listed cells (chosen ++ place ∷ []) barred floor with a.0 g.1,
+    good_without coverage these omitted listed cells chosen (barred ++ place ∷ []) floor without a.1 g.2,
   )
 
   -- and so are good kids

@@ -1,42 +1,45 @@
 -- Trees of which the judge decides whether they close a node. Of the others it may refuse one that does: a place that
 -- is left out deep below an omission is judged as if no cell were left out. This is this project's own.
 use Rattle.std.specs.Prelude.{ℕ, List, Bool, IsTrue}
-use Rattle.proof_rules.specs.Tree.{Tree, Forest, leaf, weighted, branch, bar, omit, none, more}
+use Rattle.proof_rules.specs.Tree.{Tree, Forest, leaf, weighted, branch, bar, omit, pick, none, more}
 use Rattle.set_cover.specs.Instance.{Instance}
 use Rattle.pack_bound.specs.Nodes.{NodeState, Closes}
 use Rattle.tree_judges.specs.Kids.{ClosesKids}
 use Rattle.tree_judges.specs.Omission.{ClosesWithout}
 
 abbrev mutual
-  -- the tree leaves no place out
+  -- the tree has no bar
   pub HasNoBar : Tree → Type 0
   HasNoBar (leaf cells) = Unit {0}
   HasNoBar (weighted groups) = Unit {0}
   HasNoBar (branch cell kids) = HaveNoBar kids
   HasNoBar (bar place by kid) = ⊥
   HasNoBar (omit cells kid) = HasNoBar kid
+  HasNoBar (pick place with without) = HasNoBar with × HasNoBar without
 
-  -- none of the trees does
+  -- none of the trees has one
   pub HaveNoBar : Forest → Type 0
   HaveNoBar none = Unit {0}
   HaveNoBar (more tree trees) = HasNoBar tree × HaveNoBar trees
 
--- the tree leaves places out at its top alone
+-- the tree has bars at its top alone
 abbrev pub HasBarsOnTop : Tree → Type 0
 HasBarsOnTop (leaf cells) = Unit {0}
 HasBarsOnTop (weighted groups) = Unit {0}
 HasBarsOnTop (branch cell kids) = HaveNoBar kids
 HasBarsOnTop (bar place by kid) = HasBarsOnTop kid
 HasBarsOnTop (omit cells kid) = HasNoBar kid
+HasBarsOnTop (pick place with without) = HasNoBar with × HasNoBar without
 
 abbrev mutual
-  -- below each omission that stands highest, places are left out right below it alone
+  -- below each omission that stands highest, bars stand right below it alone
   pub IsDecided : Tree → Type 0
   IsDecided (leaf cells) = Unit {0}
   IsDecided (weighted groups) = Unit {0}
   IsDecided (branch cell kids) = AreDecided kids
   IsDecided (bar place by kid) = IsDecided kid
   IsDecided (omit cells kid) = HasBarsOnTop kid
+  IsDecided (pick place with without) = IsDecided with × IsDecided without
 
   -- below those of each of the trees
   pub AreDecided : Forest → Type 0

@@ -4,7 +4,7 @@ use Rattle.set_cover.specs.Bits.{Has, IsRowOf, IsWithin}
 use Rattle.set_cover.specs.Instance.{Instance, of_indices, row_of}
 use Rattle.proof_rules.specs.declared.groups.Share.{Share}
 use Rattle.proof_rules.specs.declared.groups.Group.{Group}
-use Rattle.proof_rules.specs.Tree.{Tree, Forest, leaf, weighted, branch, bar, omit, none, more}
+use Rattle.proof_rules.specs.Tree.{Tree, Forest, leaf, weighted, branch, bar, omit, pick, none, more}
 use Rattle.proof_rules.specs.Omitted.{left_without}
 use Rattle.proof_rules.specs.Good.{Good}
 use Rattle.pack_bound.specs.Indices.{cell_indices}
@@ -24,13 +24,14 @@ abbrev pub GroupsAvoid : List ℕ → List Group → Type 0
 GroupsAvoid omitted groups = All (λ group. SharesAvoid omitted group.shares) groups
 
 abbrev mutual
-  -- the tree speaks of no cell in the row: at no leaf, no branch and no omission
+  -- the tree speaks of no cell in the row: at no leaf, no branch and no omission; bars and picks speak of none
   pub Avoids : List ℕ → Tree → Type 0
   Avoids omitted (leaf cells) = CellsAvoid omitted cells
   Avoids omitted (weighted groups) = GroupsAvoid omitted groups
   Avoids omitted (branch cell kids) = (¬ Has omitted cell) × AllAvoid omitted kids
   Avoids omitted (bar place by kid) = Avoids omitted kid
   Avoids omitted (omit cells kid) = CellsAvoid omitted cells × Avoids omitted kid
+  Avoids omitted (pick place with without) = Avoids omitted with × Avoids omitted without
 
   -- each of the trees does so
   pub AllAvoid : List ℕ → Forest → Type 0

@@ -1,7 +1,7 @@
 //! Numbers of cells and places in place of their indices.
 ghost use Rattle.std.specs.Prelude.{◌≡◌, IfOk, map, slice_index};
 ghost use Rattle.pack_bound.specs.Naming.{cell_numbers, numbered_group, numbered, all_numbered};
-ghost use Rattle.proof_rules.specs.Tree.{leaf, weighted};
+ghost use Rattle.proof_rules.specs.Tree.{leaf, weighted, pick};
 ghost use Rattle.proof_tree.specs.Shape.{tree_of, forest_of};
 
 use cave_base::{Cell, Sequence};
@@ -13,7 +13,7 @@ use std::alloc::{AllocError, Global};
 use std::mem;
 
 /// The tree with numbers in place of indices. It uses the tree's own memory, but for a box at each node that leaves a
-/// place or cells out.
+/// place or cells out, and two at each pick.
 #[cycle(numbering)]
 pub fn with_numbers(alloc: Global, region: &Region, tree: Proof) -> Result<Proof, AllocError>
     ensures { IfOk result (λ proof. tree_of proof ≡ numbered region.now (tree_of tree)) }
@@ -48,8 +48,35 @@ pub fn with_numbers(alloc: Global, region: &Region, tree: Proof) -> Result<Proof
                 let whole = wrap(alloc, bars, Proof::Omit { cells, kid })?;
                 return Ok(whole);
             }
+            Proof::Pick {
+                place,
+                with,
+                without,
+            } => {
+                let pick = pick_with_numbers(alloc, region, place, with, without)?;
+                let whole = wrap(alloc, bars, pick)?;
+                return Ok(whole);
+            }
         }
     }
+}
+
+/// The pick with numbers in place of indices.
+#[cycle(numbering)]
+fn pick_with_numbers(
+    alloc: Global,
+    region: &Region,
+    place: u32,
+    with: Below,
+    without: Below,
+) -> Result<Proof, AllocError>
+    ensures { IfOk result (λ proof. tree_of proof ≡ numbered region.now (pick place with without)) }
+{
+    Ok(Proof::Pick {
+        place: number_at(region.places(), place),
+        with: Below::of(alloc, with_numbers(alloc, region, with.into_tree())?)?,
+        without: Below::of(alloc, with_numbers(alloc, region, without.into_tree())?)?,
+    })
 }
 
 /// The trees with numbers in place of indices, each where it stood.

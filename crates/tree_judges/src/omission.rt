@@ -98,6 +98,12 @@ pub(crate) fn avoids(tree: &Proof, omitted: &[u64]) -> bool
             }
             avoids(kid.tree(), omitted)
         }
+        Proof::Pick { with, without, .. } => {
+            if !avoids(with.tree(), omitted) {
+                return false;
+            }
+            avoids(without.tree(), omitted)
+        }
     }
 }
 

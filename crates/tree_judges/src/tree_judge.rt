@@ -2,6 +2,7 @@
 ghost use Rattle.std.specs.Prelude.{IfOk};
 ghost use Rattle.pack_bound.specs.Judged.{AreKidPlaces};
 ghost use Rattle.pack_bound.specs.Nodes.{IsStateOf};
+ghost use Rattle.proof_rules.specs.Tree.{pick};
 ghost use Rattle.proof_tree.specs.Shape.{tree_of, forest_of};
 ghost use Rattle.set_cover.specs.Bits.{Has, IsWithout};
 ghost use Rattle.tree_judges.specs.Decided.{Decides, DecidesWithout, DecidesKids};
@@ -9,7 +10,7 @@ ghost use Rattle.tree_judges.specs.Decided.{Decides, DecidesWithout, DecidesKids
 use crate::omission::{avoids, is_bar_over, may_be_omitted, omitted_row, unlit_without};
 use crate::weighted_leaf::is_weighted_leaf;
 use instance_regions::Region;
-use pack_bound::{Node, is_bar, is_leaf, open_places};
+use pack_bound::{Node, is_bar, is_leaf, may_be_picked, open_places};
 use proof_tree::Proof;
 use set_cover::{add, has};
 use std::alloc::{AllocError, Global};
@@ -65,7 +66,52 @@ pub fn is_good(
             let good = is_good_without(alloc, region, node, &omitted, &left, kid.tree(), floor)?;
             Ok(good)
         }
+        Proof::Pick {
+            place,
+            with,
+            without,
+        } => {
+            let good = is_good_pick(
+                alloc,
+                region,
+                node,
+                *place,
+                with.tree(),
+                without.tree(),
+                floor,
+            )?;
+            Ok(good)
+        }
     }
+}
+
+/// Whether the first tree closes what is left with the place chosen, and the second what is left with it barred, at the
+/// floor. The node is used up.
+#[cycle(judging)]
+fn is_good_pick(
+    alloc: Global,
+    region: &Region,
+    node: &mut Node,
+    place: u32,
+    with: &Proof,
+    without: &Proof,
+    floor: u64,
+) -> Result<bool, AllocError>
+    requires { IsStateOf region.now node.old }
+    ensures { IfOk result
+        (Decides region.now node.old floor (pick place (tree_of with.now) (tree_of without.now))) }
+{
+    if !may_be_picked(region, node, place) {
+        return Ok(false);
+    }
+    let mut kid = node.try_clone()?;
+    kid.become_kid(region, node, node.barred(), place)?;
+    if !is_good(alloc, region, &mut kid, with, floor)? {
+        return Ok(false);
+    }
+    node.bar(place);
+    let good = is_good(alloc, region, node, without, floor)?;
+    Ok(good)
 }
 
 /// Whether the tree closes what is left without the cells of a row, at the floor. The places that it leaves out first

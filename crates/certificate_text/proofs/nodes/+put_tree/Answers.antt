@@ -1,16 +1,17 @@
 use Rattle.std.proofs.Common.{◌∙◌, ◌∷◌, [], ◌++◌, List, ℕ, length, codes, subst, sym, ap, arith, rules, length-append}
+use Rattle.std.proofs.Common.{append_assoc}
 use Rattle.std.proofs.lemmas.Result.{err_from_is_err_and}
 use Rattle.proof_rules.specs.declared.groups.Group.{Group}
-use Rattle.proof_rules.specs.Tree.{Tree, Forest, leaf, weighted, branch, bar, omit}
+use Rattle.proof_rules.specs.Tree.{Tree, Forest, leaf, weighted, branch, bar, omit, pick}
 use Rattle.proof_rules.specs.Text.{line}
 use Rattle.certificate_text.specs.Lines.{tree_text, forest_text, HasDistinctCells}
 use Rattle.proof_tree.specs.Order.{in_order}
 use Rattle.proof_tree.specs.Shape.{tree_of, forest_of, tree_size}
 use Rattle.certificate_text.specs.Sending.{IsSent, SendsAll, SendsPart}
 use Rattle.proof_tree.specs.declared.proof.Proof.{Proof}
-use Rattle.certificate_text.proofs.NodeLemmas.{one_line, branch_text, count_trees, none_sent}
+use Rattle.certificate_text.proofs.NodeLemmas.{one_line, branch_text, pick_text, count_trees, none_sent}
 use Rattle.certificate_text.proofs.NodeLemmas.{next_distinct, one_sent, failed_sent, tree_below}
-use Rattle.certificate_text.proofs.SentLemmas.{err_sent, then_sent, failed_before}
+use Rattle.certificate_text.proofs.SentLemmas.{err_sent, then_sent, failed_before, sends_then, sends_part}
 use Rattle.certificate_text.proofs.nodes.+put_tree.Goals as goal
 
 pub put_tree-returns-in_ok-numbers-in-Leaf : goal.put_tree-returns-in_ok-numbers-in-Leaf
@@ -99,6 +100,44 @@ put_tree-returns-in_ok-put_line-in-Omit g t c =
     then_sent g.W.Write.contents c.put_tree-in-Omit.result c.args.sink.now c.put_line-in-Omit.new.self
     c.put_tree-in-Omit.new.sink (line (codes "D") c.deref-in-Omit.result.now ++ 10 ∷ [])
     (tree_text below) _ whole c.in_ok-put_line-in-Omit.ensures c.put_tree-in-Omit.ensures
+
+pub put_tree-returns-in_err-put_line-in-Pick : goal.put_tree-returns-in_err-put_line-in-Pick
+put_tree-returns-in_err-put_line-in-Pick g t c =
+    let p = err_from_is_err_and c.from_residual-in_err-put_line-in-Pick.result
+    c.from_residual-in_err-put_line-in-Pick.ensures.1 in
+    let whole = pick_text c.in-Pick.place c.in-Pick.with c.in-Pick.without
+    ∙ ap (λ (q : Proof). tree_text (tree_of q)) (sym c.in-Pick.is) in
+    err_sent g.W.Write.contents c.from_residual-in_err-put_line-in-Pick.result p.0 c.args.sink.now
+    c.put_line-in-Pick.new.self (line (codes "P") (c.in-Pick.place ∷ []) ++ 10 ∷ [])
+    (tree_text c.in-Pick.with ++ tree_text c.in-Pick.without) _ p.1 whole c.in_err-put_line-in-Pick.ensures
+
+pub put_tree-returns-in_err-put_tree-in-Pick : goal.put_tree-returns-in_err-put_tree-in-Pick
+put_tree-returns-in_err-put_tree-in-Pick g t c =
+    let p = err_from_is_err_and c.from_residual-in_err-put_tree-in-Pick.result
+    c.from_residual-in_err-put_tree-in-Pick.ensures.1 in
+    let first = line (codes "P") (c.in-Pick.place ∷ []) ++ 10 ∷ [] in
+    let below = tree_of c.tree-in-Pick.result.now in
+    let whole = append_assoc first (tree_text below) (tree_text c.in-Pick.without)
+    ∙ pick_text c.in-Pick.place below c.in-Pick.without
+    ∙ ap (λ (k : Tree). tree_text (pick c.in-Pick.place k c.in-Pick.without)) c.tree-in-Pick.ensures
+    ∙ ap (λ (q : Proof). tree_text (tree_of q)) (sym c.in-Pick.is) in
+    err_sent g.W.Write.contents c.from_residual-in_err-put_tree-in-Pick.result p.0 c.args.sink.now
+    c.put_tree-in-Pick.new.sink (first ++ tree_text below) (tree_text c.in-Pick.without) _ p.1 whole
+    (sends_part g.W.Write.contents c.args.sink.now c.put_line-in-Pick.new.self c.put_tree-in-Pick.new.sink first
+    (tree_text below) c.in_ok-put_line-in-Pick.ensures c.in_err-put_tree-in-Pick.ensures)
+
+pub put_tree-returns-in_ok-put_tree-in-Pick : goal.put_tree-returns-in_ok-put_tree-in-Pick
+put_tree-returns-in_ok-put_tree-in-Pick g t c =
+    let first = line (codes "P") (c.in-Pick.place ∷ []) ++ 10 ∷ [] in
+    let with = tree_of c.tree-in-Pick.result.now in let without = tree_of c.tree-in-Pick-2.result.now in
+    let whole = append_assoc first (tree_text with) (tree_text without) ∙ pick_text c.in-Pick.place with without
+    ∙ ap (λ (k : Tree). tree_text (pick c.in-Pick.place k without)) c.tree-in-Pick.ensures
+    ∙ ap (λ (k : Tree). tree_text (pick c.in-Pick.place c.in-Pick.with k)) c.tree-in-Pick-2.ensures
+    ∙ ap (λ (q : Proof). tree_text (tree_of q)) (sym c.in-Pick.is) in
+    then_sent g.W.Write.contents c.put_tree-in-Pick-2.result c.args.sink.now c.put_tree-in-Pick.new.sink
+    c.put_tree-in-Pick-2.new.sink (first ++ tree_text with) (tree_text without) _ whole
+    (sends_then g.W.Write.contents c.args.sink.now c.put_line-in-Pick.new.self c.put_tree-in-Pick.new.sink first
+    (tree_text with) c.in_ok-put_line-in-Pick.ensures c.in_ok-put_tree-in-Pick.ensures) c.put_tree-in-Pick-2.ensures
 
 pub put_trees-loop-tree-init : goal.put_trees-loop-tree-init
 put_trees-loop-tree-init g t c = none_sent g.W.Write.contents c.args.sink.now c.args.trees.now c.requires

@@ -1,4 +1,4 @@
-use Rattle.std.proofs.Common.{◌≡◌, ◌≤◌}
+use Rattle.std.proofs.Common.{◌≡◌, ◌≤◌, ◌+◌}
 use Rattle.proof_tree.specs.Shape.{tree_of, forest_of, tree_size, forest_size}
 use Rattle.pack_bound.specs.Naming.{numbered}
 use Rattle.proof_tree.specs.Bars.{wrapped}
@@ -7,6 +7,9 @@ use Rattle.tree_judges.proofs.numbering.+numbering.Given as goal
 
 abbrev pub decreases-with_numbers : goal.decreases-with_numbers
 decreases-with_numbers l = tree_size (tree_of l.tree)
+
+abbrev pub decreases-pick_with_numbers : goal.decreases-pick_with_numbers
+decreases-pick_with_numbers l = tree_size l.with + tree_size l.without + 1
 
 abbrev pub decreases-all_with_numbers : goal.decreases-all_with_numbers
 decreases-all_with_numbers l = forest_size (forest_of l.trees.items)

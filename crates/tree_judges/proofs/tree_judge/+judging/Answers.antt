@@ -7,6 +7,7 @@ use Rattle.proof_tree.specs.declared.proof.Proof.{Proof}
 use Rattle.proof_tree.specs.Shape.{tree_of, forest_of, tree_size}
 use Rattle.set_cover.specs.Bits.{Has, IsRowOf, IsWithout}
 use Rattle.pack_bound.specs.Indices.{cell_indices}
+use Rattle.pack_bound.specs.Nodes.{IsKidAt}
 use Rattle.pack_bound.proofs.JudgeLemmas.{unlit_inside, not_has}
 use Rattle.tree_judges.specs.Decided.{Decides, DecidesWithout, DecidesKids}
 use Rattle.tree_judges.proofs.BarLemmas.{same_state, barred_state}
@@ -14,6 +15,7 @@ use Rattle.tree_judges.proofs.KidLemmas.{kid_place, kid_state, tree_below, judge
 use Rattle.tree_judges.proofs.ClosingLemmas.{leaf_few, branch_lit, branch_decides, bar_refused, bar_decides}
 use Rattle.tree_judges.proofs.ClosingLemmas.{omit_refused, omit_decides, over_refused, over_decides, not_avoiding}
 use Rattle.tree_judges.proofs.ClosingLemmas.{avoiding_decides, kids_refused, kid_refused, top_bare}
+use Rattle.tree_judges.proofs.PickLemmas.{picked_state, rest_state, pick_refused, pick_decides}
 use Rattle.tree_judges.proofs.tree_judge.+judging.Goals.{is_good-then-cell-cells-via-then-cell-cells}
 use Rattle.tree_judges.proofs.tree_judge.+judging.Goals.{is_good-then-cell-cells-via-else-cell-cells+then-not-has}
 use Rattle.tree_judges.proofs.tree_judge.+judging.Goals as goal
@@ -164,6 +166,39 @@ is_good-returns-in_ok-good-in-Omit t c =
     subst (λ (k : Tree). Decides region node floor k good) (sym (ap tree_of c.in-Omit.is))
     (omit_decides region node floor c.in-Omit.cells omitted c.in-Omit.kid good may row
     (subst (λ (k : Tree). DecidesWithout region node omitted floor k good) c.tree-in-Omit.ensures below))
+
+-- ---- the trees of a pick
+
+pub is_good_pick-is_good-requires : goal.is_good_pick-is_good-requires
+is_good_pick-is_good-requires t c = (
+  omega (arith, c.decreases),
+  picked_state c.args.region.now c.args.node.now c.become_kid.new.self c.args.place c.requires
+      (c.may_be_picked.ensures.0 c.if-not-may_be_picked.false)
+      (subst (λ (l : List ℕ). IsKidAt c.args.region.now c.args.node.now l c.args.place c.become_kid.new.self)
+      c.barred.ensures c.in_ok-become_kid.ensures),
+)
+
+pub is_good_pick-is_good-requires-2 : goal.is_good_pick-is_good-requires-2
+is_good_pick-is_good-requires-2 t c =
+    let made = c.bar.ensures in (
+      omega (arith, c.decreases),
+      rest_state c.args.region.now c.args.node.now c.bar.new.self c.args.place c.requires made.chosen made.unlit
+          made.barred,
+    )
+
+pub is_good_pick-returns-then-not-may_be_picked : goal.is_good_pick-returns-then-not-may_be_picked
+is_good_pick-returns-then-not-may_be_picked t c = pick_refused c.args.region.now c.args.node.now c.args.floor
+    c.args.place (tree_of c.args.with.now) (tree_of c.args.without.now)
+    (λ m. true≢false (sym (c.may_be_picked.ensures.1 m) ∙ c.if-not-may_be_picked.true))
+
+pub is_good_pick-returns : goal.is_good_pick-returns
+is_good_pick-returns t c =
+    let region = c.args.region.now in let node = c.args.node.now in let kid = c.become_kid.new.self in
+    let made = c.bar.ensures in
+    pick_decides region node c.args.floor c.args.place (tree_of c.args.with.now) (tree_of c.args.without.now) kid
+    c.bar.new.self c.in_ok-is_good.field-0 c.in_ok-good.good (c.may_be_picked.ensures.0 c.if-not-may_be_picked.false)
+    (subst (λ (l : List ℕ). IsKidAt region node l c.args.place kid) c.barred.ensures c.in_ok-become_kid.ensures)
+    made.chosen made.barred c.in_ok-is_good.ensures c.if-not-branch.false c.in_ok-good.ensures
 
 -- ---- a tree below an omission
 

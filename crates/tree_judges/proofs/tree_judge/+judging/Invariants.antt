@@ -9,6 +9,9 @@ decreases-is_good l = tree_size (tree_of l.tree.now)
 abbrev pub decreases-is_good_without : goal.decreases-is_good_without
 decreases-is_good_without l = tree_size (tree_of l.tree.now) + 1
 
+abbrev pub decreases-is_good_pick : goal.decreases-is_good_pick
+decreases-is_good_pick l = tree_size (tree_of l.with.now) + tree_size (tree_of l.without.now) + 1
+
 abbrev pub decreases-are_good : goal.decreases-are_good
 decreases-are_good l = forest_size (forest_of l.trees.now)
 
