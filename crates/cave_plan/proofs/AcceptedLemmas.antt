@@ -24,11 +24,10 @@ use Rattle.cave_model.proofs.TorchLemmas.{spawnable_inside}
 use Rattle.cover_rows.proofs.CoverLemmas.{cells_hung}
 use Rattle.set_cover.specs.Instance.{of_instance}
 use Rattle.instance_regions.specs.Splitting.{least_cell}
-use Rattle.proof_rules.specs.Tree.{Tree, Forest, leaf, weighted, branch, bar, omit, none, more}
+use Rattle.proof_rules.specs.Tree.{Tree, Forest, leaf, weighted, branch, bar, omit, pick, none, more}
 use Rattle.proof_rules.specs.Good.{Good}
-use Rattle.proof_rules.specs.Certificate.{Section, Version, first, second, third, need_of, IsKnownTo, AreKnownTo}
-use Rattle.proof_rules.specs.Certificate.{IsVersionOf}
-use Rattle.proof_rules.specs.Certificate.{IsSectionIn, IsInRange, torches_of}
+use Rattle.proof_rules.specs.Certificate.{Section, Version, first, second, third, fourth, need_of, IsKnownTo}
+use Rattle.proof_rules.specs.Certificate.{AreKnownTo, IsVersionOf, IsSectionIn, IsInRange, torches_of}
 use Rattle.proof_rules.proofs.ListLemmas.{no_member, all_members, at_member, distinct_nil}
 use Rattle.proof_rules.proofs.OmitLemmas.{bool_cases}
 use Rattle.proof_rules.proofs.CarryLemmas.{carries}
@@ -106,20 +105,21 @@ best_are_bounded cave plans best = record {
 -- ---- the version
 
 mutual
-  -- no version has a greater number than 3
-  version_most : (tree : Tree) → version_for tree ≤ 3
+  -- no version has a greater number than 4
+  version_most : (tree : Tree) → version_for tree ≤ 4
   version_most (leaf cells) = omega arith
   version_most (weighted groups) = omega arith
   version_most (branch cell kids) = versions_most kids
   version_most (bar place by kid) = (let below = version_most kid in omega (arith, below))
-  version_most (omit cells kid) = omega arith
+  version_most (omit cells kid) = (let below = version_most kid in omega (arith, below))
+  version_most (pick place with without) = omega arith
 
-  versions_most : (trees : Forest) → versions_for trees ≤ 3
+  versions_most : (trees : Forest) → versions_for trees ≤ 4
   versions_most none = omega arith
   versions_most (more t ts) = (let first = version_most t in let rest = versions_most ts in omega (arith, first, rest))
 
 -- nor has one that plans ask for
-plans_most : (plans : List Plan) → plans_version plans ≤ 3
+plans_most : (plans : List Plan) → plans_version plans ≤ 4
 plans_most [] = omega arith
 plans_most (p ∷ ps) = (let first = version_most p.tree in let rest = plans_most ps in omega (arith, first, rest))
 
@@ -130,12 +130,18 @@ mutual
   known_tree version (weighted groups) le = le
   known_tree version (branch cell kids) le = known_trees version kids le
   known_tree version (bar place by kid) le = (omega (arith, le), known_tree version kid (omega (arith, le)))
-  known_tree version (omit cells kid) le =
-      (le, known_tree version kid (let most = version_most kid in omega (arith, le, most)))
+  known_tree version (omit cells kid) le = (omega (arith, le), known_tree version kid (omega (arith, le)))
+  known_tree version (pick place with without) le = (
+    le,
+    known_tree version with (let most = version_most with in omega (arith, le, most)),
+    known_tree version without (let most = version_most without in omega (arith, le, most)),
+  )
 
-  known_trees : (version : ℕ) (trees : Forest) → versions_for trees ≤ version → AreKnownTo version (ordered_trees trees)
+  known_trees : (version : ℕ) (trees : Forest) → versions_for trees ≤ version
+      → AreKnownTo version (ordered_trees trees)
   known_trees version none le = tt
-  known_trees version (more t ts) le = (known_tree version t (omega (arith, le)), known_trees version ts (omega (arith, le)))
+  known_trees version (more t ts) le =
+      (known_tree version t (omega (arith, le)), known_trees version ts (omega (arith, le)))
 
 -- and those of plans where it has theirs
 known_sections : (version : ℕ) (plans : List Plan) → plans_version plans ≤ version
@@ -165,19 +171,25 @@ pub record Fits (sections : List Section) (need : ℕ) (version : Version) : Typ
   pub says : need_of version ≡ need
 
 -- the version of a number fits what has that number
-version_fits : (need : ℕ) (plans : List Plan) (t u : Bool) → nat_le 3 (version_needed need plans) ≡ t
-    → nat_le 2 (version_needed need plans) ≡ u → IsTrue (is_need need)
-    → Fits (map section_of plans) need (if t then third need else (if u then second need else first))
-version_fits need plans true u e f is = record {
-  fits = record { known = known_sections 3 plans (plans_most plans); needed = eq_cases need 1 8 is };
+version_fits : (need : ℕ) (plans : List Plan) (s t u : Bool) → nat_le 4 (version_needed need plans) ≡ s
+    → nat_le 3 (version_needed need plans) ≡ t → nat_le 2 (version_needed need plans) ≡ u → IsTrue (is_need need)
+    → Fits (map section_of plans) need
+    (if s then fourth need else (if t then third need else (if u then second need else first)))
+version_fits need plans true t u d e f is = record {
+  fits = record { known = known_sections 4 plans (plans_most plans); needed = eq_cases need 1 8 is };
   says = refl;
 }
-version_fits need plans false true e f is =
+version_fits need plans false true u d e f is =
+    let below : version_needed need plans < 4 = grind (arith, nat_tests, d) in record {
+      fits = record { known = known_sections 3 plans (omega (arith, below)); needed = eq_cases need 1 8 is };
+      says = refl;
+    }
+version_fits need plans false false true d e f is =
     let below : version_needed need plans < 3 = grind (arith, nat_tests, e) in record {
       fits = record { known = known_sections 2 plans (omega (arith, below)); needed = eq_cases need 1 8 is };
       says = refl;
     }
-version_fits need plans false false e f is =
+version_fits need plans false false false d e f is =
     let below : version_needed need plans < 2 = grind (arith, nat_tests, f) in record {
       fits = record { known = known_sections 1 plans (omega (arith, below)); needed = inl refl };
       says = sym (need_is_one need (omega (arith, below)));
@@ -285,8 +297,9 @@ module _ (cave : Cave) (plans : List Plan) (world : IsWorld cave) (best : AreBes
           omega (arith, rest, one, length-append l (all_cells ls))
 
   version : Fits (map section_of plans) cave.rule.need (version_of cave.rule.need plans)
-  version = version_fits cave.rule.need plans (nat_le 3 (version_needed cave.rule.need plans))
-      (nat_le 2 (version_needed cave.rule.need plans)) refl refl world.ruled.needed
+  version = version_fits cave.rule.need plans (nat_le 4 (version_needed cave.rule.need plans))
+      (nat_le 3 (version_needed cave.rule.need plans)) (nat_le 2 (version_needed cave.rule.need plans)) refl refl refl
+      world.ruled.needed
 
   in_range : IsInRange (certificate_of cave plans)
   in_range = record {

@@ -1,6 +1,7 @@
 -- Regions planned one after another.
 use Rattle.std.proofs.Common.{◌≡◌, ℕ, ◌+◌, ◌≤◌, Bool, true, false, List, [], ◌∷◌, ◌++◌, length, map, All, Contains}
-use Rattle.std.proofs.Common.{refl, sym, ap, subst, ◌∙◌, arith, Option, Some, None, ◌*◌, ◌<◌, append_assoc, length-append}
+use Rattle.std.proofs.Common.{refl, sym, ap, subst, ◌∙◌, arith, Option, Some, None, ◌*◌, append_assoc}
+use Rattle.std.proofs.Common.{length-append}
 use Rattle.std.specs.Prelude.{max}
 use Rattle.std.specs.Prelude.{flat_map, IsSome, if◌then◌else◌}
 use Rattle.std.proofs.lemmas.Bool.{true≢false}
@@ -145,7 +146,8 @@ part_more regions allowance old part floor stopped turns more c is granted most 
       of_them = map-append (λ (p : Bounded). p.region) c.parts (part ∷ []) ∙ ap (λ (l : List Instance). l
           ++ part.region ∷ []) c.of_them;
       each = all;
-      granted = All-append (IsGrantedBy allowance) c.parts (part ∷ []) c.granted (one (IsGrantedBy allowance) part granted);
+      granted = All-append (IsGrantedBy allowance) c.parts (part ∷ []) c.granted
+          (one (IsGrantedBy allowance) part granted);
       most = most;
       whole = torches;
       total = total ∙ sym (sum within);

@@ -7,7 +7,7 @@ use Rattle.std.proofs.lemmas.List.Elements.{Contains-append_left, Contains-push}
 use Rattle.std.proofs.lemmas.List.Kept.{AllPairs-from_increasing}
 use Rattle.cave_model.specs.Coverage.{Coverage}
 use Rattle.cave_model.specs.Plan.{AreDistinct}
-use Rattle.proof_rules.specs.Tree.{Tree, Forest, leaf, weighted, branch, bar, omit, none, more, tree_count}
+use Rattle.proof_rules.specs.Tree.{Tree, Forest, leaf, weighted, branch, bar, omit, pick, none, more, tree_count}
 use Rattle.proof_rules.specs.Groups.{all_cells_of}
 use Rattle.proof_rules.specs.Omitted.{left_without}
 use Rattle.proof_rules.specs.Good.{Good, AreGood, AreScattered, IsUnlit}
@@ -52,6 +52,11 @@ module _ (coverage : Coverage) where
         (g.0, good_in_order cells chosen (barred ++ place ∷ []) floor kid g.1)
     good_in_order cells chosen barred floor (omit these kid) g =
         (g.0, good_in_order (left_without these cells) chosen barred floor kid g.1)
+    good_in_order cells chosen barred floor (pick place with without) g = (
+      g.0,
+      good_in_order cells (chosen ++ place ∷ []) barred floor with g.1,
+      good_in_order cells chosen (barred ++ place ∷ []) floor without g.2,
+    )
 
     all_in_order : (cells chosen barred : List ℕ) (floor : ℕ) (places : List ℕ) (trees : Forest)
         → AreGood coverage cells chosen barred floor places trees
@@ -146,6 +151,11 @@ module _ (coverage : Coverage) (count : ℕ) (places_inside : (p : ℕ) → cove
       g.0.filled,
       tree_in_range (left_without these cells) (λ c h. inside c (left_from these cells c h)) chosen barred floor kid
           g.1,
+    )
+    tree_in_range cells inside chosen barred floor (pick place with without) g = (
+      places_inside place g.0.legal,
+      tree_in_range cells inside (chosen ++ place ∷ []) barred floor with g.1,
+      tree_in_range cells inside chosen (barred ++ place ∷ []) floor without g.2,
     )
 
     trees_in_range : (cells : List ℕ) → AreInside cells → (chosen barred : List ℕ) (floor : ℕ) (places : List ℕ)

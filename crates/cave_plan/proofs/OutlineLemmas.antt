@@ -1,6 +1,6 @@
 -- The plan of a cave, from those of its regions.
 use Rattle.std.proofs.Common.{◌≡◌, ℕ, ◌<◌, ◌≤◌, Bool, true, false, List, [], ◌∷◌, length, map, All, Contains, arith}
-use Rattle.std.proofs.Common.{refl, sym, ap, subst, Option, Some, None, inl, inr}
+use Rattle.std.proofs.Common.{refl, sym, ap, subst, Some, None, inl, inr}
 use Rattle.std.specs.Prelude.{flat_map}
 use Rattle.std.specs.List.Sorted.{IsStrictlyIncreasing}
 use Rattle.std.proofs.lemmas.List.Elements.{All-head, All-tail, All-cons, All-nil, Contains-append_cases}

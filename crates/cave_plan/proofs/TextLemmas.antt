@@ -2,11 +2,11 @@
 use Rattle.std.proofs.Common.{◌≡◌, ℕ, ◌≤◌, ◌⊎◌, inl, inr, List, [], ◌∷◌, ◌++◌, length, get_or, All}
 use Rattle.std.proofs.Common.{refl, sym, ap, ◌∙◌, arith, append_assoc, append-nil}
 use Rattle.std.specs.Prelude.{codes, flat_map, IsTrue}
-use Rattle.std.proofs.lemmas.List.Elements.{All-nil, All-cons, All-head, All-tail}
+use Rattle.std.proofs.lemmas.List.Elements.{All-cons, All-head, All-tail}
 use Rattle.cave_base.specs.Box.{Point, cell_count, is_small}
 use Rattle.proof_rules.specs.Tree.{Tree}
-use Rattle.proof_rules.specs.Certificate.{Section, Version, first, second, third, Certificate, IsInRange, IsSectionIn}
-use Rattle.proof_rules.specs.Certificate.{IsVersionOf}
+use Rattle.proof_rules.specs.Certificate.{Section, Version, first, second, third, fourth, Certificate, IsInRange}
+use Rattle.proof_rules.specs.Certificate.{IsSectionIn, IsVersionOf}
 use Rattle.proof_rules.specs.Text.{line, tree_lines, section_lines, lines_of, ended, IsTextOf}
 use Rattle.certificate_lines.specs.Cuts.{AreClean}
 use Rattle.certificate_lines.specs.Numbers.{IsSmall}
@@ -17,7 +17,7 @@ use Rattle.certificate_lines.proofs.Whole.{leads_whole}
 use Rattle.certificate_lines.specs.declared.stage.Stage.TheVariants as stage
 use Rattle.cave_plan.proofs.NumberLemmas.{same_line, listed_small}
 use Rattle.cave_plan.proofs.GroupTextLemmas.{split_lines}
-use Rattle.cave_plan.proofs.TreeLemmas.{one_tree, two_small}
+use Rattle.cave_plan.proofs.TreeLemmas.{one_tree, one_small, two_small}
 
 -- ---- lines
 
@@ -91,10 +91,6 @@ module _ (m n : ℕ) (few_m : m ≤ 262144) (few_n : n ≤ 262144) where
       cc
 
 -- ---- the whole
-
--- one small number
-one_small : (a : ℕ) → a ≤ 262144 → All IsSmall (a ∷ [])
-one_small a small = All-cons IsSmall a [] (omega arith) (All-nil IsSmall)
 
 -- the sides of a box
 sides_small : (size : Point) → IsTrue (is_small size) → All IsSmall (size.x ∷ size.y ∷ size.z ∷ [])
@@ -236,6 +232,9 @@ same first (second k) a b v w is_a is_b in_a in_b e =
 same first (third k) a b v w is_a is_b in_a in_b e =
     absurd (apart (codes "torchproof 1") (codes "torchproof 3") (behind_first a) (behind_later k b) (λ f. omega arith)
     e)
+same first (fourth k) a b v w is_a is_b in_a in_b e =
+    absurd (apart (codes "torchproof 1") (codes "torchproof 4") (behind_first a) (behind_later k b) (λ f. omega arith)
+    e)
 same (second h) first a b v w is_a is_b in_a in_b e =
     absurd (apart (codes "torchproof 2") (codes "torchproof 1") (behind_later h a) (behind_first b) (λ f. omega arith)
     e)
@@ -246,6 +245,9 @@ same (second h) (second k) a b v w is_a is_b in_a in_b e =
     (v ∙ ap second s.0 ∙ sym w) s.1 s.2 s.3
 same (second h) (third k) a b v w is_a is_b in_a in_b e =
     absurd (apart (codes "torchproof 2") (codes "torchproof 3") (behind_later h a) (behind_later k b) (λ f. omega arith)
+    e)
+same (second h) (fourth k) a b v w is_a is_b in_a in_b e =
+    absurd (apart (codes "torchproof 2") (codes "torchproof 4") (behind_later h a) (behind_later k b) (λ f. omega arith)
     e)
 same (third h) first a b v w is_a is_b in_a in_b e =
     absurd (apart (codes "torchproof 3") (codes "torchproof 1") (behind_later h a) (behind_first b) (λ f. omega arith)
@@ -258,6 +260,23 @@ same (third h) (third k) a b v w is_a is_b in_a in_b e =
     let s = same_later a b h k is_a.needed is_b.needed in_a in_b l.1 in
     same_certificate a.version b.version a.size b.size a.headroom b.headroom a.sections b.sections
     (v ∙ ap third s.0 ∙ sym w) s.1 s.2 s.3
+same (third h) (fourth k) a b v w is_a is_b in_a in_b e =
+    absurd (apart (codes "torchproof 3") (codes "torchproof 4") (behind_later h a) (behind_later k b) (λ f. omega arith)
+    e)
+same (fourth h) first a b v w is_a is_b in_a in_b e =
+    absurd (apart (codes "torchproof 4") (codes "torchproof 1") (behind_later h a) (behind_first b) (λ f. omega arith)
+    e)
+same (fourth h) (second k) a b v w is_a is_b in_a in_b e =
+    absurd (apart (codes "torchproof 4") (codes "torchproof 2") (behind_later h a) (behind_later k b) (λ f. omega arith)
+    e)
+same (fourth h) (third k) a b v w is_a is_b in_a in_b e =
+    absurd (apart (codes "torchproof 4") (codes "torchproof 3") (behind_later h a) (behind_later k b) (λ f. omega arith)
+    e)
+same (fourth h) (fourth k) a b v w is_a is_b in_a in_b e =
+    let l = split_lines (codes "torchproof 4") (codes "torchproof 4") (behind_later h a) (behind_later k b) e in
+    let s = same_later a b h k is_a.needed is_b.needed in_a in_b l.1 in
+    same_certificate a.version b.version a.size b.size a.headroom b.headroom a.sections b.sections
+    (v ∙ ap fourth s.0 ∙ sym w) s.1 s.2 s.3
 
 -- one certificate has this text
 pub one_certificate : (text : List ℕ) (a b : Certificate) → IsTextOf text a → IsTextOf text b → a ≡ b

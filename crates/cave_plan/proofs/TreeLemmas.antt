@@ -4,13 +4,17 @@ use Rattle.std.proofs.Common.{append_assoc, arith}
 use Rattle.std.specs.Prelude.{codes}
 use Rattle.std.proofs.lemmas.List.Elements.{All-nil, All-cons}
 use Rattle.proof_rules.specs.declared.groups.Group.{Group}
-use Rattle.proof_rules.specs.Tree.{Tree, Forest, leaf, weighted, branch, bar, omit, none, more, tree_count}
+use Rattle.proof_rules.specs.Tree.{Tree, Forest, leaf, weighted, branch, bar, omit, pick, none, more, tree_count}
 use Rattle.proof_rules.specs.Certificate.{AreListed, AreGroupsIn, IsTreeIn, AreTreesIn}
 use Rattle.proof_rules.specs.Text.{line, group_line, tree_lines, forest_lines}
 use Rattle.certificate_lines.specs.Numbers.{IsSmall}
 use Rattle.certificate_lines.proofs.Complete.{listed_few, groups_few}
 use Rattle.cave_plan.proofs.NumberLemmas.{same_line, listed_small}
 use Rattle.cave_plan.proofs.GroupTextLemmas.{split_lines, same_groups}
+
+-- one small number
+pub one_small : (a : ℕ) → a ≤ 262144 → All IsSmall (a ∷ [])
+one_small a small = All-cons IsSmall a [] (omega arith) (All-nil IsSmall)
 
 -- two small numbers
 pub two_small : (a b : ℕ) → a ≤ 262144 → b ≤ 262144 → All IsSmall (a ∷ b ∷ [])
@@ -36,6 +40,7 @@ first_byte (weighted groups) = 87
 first_byte (branch cell kids) = 66
 first_byte (bar place by kid) = 69
 first_byte (omit cells kid) = 68
+first_byte (pick place with without) = 80
 
 -- they begin with it, whatever comes behind them
 begins : (tree : Tree) (r : List (List ℕ)) → get_or (get_or (tree_lines tree ++ r) 0 []) 0 0 ≡ first_byte tree
@@ -44,6 +49,7 @@ begins (weighted groups) r = refl
 begins (branch cell kids) r = refl
 begins (bar place by kid) r = refl
 begins (omit cells kid) r = refl
+begins (pick place with without) r = refl
 
 -- trees with the same lines begin with the same byte
 same_byte : (a b : Tree) (r s : List (List ℕ)) → tree_lines a ++ r ≡ tree_lines b ++ s → first_byte a ≡ first_byte b
@@ -106,6 +112,21 @@ module _ (m n : ℕ) (few_m : m ≤ 262144) (few_n : n ≤ 262144) where
         let same : cells ≡ others = cc in
         let below = one_tree kid tree r s in_a.2 in_b.2 l.1 in
         let this = below.0 in (cc, below.1)
+    one_tree (pick place with without) (pick other chosen barred) r s in_a in_b e =
+        let l = split_lines (line (codes "P") (place ∷ [])) (line (codes "P") (other ∷ []))
+        ((tree_lines with ++ tree_lines without) ++ r) ((tree_lines chosen ++ tree_lines barred) ++ s) e in
+        let small_a = one_small place (let h = in_a.0 in omega arith) in
+        let small_b = one_small other (let h = in_b.0 in omega arith) in
+        let numbers : place ∷ [] ≡ other ∷ [] =
+        same_line (codes "P") (place ∷ []) (other ∷ []) small_a small_b l.0 in
+        let same : place ≡ other = cc in
+        let f = append_assoc (tree_lines with) (tree_lines without) r in
+        let g = append_assoc (tree_lines chosen) (tree_lines barred) s in
+        let first = one_tree with chosen (tree_lines without ++ r) (tree_lines barred ++ s) in_a.1 in_b.1
+        (sym f ∙ l.1 ∙ g) in
+        let second = one_tree without barred r s in_a.2 in_b.2 first.1 in
+        let one = first.0 in
+        let two = second.0 in (cc, second.1)
     one_tree a b r s in_a in_b e = absurd (let same = same_byte a b r s e in omega (arith, same))
 
     -- as many trees' lines, and what comes behind them

@@ -2,7 +2,8 @@
 use Rattle.std.specs.Prelude.{◌≡◌, ℕ, ◌≤◌, List, map, Contains, slice_index}
 use Rattle.std.specs.List.Sorted.{IsStrictlyIncreasing}
 use Rattle.cave_model.specs.Listing.{ListsAll}
-use Rattle.proof_rules.specs.Certificate.{Section, Version, Certificate, version_number, need_of, IsVersionOf, torches_of}
+use Rattle.proof_rules.specs.Certificate.{Section, Version, Certificate, version_number, need_of, IsVersionOf}
+use Rattle.proof_rules.specs.Certificate.{torches_of}
 use Rattle.certificate_text.specs.Planned.{Plan, section_of}
 
 -- just the torches of the certificate, in the order of their cells

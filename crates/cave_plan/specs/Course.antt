@@ -69,7 +69,8 @@ pub record IsCourse (regions : List Instance) (allowance : Allowance) (c : Cours
 
 -- one region more is planned
 pub record GoesOn (allowance : Allowance) (region : Instance) (old new : Course) : Type 0 where
-  pub each : (regions : List Instance) → IsCourse regions allowance old → IsCourse (regions ++ region ∷ []) allowance new
+  pub each : (regions : List Instance) → IsCourse regions allowance old
+      → IsCourse (regions ++ region ∷ []) allowance new
 
 -- the number that no torches are fewer than, where turns were spent
 abbrev pub floor_if : Bool → ℕ → Option ℕ
