@@ -1,9 +1,12 @@
 """Changes of valid input, for the scripts beside this file: bytes and texts at random, and pieces with a meaning."""
-import struct
+import math, struct
 
 LENGTHS = [0, 1, 2, 3, 255, 256, 65_535]
 COUNTS = [0, 1, 2, -1, -2, 2**31 - 1, -(2**31), 65_536, 262_144, 262_145]
 NUMBERS = [0, 1, -1, 2, 127, 128, 129, 255, 256, 2**31 - 1, -(2**31)]
+
+# The words that a node's line begins with; D is also that of a region's cells.
+NODES = ("L", "B", "E", "W", "D", "P")
 
 
 def byte_set(rng, data):
@@ -115,7 +118,7 @@ def line_changed(rng, line):
         i, j = rng.randrange(1, len(words)), rng.randrange(1, len(words))
         words[i], words[j] = words[j], words[i]
     elif way == 9:
-        words[0] = rng.choice([b"L", b"B", b"E", b"W", b"G", b"D", b"T", b"end", b"region", b""])
+        words[0] = rng.choice([b"L", b"B", b"E", b"W", b"G", b"D", b"P", b"T", b"end", b"region", b""])
     return b" ".join(words)
 
 
@@ -161,12 +164,62 @@ def group_forged(rng, numbers, known):
     return [capacity, len(weights), *(number for cell in sorted(weights) for number in (cell, weights[cell]))]
 
 
+def tree_end(lines, at):
+    """The line behind the tree whose first line stands here."""
+    owed = 1
+    while owed > 0 and at < len(lines) and lines[at][0] in NODES:
+        word, *numbers = lines[at]
+        owed += {"B": int(numbers[-1]) - 1, "E": 0, "D": 0, "P": 1}.get(word, -1)
+        at += 1 + (int(numbers[0]) if word == "W" else 0)
+    return min(at, len(lines))
+
+
+def place_forged(rng, lines, at, known):
+    """A place for a pick: a known cell or one beside it, a place that the lines before pick or bar, the number of the
+    last cell, or one more."""
+    above = [line[1] for line in lines[:at] if line[0] in ("P", "E")]
+    sides = [int(side) for line in lines if line[0] == "box" for side in line[1:]]
+    ways = [rng.choice(known), rng.choice(known) + rng.choice([1, -1]), math.prod(sides) - rng.choice([0, 1])]
+    return max(int(rng.choice([*ways, rng.choice(above)] if above else ways)), 0)
+
+
+def pick_forged(rng, lines, at, known):
+    """The lines with another place in this pick, two places, its trees exchanged, the first one twice, or one alone."""
+    middle = tree_end(lines, at + 1)
+    end = tree_end(lines, middle)
+    pick, first, second = lines[at], lines[at + 1 : middle], lines[middle:end]
+    way = rng.randrange(8)
+    if way < 4:
+        pick = ["P", str(place_forged(rng, lines, at, known))]
+    elif way == 4:
+        pick = [*pick, rng.choice(pick[1:])]
+    trees = {5: [*second, *first], 6: [*first, *first], 7: rng.choice([first, second])}.get(way, [*first, *second])
+    return [*lines[:at], pick, *trees, *lines[end:]]
+
+
+def pick_put_in(rng, lines, known):
+    """The lines with a pick above some node, whose tree stands below it twice; mostly in the version that has picks."""
+    is_node = lambda at: lines[at][0] in NODES and lines[at - 1][0] != "region"
+    nodes = [at for at in range(1, len(lines)) if is_node(at)]
+    if not nodes:
+        return lines
+    at = rng.choice(nodes)
+    end = tree_end(lines, at)
+    tree = lines[at:end]
+    lines = [*lines[:at], ["P", str(place_forged(rng, lines, at, known))], *tree, *tree, *lines[end:]]
+    if lines[0][-1] in ("2", "3") and rng.random() < 0.7:
+        lines[0] = ["torchproof", "4"]
+    return lines
+
+
 def certificate_forged(rng, data):
-    """A text of the same form that says something else: other cells, torches, branches, bars, groups or heads, with the
-    counts that belong to them."""
+    """A text of the same form that says something else: other cells, torches, branches, bars, picks, groups or heads,
+    with the counts that belong to them."""
     lines = [line.split(" ") for line in data.decode().split("\n")[:-1]]
     known = [int(word) for line in lines if line[0] in "DTL" for word in line[1:]] or [0]
-    head = [at for at, line in enumerate(lines) if line[0] not in ("D", "T", "L", "B", "E", "W", "G")]
+    if rng.random() < 0.1:
+        return joined(pick_put_in(rng, lines, known))
+    head = [at for at, line in enumerate(lines) if line[0] not in ("T", "G", *NODES)]
     body = [at for at in range(len(lines)) if at not in head]
     at = rng.choice(body if body and rng.random() < 0.9 else head)
     word, numbers = lines[at][0], [int(one) for one in lines[at][1:] if one.isdigit()]
@@ -185,11 +238,15 @@ def certificate_forged(rng, data):
         kids = max(numbers[1] + rng.choice([0, 0, 1]), 0)
         lines[at] = ["B", str(rng.choice([numbers[0], rng.choice(known)])), str(kids)]
         lines[at + 1 : at + 1] = [["L", "0"]] * (kids - numbers[1])
+    elif word == "P":
+        lines = pick_forged(rng, lines, at, known)
     elif word == "G":
         lines[at] = ["G", *map(str, group_forged(rng, numbers, known))]
     elif word == "E":
         other = rng.choice(known)
         lines[at] = ["E", *map(str, rng.choice([numbers[::-1], [other, numbers[1]], [numbers[0], other]]))]
+    elif word == "torchproof":
+        lines[at] = [word, str(rng.randrange(1, 6))]
     elif word in ("box", "region"):
         rng.shuffle(numbers)
         lines[at] = [word, *map(str, numbers)]
@@ -197,6 +254,11 @@ def certificate_forged(rng, data):
         lines[at] = [word, str(3 - numbers[0])]
     elif word == "need":
         lines[at] = [word, str(9 - numbers[0])]
+    return joined(lines)
+
+
+def joined(lines):
+    """The text of these lines, told by their words."""
     return "".join(" ".join(line) + "\n" for line in lines).encode()
 
 

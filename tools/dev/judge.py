@@ -6,6 +6,10 @@ NUMBER = re.compile(rb"0|[1-9][0-9]*")
 Region = namedtuple("Region", "torches cells places nodes")
 Node = namedtuple("Node", "line kind numbers")
 
+# The first lines, and the nodes that each version has.
+VERSIONS = {f"torchproof {version}".encode(): version for version in (1, 2, 3, 4)}
+KINDS = {1: "L B", 2: "L B E", 3: "L B E W D", 4: "L B E W D P"}
+
 
 class Misfit(Exception):
     """Why a certificate is rejected."""
@@ -79,7 +83,7 @@ def groups_of(lines, many, count):
 def tree_of(lines, version, count):
     nodes, owed = [], 1
     while owed > 0:
-        kind, numbers = lines.words({1: "L B", 2: "L B E", 3: "L B E W D"}[version])
+        kind, numbers = lines.words(KINDS[version])
         lines.fits(len(numbers) >= 1)
         at = lines.at
         if kind in "LD":
@@ -93,6 +97,9 @@ def tree_of(lines, version, count):
             lines.fits(len(numbers) == 1 and 1 <= numbers[0] <= count)
             numbers = groups_of(lines, numbers[0], count)
             owed -= 1
+        elif kind == "P":
+            lines.fits(len(numbers) == 1 and numbers[0] < count)
+            owed += 1
         else:
             lines.fits(len(numbers) == 2 and max(numbers) < count)
         nodes.append(Node(at, kind, numbers))
@@ -102,7 +109,7 @@ def tree_of(lines, version, count):
 def read(data):
     """What a certificate says: box, headroom, need and regions."""
     lines = Lines(data)
-    version = {b"torchproof 1": 1, b"torchproof 2": 2, b"torchproof 3": 3}.get(lines.next())
+    version = VERSIONS.get(lines.next())
     lines.fits(version is not None)
     _, box = lines.words("box", 3)
     count = box[0] * box[1] * box[2]
@@ -163,6 +170,10 @@ def bad_node(coverage, cells, node, chosen, barred):
             return True, []
         left = filter(is_unlit, coverage.lit[place] & cells)
         return not all(cell in coverage.lit[by] for cell in left), [(chosen, barred | {place}, cells)]
+    if node.kind == "P":
+        [place] = node.numbers
+        is_bad = place not in coverage.lit or place in chosen or place in barred
+        return is_bad, [(chosen | {place}, barred, cells), (chosen, barred | {place}, cells)]
     if node.kind == "D":
         return not cells.issuperset(node.numbers[1:]), [(chosen, barred, cells.difference(node.numbers[1:]))]
     if node.kind == "W":
