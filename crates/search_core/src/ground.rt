@@ -1,29 +1,53 @@
 //! Where a search takes place.
 ghost use Rattle.std.specs.Arc.{arc_value};
-ghost use Rattle.std.specs.Prelude.{◌≡◌};
+ghost use Rattle.std.specs.Prelude.{◌≡◌, ◌<◌, ◌+◌};
 
 use instance_regions::Region;
 use std::alloc::Global;
 use std::sync::Arc;
 
-/// The allocator and the region of a search, and the region once more as covers and pieces share it.
+/// How many places that were picked may be barred above a node: each stands for a frame of the stack.
+const MOST_PICKS: u32 = 1024;
+
+/// The allocator and the region of a search, and the region once more as covers and pieces share it; how many places that
+/// were picked are barred here, and how many may be: none where places aren't picked.
 #[derive(Clone, Copy)]
 pub(crate) struct Ground<'a> {
     pub(crate) alloc: Global,
     pub(crate) region: &'a Region,
     pub(crate) shared: &'a Arc<Region>,
+    pub(crate) refused: u32,
+    pub(crate) picks: u32,
     ghost same: { arc_value shared.now ≡ region.now },
 }
 
 impl<'a> Ground<'a> {
-    /// The region that is shared.
-    pub(crate) fn of(alloc: Global, shared: &'a Arc<Region>) -> Ground<'a>
+    /// The region that is shared, and whether places are picked in it.
+    pub(crate) fn of(alloc: Global, shared: &'a Arc<Region>, may_pick: bool) -> Ground<'a>
         ensures { result.region.now ≡ arc_value shared.now }
     {
         Ground {
             alloc,
             region: shared.as_ref(),
             shared,
+            refused: 0,
+            picks: if may_pick { MOST_PICKS } else { 0 },
+        }
+    }
+
+    /// The same where one more place that was picked is barred.
+    pub(crate) fn refusing(&self) -> Ground<'a>
+        requires { self.now.refused < self.now.picks }
+        ensures same { result.region.now ≡ self.now.region.now }
+        ensures one_more { result.refused ≡ self.now.refused + 1 }
+        ensures picks { result.picks ≡ self.now.picks }
+    {
+        Ground {
+            alloc: self.alloc,
+            region: self.region,
+            shared: self.shared,
+            refused: self.refused + 1,
+            picks: self.picks,
         }
     }
 }

@@ -6,6 +6,7 @@ mod aimed;
 mod beginning;
 mod branch_and_bound;
 mod carrying;
+mod core_rounds;
 mod ground;
 mod halt;
 mod one_worker;

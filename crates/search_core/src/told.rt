@@ -29,6 +29,10 @@ impl<'o, P: Proposer, O: Observer> Told<'o, P, O> {
     pub(crate) fn inner(&self) -> &P {
         &self.inner
     }
+
+    pub(crate) fn observer(&self) -> &'o O {
+        self.observer
+    }
 }
 
 impl<P: Proposer, O: Observer> Proposer for Told<'_, P, O> {

@@ -12,6 +12,7 @@ mod observer;
 mod planner;
 mod proposer;
 mod region_fault;
+mod two_searches;
 
 pub use alone::AloneDesk;
 pub use beginning::Beginning;
@@ -20,5 +21,8 @@ pub use closer::Closer;
 pub use desk::Desk;
 pub use observer::{Observer, Unobserved};
 pub use planner::{Allowance, BestPlan, Planner};
-pub use proposer::{Proposal, Proposer, Strategy, Task};
+pub use proposer::{Branching, Proposal, Proposer, Strategy, Task};
 pub use region_fault::{RegionFault, RegionPlan};
+pub use two_searches::{
+    are_spent, first_of, rest_of, smaller_of, stopped, with_earlier, with_known,
+};

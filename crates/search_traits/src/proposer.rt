@@ -7,13 +7,26 @@ use pack_bound::Node;
 use proof_tree::{Bar, Proof};
 use std::alloc::{AllocError, Global};
 
-/// What is asked of a proposer: a node of a region, and the floor of the tree that is wanted for it. With no floor it
-/// is the node where the search begins.
+/// What is asked of a proposer.
 #[derive(Clone, Copy)]
 pub struct Task<'a> {
     pub region: &'a Region,
     pub node: &'a Node,
+    /// The floor of the tree that is wanted for the node. With none it is the node where the search begins.
     pub floor: Option<u64>,
+    /// How many places were picked above the node and are barred here.
+    pub refused: u32,
+    /// Whether a place may be picked.
+    pub may_pick: bool,
+}
+
+/// What a search goes on with at a node, by an index in the region.
+#[derive(Clone, Copy)]
+pub enum Branching {
+    /// A branch on this cell: one of the places that may light it is chosen.
+    Cell(u32),
+    /// A pick of this place: it is chosen, or barred.
+    Place(u32),
 }
 
 /// What is proposed at a node, by the indices of cells and places in the region.
@@ -25,14 +38,14 @@ pub struct Proposal {
     pub tree: Proof,
     /// The places to leave out before the branch, in their order.
     pub bars: Vec<Bar>,
-    /// The cell to branch on; none of the region's where there is no proposal.
-    pub branch: u32,
+    /// What to branch on, if anything is proposed.
+    pub branch: Option<Branching>,
 }
 
 /// The heuristics of a search, and what they remember of the nodes above the one that is worked on.
 pub trait Proposer {
     /// What is proposed at a node for a tree of this floor, which the tree may fall short of. With no floor: a cover,
-    /// as large a leaf as is found, and a cell to branch on.
+    /// as large a leaf as is found, and what to branch on.
     fn propose(&mut self, alloc: Global, task: Task<'_>) -> Result<Proposal, AllocError>
         requires { IsStateOf task.region.now task.node.now };
 }
@@ -44,6 +57,9 @@ pub trait Strategy: Proposer + Drop {
     fn at(alloc: Global, region: &Region, node: &Node) -> Result<Self, AllocError>
         requires { IsStateOf region.now node.now };
 
+    /// Whether picks make shorter trees in the region than branches on cells, where a search gets long.
+    fn is_for_picks(&self) -> bool;
+
     /// The tree of a node, or a shorter one, both by indices.
     fn shortened(
         &self,
@@ -53,19 +69,30 @@ pub trait Strategy: Proposer + Drop {
         tree: &Proof,
     ) -> Result<Proof, AllocError>;
 
-    /// The places of the region that it can do without, left out of the others: those that stay, ascending, by their
-    /// indices.
+    /// The places of the region's core, ascending, by their indices: the region can do without the others.
     fn kept_places(alloc: Global, region: &Region) -> Result<Vec<u32>, AllocError>;
 
-    /// A cover that the region had without the other places, by their indices in the region.
+    /// A cover of the region as one of its core, by indices there: of each place itself, or the one that stands in for
+    /// it.
+    fn core_cover(
+        &self,
+        alloc: Global,
+        region: &Region,
+        node: &Node,
+        core: &Region,
+        cover: &[Cell],
+    ) -> Result<Vec<u32>, AllocError>
+        requires { IsStateOf region.now node.now };
+
+    /// A cover of the region's core, by the indices of its places in the region.
     fn carried_places(
         alloc: Global,
         region: &Region,
         places: &[Cell],
     ) -> Result<Vec<u32>, AllocError>;
 
-    /// A tree, by numbers, that the region had without the other places, by indices and below bars for these places, as
-    /// far as it needs them.
+    /// A tree of the region's core, by numbers, as one of the region, by indices: below cells that are left out and bars
+    /// for the other places, as far as it needs them.
     fn carried_tree(
         &self,
         alloc: Global,
