@@ -1,3 +1,4 @@
+//! Why a text is no table of rows: `IsRowsFaultOf` of specs/UserTable.antt; its words are in specs/Texts.antt.
 ghost use Rattle.std.specs.Prelude.{◌≡◌};
 ghost use Rattle.block_rows.specs.declared.fault.RowsFault.TheVariants.{OutOfMemory};
 

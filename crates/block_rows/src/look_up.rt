@@ -1,3 +1,4 @@
+//! Which row of a list fits a block state first, by its name or as a wildcard: specs/Rows.antt.
 ghost use Rattle.std.specs.Prelude.{◌≡◌, find, option_copied};
 ghost use Rattle.block_rows.specs.Rows as look_up;
 

@@ -1,3 +1,5 @@
+//! The table of rows, the user's before the shipped ones: `Table` and `row_for` of specs/Rows.antt. What the
+//! user's text tells is in specs/UserTable.antt.
 ghost use Rattle.std.specs.Prelude.{◌≡◌, ◌≢◌, [], IfErr, IfOk, IfSome, option_copied};
 ghost use Rattle.block_rows.specs.Rows.{Table, row_for};
 ghost use Rattle.block_rows.specs.Shipped.{shipped_rows};

@@ -1,3 +1,4 @@
+//! The shipped rows, made from the lines of table.rt: `shipped_rows` of specs/Shipped.antt, by specs/Lines.antt.
 ghost use Rattle.std.specs.Prelude.{◌≡◌, ◌++◌, IfOk, OnOk, flat_map, map};
 ghost use Rattle.block_rows.specs.Lines.{line_of, rows_in};
 ghost use Rattle.block_rows.specs.Shipped.{shipped_rows};

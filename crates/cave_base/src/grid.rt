@@ -1,3 +1,4 @@
+//! The box of a cave: its limits, and the numbers and the coordinates of its cells: specs/Box.antt.
 ghost use Rattle.std.specs.Prelude.{◌≡◌, ◌<◌, IsTrue};
 ghost use Rattle.cave_base.specs.Box as grid;
 

@@ -1,3 +1,4 @@
+//! A list that owns its items, seen by contracts as what it contains.
 ghost use Rattle.std.specs.Prelude.{◌≡◌};
 
 use std::marker::Model;

@@ -1,3 +1,4 @@
+//! The faces of a cell, and the cell beyond each: `step` of specs/Cells.antt. specs/Faces.antt has their names.
 ghost use Rattle.std.specs.Prelude.{◌≡◌, ◌<◌, IfSome, IsTrue, option_map};
 ghost use Rattle.cave_base.specs.Box as grid;
 ghost use Rattle.cave_model.specs.Cells.{step};

@@ -1,3 +1,4 @@
+//! How a new torch hangs in a cell: `hang_of` of specs/Torches.antt.
 ghost use Rattle.std.specs.Prelude.{◌≡◌, ◌<◌};
 ghost use Rattle.cave_base.specs.Box.{cell_count};
 ghost use Rattle.cave_model.specs.Torches as torches;

@@ -1,3 +1,4 @@
+//! What lies beyond the faces of a cell: `neighbours_of` of specs/Cells.antt, and `class_beyond` of specs/Cave.antt.
 ghost use Rattle.std.specs.Prelude.{◌≡◌, ◌<◌};
 ghost use Rattle.cave_base.specs.Box.{cell_count};
 ghost use Rattle.cave_model.specs.Cave.{class_beyond};

@@ -1,3 +1,4 @@
+//! For each cell the neighbours that light can enter: `ArePassages` of specs/Passages.antt.
 ghost use Rattle.std.specs.Prelude.{◌≡◌, ◌<◌, IfOk, OnOk, IsTrue, ◌↔◌};
 ghost use Rattle.cave_base.specs.Box.{cell_count};
 ghost use Rattle.cave_model.specs.Light.{entering_cost};

@@ -1,3 +1,4 @@
+//! The rule of spawning: specs/Rule.antt. specs/RuleOf.antt says which one the code's value stands for.
 ghost use Rattle.std.specs.Prelude.{◌≡◌, IsTrue};
 ghost use Rattle.cave_model.specs.Rule.{is_headroom, is_need};
 

@@ -1,3 +1,4 @@
+//! A cave in memory: `Cave` of specs/Cave.antt, of which `IsWorld` always holds.
 ghost use Rattle.std.specs.Prelude.{◌≡◌, ◌<◌, ◌≤◌, IsTrue};
 ghost use Rattle.cave_base.specs.Box as grid;
 ghost use Rattle.cave_base.specs.Box.{is_small, point};

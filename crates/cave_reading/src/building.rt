@@ -1,3 +1,4 @@
+//! A cave from a structure and a table: `IsCaveOf` of specs/World.antt, and where there is none `IsUnknownBlock`.
 ghost use Rattle.std.specs.Prelude.{◌≡◌, ◌≢◌, ◌<◌, IfOk, IfErr, IfSome, All, length, map};
 ghost use Rattle.cave_base.specs.Answer.{IsAnswer, IsRefusal};
 ghost use Rattle.cave_model.specs.Cave.{Cave};

@@ -1,3 +1,4 @@
+//! Why bytes tell no cave: `IsFaultOfBytes` of specs/Bytes.antt. A part's fault becomes one by specs/Merging.antt.
 ghost use Rattle.std.specs.Prelude.{◌≡◌};
 ghost use Rattle.cave_reading.specs.Merging.{of_build, of_rows, of_scan};
 

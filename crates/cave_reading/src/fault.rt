@@ -1,3 +1,4 @@
+//! Why a structure is no cave: `IsUnknownBlock` of specs/World.antt; its words are in specs/Texts.antt.
 ghost use Rattle.std.specs.Fmt.{WritesOnOk};
 ghost use Rattle.std.specs.Prelude.{◌≡◌, ◌<◌};
 ghost use Rattle.cave_reading.specs.Texts.{hex_digit, shown_byte};

@@ -1,3 +1,4 @@
+//! A cave from bytes: `IsCaveOfBytes` of specs/Bytes.antt, and where there is none `IsFaultOfBytes`.
 ghost use Rattle.std.specs.Prelude.{◌≡◌, ◌≢◌, IfOk, IfErr, option_copied};
 ghost use Rattle.block_rows.specs.Rows.{Table};
 ghost use Rattle.block_rows.specs.declared.fault.RowsFault.{RowsFault};

@@ -58,3 +58,8 @@ pub record AreEmpty (rows width cells : ℕ) (words : List ℕ) : Type 0 where
   pub none : (bit : ℕ) → ¬ Has words bit
   pub room : cells ≤ 64 * width
   pub small : length words < 2 ^ 58
+
+-- empty rows of one width, one for each place, and one for all
+pub record AreBlankRows (cells places words covered : List ℕ) : Type 0 where
+  pub each : AreEmpty (length places) (length covered) (length cells) words
+  pub all : AreEmpty 1 (length covered) (length cells) covered

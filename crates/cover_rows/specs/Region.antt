@@ -45,6 +45,12 @@ pub record IsRegion (local region : List ℕ) : Type 0 where
 abbrev pub AreOnce : List ℕ → Type 0
 AreOnce cells = (i j : ℕ) → i < length cells → j < length cells → slice_index cells i ≡ slice_index cells j → i ≡ j
 
+-- up to 64 cells below this number, each once
+pub record AreSources (count : ℕ) (cells : List ℕ) : Type 0 where
+  pub few : length cells ≤ 64
+  pub inside : All (λ cell. cell < count) cells
+  pub once : AreOnce cells
+
 -- the list begins with the old one
 pub record BeginsWith (old new : List ℕ) : Type 0 where
   pub longer : length old ≤ length new
@@ -60,3 +66,14 @@ pub record AreLinked (sides region near : List ℕ) (count : ℕ) : Type 0 where
 pub record AreInside (count : ℕ) (sides : List ℕ) : Type 0 where
   pub whole : length sides ≡ 6 * count
   pub each : (cell face : ℕ) → cell < count → face < 6 → slice_index sides (6 * cell + face) < count
+
+-- the sides of a box's cells, which are few enough, and room to link each of them
+pub record HaveRoom (sides local near : List ℕ) : Type 0 where
+  pub few : length local ≤ 262144
+  pub inside : AreInside (length local) sides
+  pub room : length near ≡ 6 * length local
+
+-- a region whose first so many cells are linked
+pub record IsLinkedRegion (sides local region near : List ℕ) (count : ℕ) : Type 0 where
+  pub found : IsRegion local region
+  pub linked : AreLinked sides region near count

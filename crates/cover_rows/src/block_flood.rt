@@ -2,10 +2,10 @@
 //!
 //! Source: M. Then et al., "The more the merrier: efficient multi-source graph traversal", 2014, for floods side by
 //! side in words. The order, level by level from the highest down, is this project's own.
-ghost use Rattle.std.specs.Prelude.{◌<◌, ◌≤◌, length, All, IfOk};
+ghost use Rattle.std.specs.Prelude.{◌≤◌, length, IfOk};
 ghost use Rattle.cave_base.specs.Box.{cell_count};
 ghost use Rattle.cover_rows.specs.BlockFlood.{HasSpread, IsLeft, IsReady};
-ghost use Rattle.cover_rows.specs.Region.{AreOnce, AreSides};
+ghost use Rattle.cover_rows.specs.Region.{AreSides, AreSources};
 
 use crate::levels::{blank, settle};
 use crate::region::{Linked, NONE, begin, forget, grow};
@@ -46,9 +46,7 @@ impl BlockFlood {
         sources: &[Cell],
     ) -> Result<usize, AllocError>
         requires sides { AreSides world.now (cell_count world.now.size) sides.now }
-        requires few { length sources.now ≤ 64 }
-        requires inside { All (λ cell. cell < cell_count world.now.size) sources.now }
-        requires once { AreOnce sources.now }
+        requires sources { AreSources (cell_count world.now.size) sources.now }
         requires ready { IsReady (cell_count world.now.size) self.old }
         ensures { IfOk result (λ count. HasSpread world.now sources.now self.new count) }
     {

@@ -2,7 +2,7 @@
 ghost use Rattle.std.specs.Prelude.{◌≡◌, ◌<◌, ◌^◌, length, IfOk, OnOk};
 ghost use Rattle.cave_base.specs.Box.{cell_count};
 ghost use Rattle.cave_model.specs.Torches.{ArePlaces};
-ghost use Rattle.cover_rows.specs.Filling.{AreEmpty, IsFilling, IsListed};
+ghost use Rattle.cover_rows.specs.Filling.{AreBlankRows, IsFilling, IsListed};
 ghost use Rattle.set_cover.specs.Instance.{words_for};
 
 use crate::block_flood::BlockFlood;
@@ -55,9 +55,7 @@ fn fill(
     requires cells { IsListed world.now cells.now }
     requires places { IsListed world.now places.now }
     requires legal { ArePlaces world.now places.now }
-    requires words { AreEmpty (length places.now) (length rows.old.covered.items) (length cells.now)
-        rows.old.words.items }
-    requires covered { AreEmpty 1 (length rows.old.covered.items) (length cells.now) rows.old.covered.items }
+    requires blank { AreBlankRows cells.now places.now rows.old.words.items rows.old.covered.items }
     ensures filled { OnOk result (IsFilling world.now cells.now places.now rows.new.words.items
         rows.new.covered.items) }
     ensures wide { OnOk result (length rows.new.covered.items ≡ length rows.old.covered.items) }

@@ -1,8 +1,7 @@
 //! The region of a block: the cells that light from its cells can come to. They have numbers in the order in which they
 //! were found, so that what a flood reads and writes lies close together.
-ghost use Rattle.std.specs.Prelude.{◌≡◌, ◌<◌, ◌≤◌, ◌*◌, ◌+◌, [], length, All, IfOk, OnOk};
-ghost use Rattle.cover_rows.specs.Region.{AreInside};
-ghost use Rattle.cover_rows.specs.Region.{AreLinked, AreOnce, BeginsWith, IsNumberOf, IsRegion};
+ghost use Rattle.std.specs.Prelude.{◌≡◌, ◌<◌, ◌≤◌, ◌+◌, [], length, IfOk, OnOk};
+ghost use Rattle.cover_rows.specs.Region.{AreSources, BeginsWith, HaveRoom, IsLinkedRegion, IsNumberOf, IsRegion};
 
 use cave_base::Cell;
 use std::alloc::AllocError;
@@ -22,9 +21,7 @@ pub struct Linked<'a> {
 
 /// Begins a region with these cells.
 pub fn begin(local: &mut [u32], region: &mut Vec<Cell>, cells: &[Cell]) -> Result<(), AllocError>
-    requires inside { All (λ cell. cell < length local.old) cells.now }
-    requires once { AreOnce cells.now }
-    requires small { length cells.now ≤ 64 }
+    requires cells { AreSources (length local.old) cells.now }
     requires none { region.old.items ≡ [] }
     requires region { IsRegion local.old region.old.items }
     ensures region { OnOk result (IsRegion local.new region.new.items) }
@@ -63,15 +60,11 @@ fn link(
     near: &mut [u32],
     number: usize,
 ) -> Result<(), AllocError>
-    requires sides { AreInside (length local.old) sides.now }
-    requires small { length local.old ≤ 262144 }
-    requires near { length near.old ≡ 6 * length local.old }
+    requires sides { HaveRoom sides.now local.old near.old }
     requires number { number < length region.old.items }
-    requires region { IsRegion local.old region.old.items }
-    requires linked { AreLinked sides.now region.old.items near.old number }
-    ensures region { OnOk result (IsRegion local.new region.new.items) }
+    requires region { IsLinkedRegion sides.now local.old region.old.items near.old number }
+    ensures region { OnOk result (IsLinkedRegion sides.now local.new region.new.items near.new (number + 1)) }
     ensures kept { OnOk result (BeginsWith region.old.items region.new.items) }
-    ensures linked { OnOk result (AreLinked sides.now region.new.items near.new (number + 1)) }
 {
     let cell = region[number];
     for face in 0..6 {
@@ -88,15 +81,12 @@ pub fn grow(
     near: &mut [u32],
     from: usize,
 ) -> Result<(), AllocError>
-    requires sides { AreInside (length local.old) sides.now }
-    requires small { length local.old ≤ 262144 }
-    requires near { length near.old ≡ 6 * length local.old }
+    requires sides { HaveRoom sides.now local.old near.old }
     requires from { from ≤ length region.old.items }
-    requires region { IsRegion local.old region.old.items }
-    requires linked { AreLinked sides.now region.old.items near.old from }
-    ensures region { OnOk result (IsRegion local.new region.new.items) }
+    requires region { IsLinkedRegion sides.now local.old region.old.items near.old from }
+    ensures region { let count = length region.old.items in
+        OnOk result (IsLinkedRegion sides.now local.new region.new.items near.new count) }
     ensures kept { OnOk result (BeginsWith region.old.items region.new.items) }
-    ensures linked { OnOk result (AreLinked sides.now region.new.items near.new (length region.old.items)) }
 {
     for number in from..region.len() {
         link(sides, local, region, near, number)?;

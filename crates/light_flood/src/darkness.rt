@@ -1,3 +1,4 @@
+//! The dark cells, from the levels of light: `AreDarkCells` of cave_model's specs/Spawn.antt.
 ghost use Rattle.std.specs.Prelude.{◌<◌, ◌↔◌, All, IfOk, IsTrue};
 ghost use Rattle.cave_base.specs.Box as grid;
 ghost use Rattle.cave_model.specs.Spawn.{AreDarkCells, IsDark};

@@ -1,3 +1,4 @@
+//! The flood from all sources of a cave: `AreLevelsOf` of specs/Levels.antt.
 ghost use Rattle.std.specs.Prelude.{◌<◌, length, slice_index, IfOk, OnOk};
 ghost use Rattle.cave_base.specs.Box.{cell_count};
 ghost use Rattle.light_flood.specs.Levels.{AreLevelsOf, HasNoLight};

@@ -1,3 +1,4 @@
+//! The store of a flood over the whole box, with a level for each cell: specs/Levels.antt.
 ghost use Rattle.std.specs.Prelude.{◌≡◌, ◌<◌, length, slice_index, IfOk};
 ghost use Rattle.light_flood.specs.Levels.{HasNoLight};
 

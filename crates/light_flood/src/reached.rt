@@ -1,3 +1,4 @@
+//! What a flood from one source leaves, the levels of the cells with light: `reached` of specs/Reached.antt.
 ghost use Rattle.std.specs.BTreeMap.{get};
 ghost use Rattle.std.specs.Ordering.{nat_cmp};
 ghost use Rattle.std.specs.Prelude.{◌≡◌, ℕ, unwrap_or};

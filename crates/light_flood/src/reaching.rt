@@ -1,3 +1,4 @@
+//! The flood from one source: `AreReachOf` of specs/Levels.antt.
 ghost use Rattle.std.specs.Prelude.{◌<◌, ◌≤◌, IfOk};
 ghost use Rattle.cave_base.specs.Box.{cell_count};
 ghost use Rattle.light_flood.specs.Levels.{AreReachOf};

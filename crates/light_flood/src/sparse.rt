@@ -1,3 +1,4 @@
+//! The store of a flood that stays small, with a level for each cell that has light: it meets `Store` of store.rt.
 ghost use Rattle.std.specs.BTreeMap.{get};
 ghost use Rattle.std.specs.Ordering.{nat_cmp};
 ghost use Rattle.std.specs.Prelude.{◌≡◌, [], unwrap_or};

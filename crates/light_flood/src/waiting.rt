@@ -1,3 +1,4 @@
+//! The cells that a flood has yet to go on from, by level: `IsWaiting` of specs/Spreading.antt.
 ghost use Rattle.std.specs.Prelude.{◌≡◌, ◌<◌, [], ◌∷◌, ◌++◌, IfOk, OnOk};
 ghost use Rattle.light_flood.specs.Spreading.{IsWaiting, NoneWaits, waiting_at};
 

@@ -1,7 +1,7 @@
 -- Numbers that are counted, and lists that are filled, each in its own part of one list. This is this project's own.
 use Rattle.std.specs.Prelude.{◌≡◌, ◌≤◌, ◌<◌, ◌+◌, ◌-◌, ◌==◌, ℕ, List, length, map, sum, take, slice_index}
 use Rattle.std.specs.List.{count_by, range_with_len, slice_range}
-use Rattle.lit_lists.specs.Rows.{AreWhole}
+use Rattle.lit_lists.specs.Rows.{AreEmptyRows, AreWhole}
 
 -- how often the number stands in the list
 abbrev pub times : List ℕ → ℕ → ℕ
@@ -55,3 +55,9 @@ pub record AreOfSize (starts next parts : List ℕ) : Type 0 where
 -- each part is full
 pub record AreFull (starts next : List ℕ) : Type 0 where
   pub each : (part : ℕ) → part + 1 < length starts → slice_index next part ≡ slice_index starts (part + 1)
+
+-- so many empty lists, each with room for just as many numbers as its part stands in the list
+pub record AreReady (count : ℕ) (starts next numbers parts : List ℕ) : Type 0 where
+  pub lists : length starts ≡ count + 1
+  pub empty : AreEmptyRows count (lists_in starts next numbers)
+  pub room : AreOfSize starts next parts

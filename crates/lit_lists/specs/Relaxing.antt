@@ -47,6 +47,11 @@ pub record Queued (cave : Cave) (index : ℕ) (queue : List ℕ) : Type 0 where
   pub within : index ≤ length queue
   pub inside : (cell : ℕ) → Contains queue cell → cell < cell_count cave.size
 
+-- levels of at most 15, and a queue in which a round begins at this index
+pub record IsBegun (cave : Cave) (levels : ℕ → ℕ) (queue : List ℕ) (index : ℕ) : Type 0 where
+  pub low : AreLow levels
+  pub queued : Queued cave index queue
+
 -- the queue has each cell with light, and cells of the box alone
 pub record Queues (cave : Cave) (levels : ℕ → ℕ) (queue : List ℕ) : Type 0 where
   pub lit : (cell : ℕ) → 0 < levels cell → Contains queue cell

@@ -1,7 +1,7 @@
 -- Lists by the number of the cell, as they grow. This is this project's own.
-use Rattle.std.specs.Prelude.{◌≡◌, ◌≢◌, ◌<◌, ◌-◌, ◌↔◌, ℕ, List, [], ◌∷◌, ◌++◌, length, slice_index, Contains}
+use Rattle.std.specs.Prelude.{◌≡◌, ◌≢◌, ◌<◌, ◌+◌, ◌-◌, ◌↔◌, ℕ, List, [], ◌∷◌, ◌++◌, length, slice_index, Contains}
 use Rattle.std.specs.List.Sorted.{IsStrictlyIncreasing}
-use Rattle.cave_model.specs.Parts.{AreStarts}
+use Rattle.cave_model.specs.Parts.{AreStarts, parts}
 use Rattle.cave_model.specs.Plan.{AreDistinct}
 use Rattle.lit_lists.specs.Lists.{row_at}
 
@@ -32,6 +32,12 @@ pub record ArePushed (Here : ℕ → Type 0) (old : List (List ℕ)) (number : �
 pub record AreOfOneBox (rows : List (List ℕ)) : Type 0 where
   pub inside : (cell number : ℕ) → Contains (row_at rows cell) number → number < length rows
   pub once : (cell : ℕ) → AreDistinct (row_at rows cell)
+
+-- so many lists of numbers below their count, one after another in one list of all numbers
+pub record AreRowsOf (count : ℕ) (starts numbers : List ℕ) : Type 0 where
+  pub whole : AreWhole starts numbers
+  pub lists : length starts ≡ count + 1
+  pub boxed : AreOfOneBox (parts starts numbers)
 
 -- the list of each number has, ascending, the cells whose lists it is in
 pub record AreTurned (rows turned : List (List ℕ)) : Type 0 where

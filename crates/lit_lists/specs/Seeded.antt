@@ -1,5 +1,5 @@
 -- Levels before light spreads. This is this project's own.
-use Rattle.std.specs.Prelude.{◌≡◌, ℕ, ◌<◌, ◌≤◌, ◌↔◌, List, Contains, slice_index}
+use Rattle.std.specs.Prelude.{◌≡◌, ℕ, ◌<◌, ◌≤◌, ◌↔◌, List, length, Contains, slice_index}
 use Rattle.cave_base.specs.Box.{cell_count}
 use Rattle.cave_model.specs.Cave.{Cave, class_at}
 use Rattle.cave_model.specs.Plan.{AreDistinct}
@@ -14,6 +14,11 @@ pub record AreSeeded (cave : Cave) (levels queue : List ℕ) : Type 0 where
 -- no cell has light
 pub record AreUnlit (levels : List ℕ) : Type 0 where
   pub each : (cell : ℕ) → slice_index levels cell ≡ 0
+
+-- a level for each cell of the cave, all without light
+pub record IsScratch (cave : Cave) (levels : List ℕ) : Type 0 where
+  pub whole : length levels ≡ cell_count cave.size
+  pub unlit : AreUnlit levels
 
 -- the cells of the queue with light, each once
 pub record AreTaken (levels queue cells : List ℕ) : Type 0 where

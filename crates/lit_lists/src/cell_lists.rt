@@ -1,3 +1,4 @@
+//! A list of numbers for each cell, and for each number the cells whose lists it is in: `AreTurned` of specs/Rows.antt.
 ghost use Rattle.std.specs.Prelude.{◌≡◌, length, IfOk};
 ghost use Rattle.cave_model.specs.Parts as grid;
 ghost use Rattle.lit_lists.specs.Lists.{row_at};

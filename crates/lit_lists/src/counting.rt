@@ -1,3 +1,4 @@
+//! How often each number stands in a list, and the sums of counts: `AreCounts` and `AreSumsOf` of specs/Filling.antt.
 ghost use Rattle.std.specs.Prelude.{◌≡◌, ◌<◌, ◌^◌, length, replicate, sum, All, IfOk};
 ghost use Rattle.lit_lists.specs.Filling.{AreCounts, AreSumsOf};
 

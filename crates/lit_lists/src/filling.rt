@@ -1,9 +1,10 @@
+//! Lists that grow side by side in one vector: `IsFilling` of specs/Filling.antt.
 ghost use Rattle.std.specs.Prelude.{◌≡◌, ◌<◌, ◌+◌, ◌^◌, length, set, slice_index, sum, All, Contains, IfOk};
 ghost use Rattle.cave_model.specs.Parts as grid;
 ghost use Rattle.cave_model.specs.Plan.{AreDistinct};
-ghost use Rattle.lit_lists.specs.Filling.{AreFull, AreFurther, AreOfSize, HasRoom, HaveRoom, IsFilling};
+ghost use Rattle.lit_lists.specs.Filling.{AreFull, AreFurther, AreReady, HasRoom, HaveRoom, IsFilling};
 ghost use Rattle.lit_lists.specs.Filling.{AreSumsOf, lists_in};
-ghost use Rattle.lit_lists.specs.Rows.{AreEmptyRows, AreOfOneBox, ArePushed, AreTurned, AreWhole, IsPushed};
+ghost use Rattle.lit_lists.specs.Rows.{ArePushed, AreRowsOf, AreTurned, IsPushed};
 
 use crate::counting::sums_of;
 use std::alloc::{AllocError, Global};
@@ -70,13 +71,8 @@ impl Filling {
     /// Fills each part with the numbers of the lists that it is in, where there are so many lists. They stand in one
     /// list one after another.
     pub fn fill(&mut self, starts: &[usize], parts: &[u32], count: u32)
-        requires whole { AreWhole starts.now parts.now }
-        requires lists { length starts.now ≡ count + 1 }
-        requires as_many { length self.old.starts.items ≡ count + 1 }
-        requires boxed { AreOfOneBox (grid.parts starts.now parts.now) }
-        requires empty { AreEmptyRows count
-            (lists_in self.old.starts.items self.old.next.items self.old.numbers.items) }
-        requires room { AreOfSize self.old.starts.items self.old.next.items parts.now }
+        requires rows { AreRowsOf count starts.now parts.now }
+        requires ready { AreReady count self.old.starts.items self.old.next.items self.old.numbers.items parts.now }
         ensures starts { self.new.starts.items ≡ self.old.starts.items }
         ensures full { AreFull self.new.starts.items self.new.next.items }
         ensures turned { AreTurned (grid.parts starts.now parts.now)

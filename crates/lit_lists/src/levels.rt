@@ -1,3 +1,4 @@
+//! The level of light of every cell: `AreLevelsOf` of specs/Relaxing.antt.
 ghost use Rattle.std.specs.Prelude.{◌≡◌, [], length, IfOk, OnOk};
 ghost use Rattle.cave_base.specs.Box.{cell_count};
 ghost use Rattle.cave_model.specs.Passages.{ArePassages};

@@ -1,10 +1,12 @@
+//! The cells that light from one source reaches, and the light that leads from a cell back to its places:
+//! specs/Reached.antt.
 ghost use Rattle.std.specs.Prelude.{◌≡◌, ◌<◌, ◌≤◌, [], length, All, IfOk, IfSome, OnOk};
 ghost use Rattle.cave_base.specs.Box.{cell_count};
 ghost use Rattle.cave_model.specs.Cave.{IsSound};
 ghost use Rattle.cave_model.specs.Passages.{ArePassages};
 ghost use Rattle.lit_lists.specs.Lists.{AreLitCells};
 ghost use Rattle.lit_lists.specs.Reached.{AreReached, IsLightBack};
-ghost use Rattle.lit_lists.specs.Seeded.{AreTaken, AreUnlit, ArePutOut};
+ghost use Rattle.lit_lists.specs.Seeded.{AreTaken, AreUnlit, ArePutOut, IsScratch};
 
 use crate::relaxing::relax;
 use cave_base::Cell;
@@ -45,12 +47,11 @@ pub fn reach(
     light: u8,
 ) -> Result<(), AllocError>
     requires passages { IfSome passages (λ p. ArePassages world.now p.now) }
-    requires cells { length levels.old ≡ cell_count world.now.size }
-    requires unlit { AreUnlit levels.old }
+    requires scratch { IsScratch world.now levels.old }
     requires inside { source < cell_count world.now.size }
     requires low { light ≤ 15 }
     ensures reached { OnOk result (AreReached world.now source light reached.new.items) }
-    ensures unlit { OnOk result (AreUnlit levels.new) }
+    ensures scratch { OnOk result (IsScratch world.now levels.new) }
 {
     queue.clear();
     reached.clear();

@@ -1,3 +1,4 @@
+//! The dark cells of a world, its places, and who lights what: `AreListsOf` of specs/Lists.antt.
 ghost use Rattle.std.specs.Prelude.{◌≡◌, IfOk};
 ghost use Rattle.lit_lists.specs.Lists.{AreListsOf, is_marked, row_at};
 

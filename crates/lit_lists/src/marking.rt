@@ -1,3 +1,4 @@
+//! The dark cells and the places, as a flag for each cell: `AreMarksOf` of specs/Lists.antt.
 ghost use Rattle.std.specs.Prelude.{◌<◌, ◌↔◌, IsTrue, IfOk};
 ghost use Rattle.cave_base.specs.Box as grid;
 ghost use Rattle.cave_model.specs.Spawn.{IsDark};

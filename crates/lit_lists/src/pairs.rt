@@ -1,10 +1,11 @@
+//! Which places light which dark cells: `ArePairsOf` of specs/Lists.antt.
 ghost use Rattle.std.specs.Prelude.{◌≡◌, ◌<◌, ◌++◌, length, filter, All, IfOk, OnOk};
 ghost use Rattle.cave_base.specs.Box.{cell_count};
 ghost use Rattle.cave_model.specs.Passages.{ArePassages};
 ghost use Rattle.cave_model.specs.Spawn.{IsDark};
 ghost use Rattle.cave_model.specs.Torches.{IsPlace};
 ghost use Rattle.lit_lists.specs.Lists.{AreLights, AreMarksOf, ArePairsOf, ArePlacesOf, is_marked, row_at};
-ghost use Rattle.lit_lists.specs.Seeded.{AreUnlit};
+ghost use Rattle.lit_lists.specs.Seeded.{IsScratch};
 
 use crate::cell_lists::CellLists;
 use crate::lighting::{light_back, reach};
@@ -66,8 +67,7 @@ fn find_places(
     places: &[bool],
     levels: &mut [u8],
 ) -> Result<CellLists, AllocError>
-    requires cells { length levels.old ≡ cell_count world.now.size }
-    requires unlit { AreUnlit levels.old }
+    requires scratch { IsScratch world.now levels.old }
     requires passages { ArePassages world.now passages.now }
     requires dark { AreMarksOf (cell_count world.now.size) (IsDark world.now) dark.now }
     requires places { AreMarksOf (cell_count world.now.size) (IsPlace world.now) places.now }

@@ -1,9 +1,10 @@
+//! Light by rounds of relaxation: `IsSettled` of specs/Relaxing.antt.
 ghost use Rattle.std.specs.Prelude.{◌≡◌, ◌<◌, ◌≤◌, ◌-◌, length, slice_index, IfOk, IfSome, OnOk};
 ghost use Rattle.cave_base.specs.Box.{cell_count};
 ghost use Rattle.cave_model.specs.Cells.{AreNeighbours};
 ghost use Rattle.cave_model.specs.Passages.{ArePassages};
-ghost use Rattle.lit_lists.specs.Relaxing.{AreLow, AreWaysFrom, Grows, HasPassed, IsSeeded, IsPassed, IsSettled};
-ghost use Rattle.lit_lists.specs.Relaxing.{Queued, Relaxes};
+ghost use Rattle.lit_lists.specs.Relaxing.{AreWaysFrom, Grows, HasPassed, IsBegun, IsSeeded, IsPassed, IsSettled};
+ghost use Rattle.lit_lists.specs.Relaxing.{Relaxes};
 
 use cave_base::Cell;
 use cave_model::{Passages, World};
@@ -123,10 +124,8 @@ fn round(
 ) -> Result<usize, AllocError>
     requires passages { IfSome passages (λ p. ArePassages world.now p.now) }
     requires cells { length levels.old ≡ cell_count world.now.size }
-    requires queued { Queued world.now begin queue.old.items }
-    requires low { AreLow (slice_index levels.old) }
-    ensures queued { IfOk result (λ end. Queued world.now end queue.new.items) }
-    ensures low { IfOk result (λ _. AreLow (slice_index levels.new)) }
+    requires begun { IsBegun world.now (slice_index levels.old) queue.old.items begin }
+    ensures begun { IfOk result (IsBegun world.now (slice_index levels.new) queue.new.items) }
     ensures relaxes { IfOk result (λ end. Relaxes world.now (slice_index levels.old) queue.old.items begin
         (slice_index levels.new) queue.new.items end) }
 {

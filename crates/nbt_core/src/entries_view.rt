@@ -1,3 +1,4 @@
+//! The entries of a compound that are still to come, read where they lie: `entry_values` of specs/Borrowed.antt.
 use crate::reader::Reader;
 use crate::view::View;
 use std::marker::Model;

@@ -1,3 +1,4 @@
+//! Why bytes are no NBT root: `FaultOf` of specs/Breaking.antt; its words are in specs/Texts.antt.
 ghost use Rattle.std.specs.Prelude.{◌≡◌};
 ghost use Rattle.nbt_core.specs.declared.fault.NbtFault.TheVariants.{OutOfMemory};
 

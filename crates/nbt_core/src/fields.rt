@@ -1,3 +1,4 @@
+//! The fields of a compound under several names, found in one walk over its bytes: specs/Fields.antt.
 ghost use Rattle.std.specs.Prelude.{◌≡◌, ◌≢◌, ◌≤◌, length, IfErr, Some, bytes_eq, if◌then◌else◌};
 ghost use Rattle.nbt_core.specs.Fields.{four_named, two_fields, two_named};
 ghost use Rattle.nbt_core.specs.Reading.{Gives, mapped};

@@ -1,3 +1,4 @@
+//! The items of a list that are still to come, read where they lie: `item_values` of specs/Borrowed.antt.
 use crate::fields::TwoFields;
 use crate::kind::{Kind, LeafKind};
 use crate::reader::Reader;

@@ -1,3 +1,5 @@
+//! The root, read where it lies: `Root` of specs/Spelling.antt, and where there is none `FaultOf` of
+//! specs/Breaking.antt.
 ghost use Rattle.std.specs.Prelude.{◌≡◌, ◌≢◌, IfOk, IfErr, MatchResult};
 ghost use Rattle.nbt_core.specs.Breaking.{FaultOf};
 ghost use Rattle.nbt_core.specs.Reading.{GivesWhole};

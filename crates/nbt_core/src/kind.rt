@@ -1,3 +1,4 @@
+//! The kinds of payloads, with their ids and fixed sizes: specs/Ids.antt.
 ghost use Rattle.std.specs.Prelude.{◌≡◌, ◌↔◌, ◌≤◌, IfSome, IsTrue};
 ghost use Rattle.nbt_core.specs.Ids.{fixed_size, kind_named};
 

@@ -1,3 +1,4 @@
+//! Reading the payloads that hold no others into tags: specs/LeafReading.antt.
 ghost use Rattle.std.specs.Int.{w8, w32, w64};
 ghost use Rattle.std.specs.Prelude.{◌≡◌, ◌≤◌, ◌*◌, length, IfOk};
 ghost use Rattle.nbt_core.specs.LeafReading.{numbers_in, leaf_at};

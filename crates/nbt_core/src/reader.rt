@@ -1,3 +1,4 @@
+//! What is left of an input, and reading the pieces that payloads are made of: specs/Reading.antt.
 ghost use Rattle.std.specs.Int.{w8, w16, w64};
 ghost use Rattle.std.specs.Prelude.{◌≡◌, ◌≢◌, ◌≤◌, ◌<◌, ◌*◌, ◌-◌, length, IfOk, IfErr};
 ghost use Rattle.nbt_core.specs.LeafReading.{counted_at};

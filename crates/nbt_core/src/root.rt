@@ -1,3 +1,4 @@
+//! The root as a tag: `Root` of specs/Spelling.antt, and where there is none `FaultOf` of specs/Breaking.antt.
 ghost use Rattle.std.specs.Prelude.{◌≡◌, ◌≢◌, [], ◌∷◌, take, IfOk, IfErr};
 ghost use Rattle.cave_base.specs.Answer.{IsAnswer, IsRefusal};
 ghost use Rattle.nbt_core.specs.Breaking.{FaultOf};

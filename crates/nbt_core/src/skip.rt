@@ -1,3 +1,4 @@
+//! Passing over a payload, which is judged and not kept: `Skips` of specs/Skipping.antt.
 ghost use Rattle.std.specs.Prelude.{◌≡◌, ◌≢◌, ◌≤◌, ◌-◌, length, IfErr};
 ghost use Rattle.nbt_core.specs.LeafReading.{counted_at, leaf_at};
 ghost use Rattle.nbt_core.specs.Reading.{run_at, text_at};

@@ -1,3 +1,4 @@
+//! A value with memory of its own: `Nbt` of specs/Value.antt, by `nbt` of specs/View.antt.
 use cave_base::Sequence;
 use std::marker::Model;
 

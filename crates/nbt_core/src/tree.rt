@@ -1,3 +1,4 @@
+//! Reading a payload into a tag, with all the lists and compounds in it: specs/TreeReading.antt.
 ghost use Rattle.std.specs.Prelude.{◌≡◌, ◌≤◌, ◌+◌, ◌-◌, [], ◌∷◌, ◌++◌, length, IfOk, IfErr, OnOk};
 ghost use Rattle.nbt_core.specs.Reading.{Gives, GivesWhole};
 ghost use Rattle.nbt_core.specs.TreeReading.{items_at, members_at, list_at, value_at, named_at};

@@ -1,3 +1,4 @@
+//! A value, read where it lies: `payload_value` of specs/Borrowed.antt, and its parts by specs/Parts.antt.
 use crate::entries_view::EntriesView;
 use crate::fields::FourFields;
 use crate::items_view::ItemsView;
@@ -52,7 +53,7 @@ impl<'a> View<'a> {
         }
     }
 
-    /// The same value.
+    /// Another view of the value.
     pub(crate) fn again(&self) -> View<'a>
         ensures { result ≡ self.now }
     {

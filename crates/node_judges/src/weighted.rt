@@ -1,10 +1,9 @@
 //! Whether groups may stand in a weighted leaf.
 ghost use Rattle.std.specs.Prelude.{◌≡◌, ◌↔◌, ◌<◌, ◌≤◌, [], length, IsTrue, IfOk};
-ghost use Rattle.node_judges.specs.Settings.{left_in};
-ghost use Rattle.node_judges.specs.Tests.{AreAscending, AreInside, AreMatched};
+ghost use Rattle.node_judges.specs.Settings.{AreClear, IsOfBox, left_in};
+ghost use Rattle.node_judges.specs.Tests.{AreMatched};
 ghost use Rattle.node_judges.specs.Weighed as weighed;
 ghost use Rattle.proof_rules.specs.Groups.{all_cells_of};
-ghost use Rattle.weight_judge.specs.Rooms.{AreNoRooms};
 
 use crate::loads::keep_open;
 use crate::setting::Setting;
@@ -58,17 +57,12 @@ pub fn is_weighted(
     rooms: &mut Rooms,
     groups: &[Group],
 ) -> Result<bool, AllocError>
-    requires none { seen.old.items ≡ [] }
-    requires no_rooms { AreNoRooms (length seen.old.counts) rooms.old }
-    requires wide { length setting.now.region.now.counts ≡ length seen.old.counts }
-    requires inside { AreInside setting.now.lists.now (length seen.old.counts) }
-    requires ascending { AreAscending setting.now.lists.now }
-    requires matched { AreMatched setting.now.lists.now (length seen.old.counts) }
+    requires setting { IsOfBox setting.now (length seen.old.counts) }
+    requires clear { AreClear (length seen.old.counts) seen.old rooms.old }
     ensures decides { IfOk result (weighed.DecidesWeighted setting.now.lists.now (left_in setting.now)
         setting.now.chosen.now.items setting.now.barred.now.items groups.now) }
     ensures few { IfOk result (λ yes. IsTrue yes → length (all_cells_of groups.now) ≤ length seen.old.counts) }
-    ensures none { IfOk result (λ _. seen.new.items ≡ []) }
-    ensures no_rooms { IfOk result (λ _. AreNoRooms (length seen.old.counts) rooms.new) }
+    ensures clear { IfOk result (λ _. AreClear (length seen.old.counts) seen.new rooms.new) }
     ensures whole { length seen.new.counts ≡ length seen.old.counts }
 {
     if !have_capacities(groups) {

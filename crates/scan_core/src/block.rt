@@ -1,3 +1,5 @@
+//! The state of each cell, from the blocks of a structure: `AreCellsOf` of specs/Cells.antt, and where there is none
+//! `blocks_fault` of specs/Faults.antt.
 ghost use Rattle.std.specs.Prelude.{◌≡◌, All, None, codes, length, IsTrue};
 ghost use Rattle.cave_base.specs.Box as grid;
 ghost use Rattle.nbt_core.specs.Fields.{two_fields};

@@ -1,3 +1,4 @@
+//! Why bytes are no structure: `IsFaultOf` of specs/Faults.antt; its words are in specs/Texts.antt.
 ghost use Rattle.std.specs.Prelude.{◌≡◌};
 ghost use Rattle.scan_core.specs.Mapping.{of_nbt};
 ghost use Rattle.scan_core.specs.declared.fault.ScanFault.TheVariants.{OutOfMemory};

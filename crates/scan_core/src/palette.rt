@@ -1,3 +1,5 @@
+//! The block states of a structure: `IsPaletteOf` of specs/Told.antt, and where there are none `palette_fault` of
+//! specs/Faults.antt.
 ghost use Rattle.std.specs.Prelude.{◌≡◌, codes};
 ghost use Rattle.nbt_core.specs.Fields.{two_fields};
 ghost use Rattle.nbt_core.specs.Value.{Nbt};

@@ -1,3 +1,4 @@
+//! The properties of a block state: `props_of` of specs/Properties.antt.
 ghost use Rattle.std.specs.Prelude.{◌≡◌, reverse};
 ghost use Rattle.cave_base.specs.Answer.{IsAnswer};
 ghost use Rattle.nbt_core.specs.Value.{members_of};
@@ -79,7 +80,7 @@ fn push_text(
     Ok(())
 }
 
-/// The same bytes.
+/// A copy of the bytes.
 pub fn copy(alloc: Global, text: &[u8]) -> Result<Sequence<u8>, ScanFault>
     ensures { IsAnswer ScanFault.OutOfMemory result (λ bytes. bytes ≡ text.now) }
 {

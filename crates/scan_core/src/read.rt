@@ -1,3 +1,4 @@
+//! A structure from its bytes: `Scans` of specs/Scan.antt, and where there is none `IsFaultOf` of specs/Faults.antt.
 ghost use Rattle.std.specs.Prelude.{◌≡◌, ◌≢◌, IfOk, IfErr};
 ghost use Rattle.cave_base.specs.Answer.{IsAnswer, IsRefusal};
 ghost use Rattle.nbt_core.specs.Spelling.{Root};

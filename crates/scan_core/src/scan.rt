@@ -1,3 +1,4 @@
+//! What a structure file tells: `Structure` of specs/Scan.antt, of which `IsWholeScan` always holds.
 use crate::state::BlockState;
 use std::marker::Model;
 

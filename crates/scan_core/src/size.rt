@@ -1,3 +1,5 @@
+//! The sides of a structure's box: `IsSizeOf` of specs/Told.antt, and where there are none `size_fault` of
+//! specs/Faults.antt.
 ghost use Rattle.cave_base.specs.Box as grid;
 ghost use Rattle.scan_core.specs.Answer.{TellsOrFaults};
 ghost use Rattle.scan_core.specs.Faults.{size_fault};

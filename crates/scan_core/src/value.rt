@@ -1,3 +1,4 @@
+//! What single values tell, each by its shape: specs/Told.antt.
 ghost use Rattle.std.specs.Option.{option_map};
 ghost use Rattle.std.specs.Prelude.{◌≡◌};
 ghost use Rattle.cave_base.specs.Box.{point};

@@ -17,12 +17,12 @@ words : (c : After-as_mut_slice-covered) → AreEmpty (length c.args.places.now)
 words c = subst (λ (l : List ℕ). AreEmpty (length c.args.places.now) (length l) (length c.args.cells.now)
     c.as_mut_slice-words.result.now) (sym c.as_mut_slice-covered.ensures.value)
     (subst (AreEmpty (length c.args.places.now) (length c.args.rows.now.covered.items) (length c.args.cells.now))
-    (sym c.as_mut_slice-words.ensures.value) c.requires.words)
+    (sym c.as_mut_slice-words.ensures.value) c.requires.blank.each)
 
 covered : (c : After-as_mut_slice-covered) → AreEmpty 1 (length c.as_mut_slice-covered.result.now)
     (length c.args.cells.now) c.as_mut_slice-covered.result.now
 covered c = subst (λ (l : List ℕ). AreEmpty 1 (length l) (length c.args.cells.now) l)
-    (sym c.as_mut_slice-covered.ensures.value) c.requires.covered
+    (sym c.as_mut_slice-covered.ensures.value) c.requires.blank.all
 
 pub loop-block-init : goal.loop-block-init
 loop-block-init c = (let before = (goal.at.loop-block-init c).After-as_mut_slice-covered in record {
@@ -86,13 +86,14 @@ loop-block-preserved c = (let after = (goal.at.loop-block-preserved c).After-sto
   ready = subst (λ (n : ℕ). IsReady n c.clear.new.self) c.in_ok-count.ensures.left.wide.numbers c.clear.ensures;
 })
 
-pub spread-requires-clause-inside : goal.spread-requires-clause-inside
-spread-requires-clause-inside c = block_inside c.args.cells.now c.block_of-sources.result.now c.loop-block.block
-    (cell_count c.args.world.now.size) c.block_of-sources.ensures c.requires.cells.inside
-
-pub spread-requires-clause-once : goal.spread-requires-clause-once
-spread-requires-clause-once c = block_once c.args.cells.now c.block_of-sources.result.now c.loop-block.block
-    c.block_of-sources.ensures c.requires.cells.ascending
+pub spread-requires-clause-sources : goal.spread-requires-clause-sources
+spread-requires-clause-sources c = record {
+  few = c.block_of-sources.ensures.few;
+  inside = block_inside c.args.cells.now c.block_of-sources.result.now c.loop-block.block
+      (cell_count c.args.world.now.size) c.block_of-sources.ensures c.requires.cells.inside;
+  once = block_once c.args.cells.now c.block_of-sources.result.now c.loop-block.block c.block_of-sources.ensures
+      c.requires.cells.ascending;
+}
 
 pub returns-clause-filled : goal.returns-clause-filled
 returns-clause-filled c =

@@ -19,12 +19,18 @@ pub overflow_mul-places : goal.overflow_mul-places
 overflow_mul-places c = (let small = few_words (length c.args.places.now) c.div_ceil-width.result (few_places c)
     (narrow c) in omega arith)
 
-pub fill-requires-clause-words : goal.fill-requires-clause-words
-fill-requires-clause-words c =
-    let before = (goal.at.fill-requires-clause-words c).After-div_ceil-width in
+pub fill-requires-clause-blank : goal.fill-requires-clause-blank
+fill-requires-clause-blank c =
+    let before = (goal.at.fill-requires-clause-blank c).After-div_ceil-width in
     let small = few_words (length c.args.places.now) c.div_ceil-width.result (few_places before) (narrow before) in
-    empty_rows (length c.args.places.now) (length c.in_ok-covered.covered.items) (length c.args.cells.now)
-    c.in_ok-words.words.items
-    (c.in_ok-words.ensures.whole ∙ ap (λ (n : ℕ). length c.args.places.now * n) (sym c.in_ok-covered.ensures.whole))
-    c.in_ok-words.ensures.none (omega (arith, c.in_ok-covered.ensures.whole, c.div_ceil-width.ensures))
-    (omega (arith, c.in_ok-words.ensures.whole, small))
+    let width = c.in_ok-covered.ensures.whole in
+    record {
+      each = empty_rows (length c.args.places.now) (length c.in_ok-covered.covered.items) (length c.args.cells.now)
+          c.in_ok-words.words.items
+          (c.in_ok-words.ensures.whole ∙ ap (λ (n : ℕ). length c.args.places.now * n) (sym width))
+          c.in_ok-words.ensures.none (omega (arith, width, c.div_ceil-width.ensures))
+          (omega (arith, c.in_ok-words.ensures.whole, small));
+      all = empty_rows 1 (length c.in_ok-covered.covered.items) (length c.args.cells.now) c.in_ok-covered.covered.items
+          (omega arith) c.in_ok-covered.ensures.none (omega (arith, width, c.div_ceil-width.ensures))
+          (omega (arith, width, narrow before));
+    }

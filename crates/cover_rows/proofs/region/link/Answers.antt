@@ -6,19 +6,19 @@ use Rattle.cover_rows.proofs.region.link.Goals as goal
 
 pub bounds-near-number : goal.bounds-near-number
 bounds-near-number c =
-    let few = region_few c.args.local.now c.args.region.now.items c.requires.region in
-    omega (arith, few, c.requires.number, c.requires.near, c.loop-face.auto.near)
+    let few = region_few c.args.local.now c.args.region.now.items c.requires.region.found in
+    omega (arith, few, c.requires.number, c.requires.sides.room, c.loop-face.auto.near)
 
 pub loop-face-preserved : goal.loop-face-preserved
 loop-face-preserved c =
-    let few = region_few c.args.local.now c.args.region.now.items c.requires.region in
+    let few = region_few c.args.local.now c.args.region.now.items c.requires.region.found in
     let cell : c.index-cell.result.now ≡ slice_index c.args.region.now.items c.args.number = c.index-cell.ensures
     ∙ get_or_default_zero c.args.region.now.items c.args.number c.index-cell.result.now c.requires.number in
     record {
       region = c.in_ok-near.ensures.region;
       linking = linking_next c.args.sides.now c.args.region.now.items c.loop-face.region.items
           c.number_of.new.region.items c.loop-face.near c.args.number c.loop-face.face c.in_ok-near.field-0
-          c.requires.number (omega (arith, few, c.requires.number, c.requires.near, c.loop-face.auto.near))
+          c.requires.number (omega (arith, few, c.requires.number, c.requires.sides.room, c.loop-face.auto.near))
           (omega arith) c.in_ok-near.ensures.kept
           (subst (λ (n : ℕ). IsNumberOf c.number_of.new.region.items
           (slice_index c.args.sides.now (6 * n + c.loop-face.face)) c.in_ok-near.field-0) cell

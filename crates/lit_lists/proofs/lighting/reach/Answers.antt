@@ -12,11 +12,17 @@ take_lit-requires-clause-inside c = λ k d h.
     (element_of c.as_slice.result.now k h) in
     let lt = s.queued.inside (slice_index c.as_slice.result.now k) has in
     let same = get_or_default_zero c.as_slice.result.now k d h in
-    omega (arith, c.relax.auto.levels, length-set c.args.levels.now c.args.source c.args.light, c.requires.cells)
+    omega (
+      arith,
+      c.relax.auto.levels,
+      length-set c.args.levels.now c.args.source c.args.light,
+      c.requires.scratch.whole,
+    )
 
 pub returns-clause-reached : goal.returns-clause-reached
 returns-clause-reached c =
     let taken = subst (λ (l : List ℕ). AreTaken c.relax.new.levels l c.take_lit.new.lit.items) c.as_slice.ensures.value
     c.in_ok-take_lit.ensures.taken in
     reached c.args.world.now c.args.levels.now c.relax.new.levels c.relax.new.queue.items c.take_lit.new.lit.items
-    c.args.source c.args.light c.requires.unlit c.requires.cells c.requires.inside c.in_ok-relax.ensures.settled taken
+    c.args.source c.args.light c.requires.scratch.unlit c.requires.scratch.whole c.requires.inside
+    c.in_ok-relax.ensures.settled taken

@@ -17,8 +17,7 @@ use Rattle.lit_lists.proofs.pairs.find_places.Goals as goal
 
 pub loop-cell-init : goal.loop-cell-init
 loop-cell-init c = record {
-  cells = c.requires.cells;
-  unlit = c.requires.unlit;
+  scratch = c.requires.scratch;
   placed = placed_none c.args.world.now c.push.new.self.items c.new-found.result.items
       (c.in_ok-push.ensures.items ∙ ap (λ (l : List ℕ). l ++ 0 ∷ []) c.in_ok-starts.ensures.items)
       c.new-found.ensures.items;
@@ -42,8 +41,7 @@ loop-cell-preserved c =
     = c.in_ok-push-2.ensures.items ∙ ap (λ (n : ℕ). c.loop-cell.starts.items ++ n ∷ []) long in
     elim c.if-dark-cell.branch [
       | then-dark-cell+in_ok-reach+in_ok-list_marked w ↦ rw w.levels-is (record {
-        cells = w.reach.auto.levels ∙ c.loop-cell.invariant.cells;
-        unlit = w.in_ok-reach.ensures.unlit;
+        scratch = w.in_ok-reach.ensures.scratch;
         placed = placed_more c.args.world.now c.loop-cell.cell c.loop-cell.starts.items c.loop-cell.found.items
             (filter (is_marked c.args.places.now) w.deref.result.now) c.push-in-loop-cell.new.self.items
             c.if-dark-cell.found.items c.loop-cell.invariant.placed
@@ -55,8 +53,7 @@ loop-cell-preserved c =
             (ap (λ (v : Vec ℕ). v.items) w.found-is ∙ w.in_ok-list_marked.ensures) grown;
       })
       | else-dark-cell w ↦ rw w.levels-is (record {
-        cells = c.loop-cell.invariant.cells;
-        unlit = c.loop-cell.invariant.unlit;
+        scratch = c.loop-cell.invariant.scratch;
         placed = placed_more c.args.world.now c.loop-cell.cell c.loop-cell.starts.items c.loop-cell.found.items
             [] c.push-in-loop-cell.new.self.items c.if-dark-cell.found.items c.loop-cell.invariant.placed
             (row_light c.args.world.now c.loop-cell.cell

@@ -15,7 +15,8 @@ loop-preserved c = record {
   rounds = rounds_next c.args.world.now (slice_index c.args.levels.now) (slice_index c.loop.levels)
       (slice_index c.round.new.levels) c.loop.queue.items c.round.new.queue.items c.loop.begin c.in_ok-begin.begin
       (15 - c.loop.counter) (15 - (c.loop.counter + 1))
-      c.loop.invariant.rounds c.in_ok-begin.ensures.relaxes c.in_ok-begin.ensures.queued c.in_ok-begin.ensures.low
+      c.loop.invariant.rounds c.in_ok-begin.ensures.relaxes c.in_ok-begin.ensures.begun.queued
+      c.in_ok-begin.ensures.begun.low
       (omega arith);
 }
 

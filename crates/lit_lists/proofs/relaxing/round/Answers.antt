@@ -30,7 +30,7 @@ loop-index-preserved c =
 pub returns-clause-relaxes : goal.returns-clause-relaxes
 returns-clause-relaxes c =
     let most : c.loop-index.index ≤ c.len-end.result =
-    omega (arith, c.loop-index.auto.index-end, c.requires.queued.within, c.len-end.ensures) in
+    omega (arith, c.loop-index.auto.index-end, c.requires.begun.queued.within, c.len-end.ensures) in
     going_end c.args.world.now (slice_index c.args.levels.now)
     (slice_index c.loop-index.levels) c.args.queue.now.items c.loop-index.queue.items c.args.begin c.len-end.result
     c.loop-index.index c.loop-index.invariant.going c.loop-index-test.false (omega arith)

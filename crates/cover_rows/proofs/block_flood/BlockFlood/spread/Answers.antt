@@ -29,8 +29,18 @@ grow-requires-clause-sides c =
       c.begin.auto.local,
       c.loop-level.auto.local,
     ) in
-    subst (λ (n : ℕ). AreInside n c.args.sides.now) boxed
-    (sides_within c.args.world.now c.args.sides.now c.requires.sides)
+    record {
+      few = omega (arith, boxed, c.requires.ready.left.wide.small);
+      inside = subst (λ (n : ℕ). AreInside n c.args.sides.now) boxed
+          (sides_within c.args.world.now c.args.sides.now c.requires.sides);
+      room = omega (
+        arith,
+        boxed,
+        c.requires.ready.left.wide.sides,
+        ap length c.as_mut_slice-near.ensures.value,
+        c.loop-level.auto.near,
+      );
+    }
 
 pub grow-requires-2-clause-sides : goal.grow-requires-2-clause-sides
 grow-requires-2-clause-sides c =
@@ -42,8 +52,18 @@ grow-requires-2-clause-sides c =
       c.begin.auto.local,
       c.loop-level.auto.local,
     ) in
-    subst (λ (n : ℕ). AreInside n c.args.sides.now) boxed
-    (sides_within c.args.world.now c.args.sides.now c.requires.sides)
+    record {
+      few = omega (arith, boxed, c.requires.ready.left.wide.small);
+      inside = subst (λ (n : ℕ). AreInside n c.args.sides.now) boxed
+          (sides_within c.args.world.now c.args.sides.now c.requires.sides);
+      room = omega (
+        arith,
+        boxed,
+        c.requires.ready.left.wide.sides,
+        ap length c.as_mut_slice-near.ensures.value,
+        c.loop-level.auto.near,
+      );
+    }
 
 wide : (c : After-as_slice) → AreWide (cell_count c.args.world.now.size) c.grow.new.local c.grow.new.near
     c.loop-level.levels
@@ -78,22 +98,22 @@ count c = omega (arith, c.len-count.ensures)
 sized : (c : After-as_slice) → AreSized (length c.grow.new.region.items) c.grow.new.near c.loop-level.levels
     (length c.loop-level.region.items)
 sized c = region_sized c.args.sides.now c.grow.new.local c.grow.new.region.items c.grow.new.near c.loop-level.levels
-    (length c.loop-level.region.items) (cell_count c.args.world.now.size) c.in_ok-grow.ensures.region (wide c)
-    c.in_ok-grow.ensures.linked c.in_ok-grow.ensures.kept.longer
+    (length c.loop-level.region.items) (cell_count c.args.world.now.size) c.in_ok-grow.ensures.region.found (wide c)
+    c.in_ok-grow.ensures.region.linked c.in_ok-grow.ensures.kept.longer
 
 pub settle-requires-clause-room : goal.settle-requires-clause-room
 settle-requires-clause-room c =
     let after = (goal.at.settle-requires-clause-room c).After-as_slice in
-    let few = region_few c.grow.new.local c.grow.new.region.items c.in_ok-grow.ensures.region in
+    let few = region_few c.grow.new.local c.grow.new.region.items c.in_ok-grow.ensures.region.found in
     let boxed = (wide after).numbers in
     subst (λ (n : ℕ). HasRoom c.args.world.now c.as_slice.result.now c.grow.new.near c.loop-level.levels
     (length c.args.sources.now) n) (count after)
     (subst (λ (l : List ℕ). HasRoom c.args.world.now l c.grow.new.near c.loop-level.levels
     (length c.args.sources.now) (length c.loop-level.region.items)) (sym c.as_slice.ensures.value) (record {
-      inside = λ k d h. omega (arith, c.in_ok-grow.ensures.region.inside k d h, boxed);
+      inside = λ k d h. omega (arith, c.in_ok-grow.ensures.region.found.inside k d h, boxed);
       sized = sized after;
       small = omega (arith, few, boxed, c.requires.ready.left.wide.small);
-      few = c.requires.few;
+      few = c.requires.sources.few;
     }))
 
 pub loop-level-preserved : goal.loop-level-preserved
@@ -110,22 +130,22 @@ loop-level-preserved c =
     let linked = grown_linked c.args.world.now c.args.sources.now c.args.sides.now c.loop-level.local
     c.loop-level.region.items c.loop-level.near c.loop-level.levels c.loop-level.from c.loop-level.level
     c.loop-level.invariant c.requires.sides c.grow.new.local c.grow.new.region.items c.grow.new.near
-    c.in_ok-grow.ensures.region boxed c.in_ok-grow.ensures.kept c.in_ok-grow.ensures.linked in
+    c.in_ok-grow.ensures.region.found boxed c.in_ok-grow.ensures.kept c.in_ok-grow.ensures.region.linked in
     let complete = grown_complete c.args.world.now c.args.sources.now c.args.sides.now c.loop-level.local
     c.loop-level.region.items c.loop-level.near c.loop-level.levels c.loop-level.from c.loop-level.level
     c.loop-level.invariant c.requires.sides c.grow.new.local c.grow.new.region.items c.grow.new.near
-    c.in_ok-grow.ensures.region boxed c.in_ok-grow.ensures.kept c.in_ok-grow.ensures.linked in
+    c.in_ok-grow.ensures.region.found boxed c.in_ok-grow.ensures.kept c.in_ok-grow.ensures.region.linked in
     let levels = grown_levels c.args.world.now c.args.sources.now c.args.sides.now c.loop-level.local
     c.loop-level.region.items c.loop-level.near c.loop-level.levels c.loop-level.from c.loop-level.level
     c.loop-level.invariant c.requires.sides c.grow.new.local c.grow.new.region.items c.grow.new.near
-    c.in_ok-grow.ensures.region boxed c.in_ok-grow.ensures.kept c.in_ok-grow.ensures.linked in
+    c.in_ok-grow.ensures.region.found boxed c.in_ok-grow.ensures.kept c.in_ok-grow.ensures.region.linked in
     subst (λ (n : ℕ). Spreading c.args.world.now c.args.sources.now c.args.sides.now c.grow.new.local
     c.grow.new.region.items c.grow.new.near c.settle.new.levels n (c.loop-level.level - 1)) (count after)
     (spreading_next c.args.world.now c.args.sources.now c.args.sides.now c.loop-level.local
     c.loop-level.region.items c.loop-level.near c.loop-level.levels c.loop-level.from c.loop-level.level
     c.loop-level.invariant c.requires.sides c.grow.new.local c.grow.new.region.items c.grow.new.near
-    c.in_ok-grow.ensures.region boxed c.in_ok-grow.ensures.kept c.in_ok-grow.ensures.linked c.settle.new.levels
-    (omega arith) (settles.settled c.args.sources.now refl linked complete
+    c.in_ok-grow.ensures.region.found boxed c.in_ok-grow.ensures.kept c.in_ok-grow.ensures.region.linked
+    c.settle.new.levels (omega arith) (settles.settled c.args.sources.now refl linked complete
     (subst (λ (n : ℕ). AreLevels c.args.world.now c.args.sources.now c.grow.new.region.items n c.loop-level.levels)
     up levels)))
 
@@ -165,7 +185,7 @@ returns c =
     (spreading_all c.args.world.now c.args.sources.now c.args.sides.now c.loop-level.local
     c.loop-level.region.items c.loop-level.near c.loop-level.levels c.loop-level.from c.loop-level.level
     c.loop-level.invariant c.requires.sides c.grow-2.new.local c.grow-2.new.region.items c.grow-2.new.near
-    c.in_ok-grow-2.ensures.region boxed c.in_ok-grow-2.ensures.kept c.in_ok-grow-2.ensures.linked
+    c.in_ok-grow-2.ensures.region.found boxed c.in_ok-grow-2.ensures.kept c.in_ok-grow-2.ensures.region.linked
     (cell_count c.args.world.now.size) (record {
       small = c.requires.ready.left.wide.small;
       numbers = boxed;

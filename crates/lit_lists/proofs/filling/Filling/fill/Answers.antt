@@ -13,26 +13,28 @@ loop-number-init c =
     let s = c.args.self.now in
     record {
       starts = refl;
-      size = size_first c.args.starts.now c.args.parts.now s.starts.items s.next.items c.requires.whole c.requires.room;
+      size = size_first c.args.starts.now c.args.parts.now s.starts.items s.next.items c.requires.rows.whole
+          c.requires.ready.room;
       below = below_none (HasIn (parts c.args.starts.now c.args.parts.now)) c.args.count
-          (lists_in s.starts.items s.next.items s.numbers.items) c.requires.empty;
+          (lists_in s.starts.items s.next.items s.numbers.items) c.requires.ready.empty;
     }
 
 pub push_all-requires : goal.push_all-requires
 push_all-requires c =
     let starts = c.args.starts.now in
     let now = c.loop-number.self in
-    let there : c.loop-number.number + 1 < length starts = omega (arith, c.requires.lists, c.loop-number-test.true) in
+    let there : c.loop-number.number + 1 < length starts =
+    omega (arith, c.requires.rows.lists, c.loop-number-test.true) in
     let long : length now.starts.items ≡ length c.args.self.now.starts.items = ap length c.loop-number.invariant.starts
     in
     record {
-      there = row_inside starts c.args.parts.now c.requires.whole c.loop-number.number there now.starts.items
-          c.requires.boxed (omega (arith, long, c.requires.lists, c.requires.as_many));
+      there = row_inside starts c.args.parts.now c.requires.rows.whole c.loop-number.number there now.starts.items
+          c.requires.rows.boxed (omega (arith, long, c.requires.rows.lists, c.requires.ready.lists));
       room = subst (λ (l : List ℕ). HaveRoom l now.next.items (part starts c.args.parts.now c.loop-number.number))
           (sym c.loop-number.invariant.starts)
-          (room_row starts c.args.parts.now c.requires.whole c.loop-number.number there c.args.self.now.starts.items
-          now.next.items c.loop-number.invariant.size);
-      once = row_once starts c.args.parts.now c.requires.whole c.loop-number.number there c.requires.boxed;
+          (room_row starts c.args.parts.now c.requires.rows.whole c.loop-number.number there
+          c.args.self.now.starts.items now.next.items c.loop-number.invariant.size);
+      once = row_once starts c.args.parts.now c.requires.rows.whole c.loop-number.number there c.requires.rows.boxed;
     }
 
 pub loop-number-preserved : goal.loop-number-preserved
@@ -42,12 +44,13 @@ loop-number-preserved c =
     let now = c.loop-number.self in
     let new = c.push_all.new.self in
     let row = part starts numbers c.loop-number.number in
-    let there : c.loop-number.number + 1 < length starts = omega (arith, c.requires.lists, c.loop-number-test.true) in
+    let there : c.loop-number.number + 1 < length starts =
+    omega (arith, c.requires.rows.lists, c.loop-number-test.true) in
     let long : length now.starts.items ≡ length c.args.self.now.starts.items = ap length c.loop-number.invariant.starts
     in
     record {
       starts = c.push_all.ensures.starts ∙ c.loop-number.invariant.starts;
-      size = size_row starts numbers c.requires.whole c.loop-number.number there c.args.self.now.starts.items
+      size = size_row starts numbers c.requires.rows.whole c.loop-number.number there c.args.self.now.starts.items
           now.next.items new.next.items (now.filling.whole ∙ long) c.loop-number.invariant.size c.push_all.ensures.next;
       below = below_more (HasIn (parts starts numbers)) c.loop-number.number
           (lists_in now.starts.items now.next.items now.numbers.items) c.loop-number.invariant.below (Contains row)
@@ -64,11 +67,12 @@ pub returns-clause-full : goal.returns-clause-full
 returns-clause-full c = subst (λ (l : List ℕ). AreFull l c.loop-number.self.next.items)
     (sym c.loop-number.invariant.starts)
     (size_last c.args.starts.now c.args.parts.now c.args.self.now.starts.items c.loop-number.self.next.items
-    c.loop-number.number (omega (arith, c.requires.lists)) c.requires.whole c.loop-number.invariant.size)
+    c.loop-number.number (omega (arith, c.requires.rows.lists)) c.requires.rows.whole c.loop-number.invariant.size)
 
 pub returns-clause-turned : goal.returns-clause-turned
 returns-clause-turned c =
     let now = c.loop-number.self in
     turned_all (parts c.args.starts.now c.args.parts.now)
     (lists_in now.starts.items now.next.items now.numbers.items) c.loop-number.number
-    (omega (arith, length-parts c.args.starts.now c.args.parts.now, c.requires.lists)) c.loop-number.invariant.below
+    (omega (arith, length-parts c.args.starts.now c.args.parts.now, c.requires.rows.lists))
+    c.loop-number.invariant.below
