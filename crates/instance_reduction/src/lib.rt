@@ -4,6 +4,7 @@
 #![tactic(auto)]
 
 mod cyclic_core;
+mod kernel_places;
 mod node_places;
 mod node_rows;
 mod numbered_places;
@@ -14,6 +15,7 @@ mod rows_left;
 mod stand_ins;
 
 pub use cyclic_core::CyclicCore;
+pub use kernel_places::KernelPlaces;
 pub use node_places::NodePlaces;
 pub use numbered_places::NumberedPlaces;
 pub use reduced_instance::{InRegion, ReducedInstance, undominated_places};

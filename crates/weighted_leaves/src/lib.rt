@@ -1,8 +1,9 @@
 //! Weighted leaves: weights of cells by the linear relaxation of what a node leaves of the reduced instance, part by
-//! part, rounded to whole numbers; and where they fall short, a cell to branch on. All of it proposes, and nothing
+//! part, rounded to whole numbers; and where they fall short, a cell to branch on or a place to pick. All of it proposes, and nothing
 //! is promised of it but that it ends and stays in bounds: judges accept or refuse.
 #![tactic(auto)]
 
+mod branch_on;
 mod branching;
 mod effort;
 mod grouping;
@@ -11,6 +12,10 @@ mod kid_bounds;
 mod kid_relaxation;
 mod leaf;
 mod parts;
+mod picking;
 mod solving;
+mod sought;
 
+pub use branch_on::BranchOn;
 pub use leaf::WeightedLeaves;
+pub use sought::Sought;
