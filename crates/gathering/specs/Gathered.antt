@@ -5,7 +5,7 @@ use Rattle.instance_regions.specs.Cover.{Covering}
 use Rattle.proof_rules.specs.Tree.{Tree}
 use Rattle.proof_tree.specs.Piece.{Fathomed}
 use Rattle.search_traits.specs.Planned.{IsStopped}
-use Rattle.search_traits.specs.Turns.{AreSpent}
+use Rattle.search_traits.specs.Turns.{AreSpent, IsWithin}
 use Rattle.event_core.specs.State.{State, Begins, IsDone}
 use Rattle.event_core.specs.Plays.{Steps, Plays}
 use Rattle.event_core.specs.Assembled.{IsAssembled}
@@ -62,6 +62,11 @@ pub record IsGathered (region : Instance) (first : List ℕ) (root : ℕ) (works
 abbrev pub EachTook : Option ℕ → ℕ → ℕ → ℕ → Type 0
 EachTook None pieces old new = old ≤ new
 EachTook (Some limit) pieces old new = old + pieces ≤ new
+
+-- no more turns than the limit were granted, and where there is one, at least one for each piece that was closed
+pub record AreTurnsFor (limit : Option ℕ) (pieces granted : ℕ) : Type 0 where
+  pub within : IsWithin limit granted
+  pub each : EachTook limit pieces 0 granted
 
 -- all turns that were given were granted; and a thread is never asked for
 abbrev pub StopsGathering : Instance → Option ℕ → PoolFault → Type 0

@@ -1,5 +1,6 @@
 -- What gleaning keeps.
 use Rattle.std.specs.Prelude.{◌≡◌, ℕ, ◌≤◌, Bool, true, false, List, length}
+use Rattle.set_cover.specs.Instance.{Instance}
 use Rattle.instance_regions.specs.Cover.{Covering}
 use Rattle.proof_tree.specs.Piece.{Fathomed}
 use Rattle.event_core.specs.State.{State, HasPart, waiting, held}
@@ -15,6 +16,12 @@ NoneHeld state = (name chosen barred : List ℕ) (worker : ℕ) → ¬ HasPart s
 -- no piece of this name waits
 abbrev pub IsNoneWaiting : State → List ℕ → Type 0
 IsNoneWaiting state name = (chosen barred : List ℕ) → ¬ HasPart state name chosen barred waiting
+
+-- the caller's thread may glean: it is known, no worker holds a piece, and its desk is of this region
+pub record MayGlean (state : State) (caller : ℕ) (region : Instance) : Type 0 where
+  pub known : IsWorker state caller
+  pub none_held : NoneHeld state
+  pub of_it : region ≡ state.region
 
 -- the piece of this name is closed, or none of this name waits and all stays
 abbrev pub GleansWhere : State → ℕ → List ℕ → State → Bool → Type 0

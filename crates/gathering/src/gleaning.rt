@@ -5,16 +5,15 @@ ghost use Rattle.event_core.specs.Events.{IsWorker};
 ghost use Rattle.event_core.specs.Kept.{state_of};
 ghost use Rattle.event_core.specs.State.{IsDone};
 ghost use Rattle.gathering.specs.Gathered.{EachTook, Gleans};
-ghost use Rattle.gathering.specs.Gleaning.{Finishes, GleansWhere, MayFinish, NoneHeld};
-ghost use Rattle.gathering.specs.declared.halt.Halt.TheVariants.{TurnsSpent};
+ghost use Rattle.gathering.specs.Gleaning.{Finishes, GleansWhere, MayFinish, MayGlean};
+ghost use Rattle.search_traits.specs.declared.halt.Halt.TheVariants.{TurnsSpent};
 ghost use Rattle.search_traits.specs.Alone.{state_of as desk_of};
 ghost use Rattle.search_traits.specs.Desks.{Continues, IsSpent, Works};
 
-use crate::halt::Halt;
 use event_core::{Core, Event};
 use instance_regions::Cover;
 use proof_tree::{Closed, Name, floor_of};
-use search_traits::{AloneDesk, CloseFault, Closer};
+use search_traits::{AloneDesk, CloseFault, Closer, Halt};
 use std::alloc::{AllocError, Global};
 
 /// The caller's thread closes each piece that waits: their names.
@@ -25,9 +24,7 @@ pub(crate) fn glean<C: Closer>(
     caller: u32,
     desk: &mut AloneDesk,
 ) -> Result<Vec<Name>, Halt>
-    requires known { IsWorker (state_of core.old) caller }
-    requires none_held { NoneHeld (state_of core.old) }
-    requires of_it { desk.old.cover.region ≡ core.old.region }
+    requires { MayGlean (state_of core.old) caller desk.old.cover.region }
     ensures gleans { IfOk result (λ names.
         Gleans (state_of core.old) caller names.items (state_of core.new)) }
     ensures done { IfOk result (λ _. IsDone (state_of core.new)) }

@@ -4,7 +4,6 @@
 
 mod fault;
 mod gleaning;
-mod halt;
 pub mod laws;
 mod merge;
 mod opening;

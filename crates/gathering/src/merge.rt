@@ -2,14 +2,13 @@
 //! turns don't do, it says what is known by then.
 ghost use Rattle.std.specs.Arc.{arc_value};
 ghost use Rattle.std.specs.Prelude.{◌≡◌, ◌<◌, ◌+◌, ◌^◌, length, Contains, IfErr, IfOk, IfSome};
-ghost use Rattle.gathering.specs.Gathered.{EachTook, IsGathered, StopsGathering};
+ghost use Rattle.gathering.specs.Gathered.{AreTurnsFor, IsGathered, StopsGathering};
 ghost use Rattle.proof_tree.specs.Shape.{tree_of};
 ghost use Rattle.search_traits.specs.Planned.{IsBest};
-ghost use Rattle.search_traits.specs.Turns.{AreSpent, IsWithin};
+ghost use Rattle.search_traits.specs.Turns.{AreSpent};
 
 use crate::fault::PoolFault;
 use crate::gleaning::glean;
-use crate::halt::Halt;
 use crate::opening::try_before_closes;
 use crate::trying::close_all;
 use cave_base::Cell;
@@ -18,7 +17,7 @@ use instance_regions::{Cover, Region};
 use pack_bound::scattered;
 use proof_tree::{Name, Piece, Proof};
 use schedule_law::Work;
-use search_traits::{AloneDesk, Closer};
+use search_traits::{AloneDesk, Closer, Halt};
 use std::alloc::{AllocError, Global};
 use std::sync::Arc;
 
@@ -55,8 +54,7 @@ pub fn gather<C: Closer>(
           gleaned = g.gleaned.items;
         })) }
     ensures best { IfOk result (λ g. IsBest (arc_value region.now) g.cover (tree_of g.proof)) }
-    ensures granted { IfOk result (λ g. IsWithin turns g.turns) }
-    ensures worked { IfOk result (λ g. EachTook turns (length g.gleaned.items) 0 g.turns) }
+    ensures granted { IfOk result (λ g. AreTurnsFor turns (length g.gleaned.items) g.turns) }
     ensures stopped { IfErr result (StopsGathering (arc_value region.now) turns) }
 {
     let Some(caller) = count_of(&works) else {

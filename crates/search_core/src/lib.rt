@@ -8,7 +8,6 @@ mod branch_and_bound;
 mod carrying;
 mod core_rounds;
 mod ground;
-mod halt;
 mod one_worker;
 mod pieces;
 mod rounds;

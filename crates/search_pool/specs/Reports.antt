@@ -12,9 +12,12 @@ use Rattle.schedule_law.specs.Worked.{IsCoverFor, Worked}
 use Rattle.gathering.specs.Gathered.{IsGathered}
 use Rattle.gathering.specs.declared.fault.PoolFault.{PoolFault}
 use Rattle.gathering.specs.declared.fault.PoolFault.TheVariants.{Stopped, NoThread, OutOfMemory}
+use Rattle.gathering.specs.declared.merge.Gathered.{Gathered}
 use Rattle.worker_results.specs.Joining.{IsRootSplit}
 use Rattle.search_pool.specs.Runs.{IsRun}
+use Rattle.search_pool.specs.Rows.{counted}
 use Rattle.search_pool.specs.Tallies.{all_refused}
+use Rattle.search_pool.specs.declared.piece_counts.PieceCounts.{PieceCounts}
 use Rattle.search_pool.specs.declared.report.Report.{Report}
 
 -- the numbers added up
@@ -48,6 +51,19 @@ pub record AreNumbersOf (root : Split) (works : List Worked) (left : List Subpro
   pub handed_back : report.handed_back ≡ length (all_back works)
   pub left_over : report.left ≡ length left
   pub gleaned : report.gleaned + length (all_refused works) ≡ length names
+
+-- the report of what was gathered, where workers handed over these counts of pieces, left so many, and were granted
+-- this number of turns
+pub record TellsOf (gathered : Gathered) (counts : PieceCounts) (left granted : ℕ) (report : Report) : Type 0 where
+  pub cover : report.cover ≡ gathered.cover
+  pub tree : tree_of report.proof ≡ tree_of gathered.proof
+  pub closed_by : report.closed_by.items ≡ gathered.closed_by.items
+  pub pushed : report.pushed ≡ counts.closed + counts.opened + counts.held + left
+  pub opened : report.opened ≡ counts.opened
+  pub handed_back : report.handed_back ≡ counts.held + counts.refused
+  pub left_over : report.left ≡ left
+  pub gleaned : report.gleaned + counts.refused ≡ length gathered.gleaned.items
+  pub turns : report.turns ≡ counted (granted + gathered.turns)
 
 -- workers ran over the kids of a root from some cover of the region, and the report is what their results merge to
 pub record IsMerged (region : Instance) (workers : ℕ) (report : Report) : Type 0 where

@@ -7,7 +7,8 @@ use Rattle.proof_tree.specs.Piece.{Subproblem}
 use Rattle.piece_deque.specs.declared.rule.EachOnce.{EachOnce}
 use Rattle.piece_deque.specs.declared.dealt.Dealt.{Dealt}
 use Rattle.piece_deque.specs.Deals.{thief_pass, one_more_out}
-use Rattle.worker_results.specs.Naming.{DequeId}
+use Rattle.worker_results.specs.Joining.{StartWith}
+use Rattle.worker_results.specs.Naming.{AreThieves, DequeId, Thief}
 use Rattle.worker_results.specs.Passes.{KnownPass, Owned}
 
 -- the owner's end of a deque of pieces, under the rule that those pushed are those in it and those taken
@@ -24,6 +25,13 @@ AreOwners deque start first [] = Unit {0}
 AreOwners deque start first (owner ∷ owners) =
     (worker_deque owner ≡ deque first) × (worker_flavor owner ≡ 0) × (worker_view owner ≡ ready (start first) 0)
     × AreOwners deque start (first + 1) owners
+
+-- the owners' ends of the workers' deques, and thieves at them; these pieces lie on them at the start
+pub record AreDealt (deque : ℕ → DequeId) (start : ℕ → List Subproblem) (workers : ℕ) (pieces : List Subproblem)
+    (owners : List Owner) (thieves : List Thief) : Type 0 where
+  pub ends : AreOwners deque start 0 owners
+  pub at_ends : AreThieves deque 0 thieves
+  pub stocked : StartWith start workers pieces
 
 -- the workers' numbers
 abbrev pub numbers_of : List Owned → List ℕ

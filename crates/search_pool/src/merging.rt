@@ -3,11 +3,10 @@
 ghost use Rattle.std.specs.Arc.{arc_value};
 ghost use Rattle.std.specs.Prelude.{◌≡◌, ◌≤◌, ◌<◌, ◌+◌, ◌^◌, IfErr, IfOk, length};
 ghost use Rattle.proof_tree.specs.Shape.{tree_of};
-ghost use Rattle.search_pool.specs.Reports.{AddsUp, IsMerged, StopsPool};
+ghost use Rattle.search_pool.specs.Reports.{AddsUp, IsMerged, StopsPool, TellsOf};
 ghost use Rattle.search_pool.specs.Rooted.{IsRooted};
 ghost use Rattle.search_pool.specs.Rows.{counted};
-ghost use Rattle.search_pool.specs.Runs.{IsRun};
-ghost use Rattle.search_pool.specs.Turns.{AreGranted};
+ghost use Rattle.search_pool.specs.Runs.{HandOver};
 ghost use Rattle.search_traits.specs.Planned.{IsBest};
 ghost use Rattle.search_traits.specs.Turns.{IsWithin};
 
@@ -34,10 +33,8 @@ pub(crate) fn merged<C: Closer>(
     ran: Ran,
     turns: Option<u64>,
 ) -> Result<Report, PoolFault>
-    requires rooted { IsRooted (arc_value region.now) rooted }
-    requires run { IsRun (arc_value region.now) rooted.cover.places rooted.root workers.number
-        ran.joined.works.items ran.joined.left.items }
-    requires turns { AreGranted workers.number turns ran.turns ran.is_spent }
+    requires { IsRooted (arc_value region.now) rooted
+        × HandOver (arc_value region.now) rooted.cover.places rooted.root workers.number turns ran }
     ensures best { IfOk result (λ report.
         IsBest (arc_value region.now) report.cover (tree_of report.proof)) }
     ensures counts { IfOk result AddsUp }
@@ -84,14 +81,7 @@ fn report(gathered: Gathered, counts: PieceCounts, left: u128, granted: u64) -> 
     requires few { (counts.closed ≤ 2 ^ 70) × (counts.opened ≤ 2 ^ 70) × (counts.held ≤ 2 ^ 70)
         × (counts.refused ≤ 2 ^ 70) × (left < 2 ^ 64) }
     requires gleaned { length gathered.gleaned.items ≡ counts.held + counts.refused + left }
-    ensures same { (result.cover ≡ gathered.cover) × (tree_of result.proof ≡ tree_of gathered.proof)
-        × (result.closed_by.items ≡ gathered.closed_by.items) }
-    ensures pushed { result.pushed ≡ counts.closed + counts.opened + counts.held + left }
-    ensures numbers { (result.opened ≡ counts.opened)
-        × (result.handed_back ≡ counts.held + counts.refused)
-        × (result.left ≡ left) }
-    ensures gleaned { result.gleaned + counts.refused ≡ length gathered.gleaned.items }
-    ensures turns { result.turns ≡ counted (granted + gathered.turns) }
+    ensures { TellsOf gathered counts left granted result }
 {
     Report {
         gleaned: gathered.gleaned.len() as u128 - counts.refused,

@@ -1,14 +1,12 @@
-//! A whole run of workers over deques that are stocked, up to the results joined: `IsRun` of specs/Runs.antt. How many
-//! turns they took is `AreGranted` of specs/Turns.antt.
+//! A whole run of workers over deques that are stocked, up to the results joined: `HandOver` of specs/Runs.antt. The
+//! deques are `AreDealt` of specs/Slots.antt.
 ghost use Rattle.std.specs.Arc.{arc_value};
 ghost use Rattle.std.specs.Prelude.{◌≡◌, ◌<◌, IfOk, length};
 ghost use Rattle.beacon.specs.Marks.{at_first};
 ghost use Rattle.proof_tree.specs.Opened.{kids_of};
-ghost use Rattle.search_pool.specs.Runs.{IsRun};
-ghost use Rattle.search_pool.specs.Slots.{AreOwners};
-ghost use Rattle.search_pool.specs.Turns.{AreGranted};
-ghost use Rattle.worker_results.specs.Joining.{IsRootSplit, StartWith};
-ghost use Rattle.worker_results.specs.Naming.{AreThieves};
+ghost use Rattle.search_pool.specs.Runs.{HandOver};
+ghost use Rattle.search_pool.specs.Slots.{AreDealt};
+ghost use Rattle.worker_results.specs.Joining.{IsRootSplit};
 
 use crate::run::run_scope;
 use crate::slots::{fill, lend_all, owned, split_seats};
@@ -92,14 +90,12 @@ pub(crate) fn run_named<
     requires few { (run.workers.number ≡ B.workers) × (length owners.items ≡ B.workers) }
     requires seat { (beacon ≡ B.beacon) × (first.beacon ≡ B.beacon)
         × (first.knows ≡ at_first (length run.best.now.places)) }
-    requires ground { (arc_value run.region.now ≡ B.region) × AreThieves B.deque 0 thieves.now }
-    requires owners { AreOwners B.deque B.start 0 owners.items }
+    requires region { arc_value run.region.now ≡ B.region }
     requires root { IsRootSplit B.region run.root.now }
-    requires start { StartWith B.start B.workers (kids_of run.root.now) }
-    ensures run { IfOk result (λ ran. IsRun B.region run.entry.best.now.places run.entry.root.now
-        run.entry.workers.number ran.joined.works.items ran.joined.left.items) }
-    ensures turns { IfOk result (λ ran.
-        AreGranted run.entry.workers.number run.entry.turns ran.turns ran.is_spent) }
+    requires dealt { AreDealt B.deque B.start B.workers (kids_of run.root.now)
+        owners.items thieves.now }
+    ensures { IfOk result (HandOver B.region run.entry.best.now.places run.entry.root.now
+        run.entry.workers.number run.entry.turns) }
 {
     let alloc = run.alloc;
     let owned = owned::<B>(alloc, owners)?;

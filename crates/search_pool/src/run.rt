@@ -126,8 +126,7 @@ pub(crate) fn run_scope<
 ) -> Result<Vec<Done<B>>, Unrun>
     requires ground { (common.beacon.now ≡ B.beacon) × (arc_value common.region.now ≡ B.region)
         × AreThieves B.deque 0 common.thieves.now }
-    requires some { 0 < length slots.now }
-    requires few { length slots.now ≤ 64 }
+    requires count { (0 < length slots.now) × (length slots.now ≤ 64) }
     ensures { IfOk result (λ all. AreOfBudgets turns all.items
         × (length all.items ≡ length slots.now)) }
 {
@@ -140,8 +139,8 @@ pub(crate) fn run_scope<
                 × (arc_value common.region.now ≡ B.region)
                 × AreThieves B.deque 0 common.thieves.now }
             requires few { length slots.now ≤ 64 }
-            ensures row { IfOk result (λ all. AreFrom 0 own each all.items) }
-            ensures len { IfOk result (λ all. length all.items ≡ length slots.entry.now) }
+            ensures { IfOk result (λ all. AreFrom 0 own each all.items
+                × (length all.items ≡ length slots.entry.now)) }
         {
             let team = Team {
                 first: 0,

@@ -1,9 +1,8 @@
-//! A run of workers over a root that is opened: `IsRun` of specs/Runs.antt. The beacon is opened, the deques are
+//! A run of workers over a root that is opened: `HandOver` of specs/Runs.antt. The beacon is opened, the deques are
 //! stocked, and both are named.
 ghost use Rattle.std.specs.Arc.{arc_value};
 ghost use Rattle.std.specs.Prelude.{IfOk};
-ghost use Rattle.search_pool.specs.Runs.{IsRun};
-ghost use Rattle.search_pool.specs.Turns.{AreGranted};
+ghost use Rattle.search_pool.specs.Runs.{HandOver};
 ghost use Rattle.worker_results.specs.Joining.{IsRootSplit};
 
 use crate::pool::{Ran, Run, run_named};
@@ -20,11 +19,8 @@ pub(crate) fn run_opened<C: Closer + Send + Sync, R: Threads + Wait + Sync, O: O
     run: Run<'_, R, O>,
 ) -> Result<Ran, Unrun>
     requires { IsRootSplit (arc_value run.region.now) run.root.now }
-    ensures run { IfOk result (λ ran. IsRun (arc_value run.entry.region.now)
-        run.entry.best.now.places run.entry.root.now run.entry.workers.number
-        ran.joined.works.items ran.joined.left.items) }
-    ensures turns { IfOk result (λ ran.
-        AreGranted run.entry.workers.number run.entry.turns ran.turns ran.is_spent) }
+    ensures { IfOk result (HandOver (arc_value run.entry.region.now) run.entry.best.now.places
+        run.entry.root.now run.entry.workers.number run.entry.turns) }
 {
     let Stock { owners, thieves } = stock_for(run.alloc, run.root, run.workers)?;
     let (beacon, first) = Beacon::open(run.alloc, run.best.size())?;

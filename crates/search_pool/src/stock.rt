@@ -1,11 +1,9 @@
-//! The deques of all workers with the root's kids on the first one, and their thieves: `AreOwners` of specs/Slots.antt,
+//! The deques of all workers with the root's kids on the first one, and their thieves: `AreDealt` of specs/Slots.antt,
 //! named by the words of specs/Deques.antt.
 ghost use Rattle.std.specs.Prelude.{◌≡◌, IfOk, length};
 ghost use Rattle.proof_tree.specs.Opened.{kids_of};
 ghost use Rattle.search_pool.specs.Deques.{deque_at, pushed_at};
-ghost use Rattle.search_pool.specs.Slots.{AreOwners};
-ghost use Rattle.worker_results.specs.Joining.{StartWith};
-ghost use Rattle.worker_results.specs.Naming.{AreThieves};
+ghost use Rattle.search_pool.specs.Slots.{AreDealt};
 
 use crate::deques::{stocked_all, thieves_of};
 use piece_deque::{Owner, Thief};
@@ -27,12 +25,9 @@ pub(crate) struct Stock {
 /// The root's kids lie on the first deque, and none on the others.
 pub(crate) fn stock_for(alloc: Global, root: &Opened, workers: Workers) -> Result<Stock, AllocError>
     ensures each { IfOk result (λ stock. length stock.owners.items ≡ workers.number) }
-    ensures owners { IfOk result (λ stock. AreOwners (deque_at stock.owners.items)
-        (pushed_at stock.owners.items) 0 stock.owners.items) }
-    ensures thieves { IfOk result (λ stock.
-        AreThieves (deque_at stock.owners.items) 0 stock.thieves.items) }
-    ensures start { IfOk result (λ stock.
-        StartWith (pushed_at stock.owners.items) workers.number (kids_of root.now)) }
+    ensures dealt { IfOk result (λ stock. AreDealt (deque_at stock.owners.items)
+        (pushed_at stock.owners.items) workers.number (kids_of root.now)
+        stock.owners.items stock.thieves.items) }
 {
     let kids = root.kids(alloc)?;
     let owners = stocked_all(alloc, workers.number, ROOM, kids)?;

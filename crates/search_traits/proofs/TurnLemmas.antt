@@ -1,5 +1,5 @@
 -- Turns of one search and of a later one.
-use Rattle.std.proofs.Common.{◌≡◌, ◌+◌, ◌-◌, ◌*◌, ◌<◌, ◌≤◌, ℕ, Option, Some, None, ap, ◌∙◌, sym, subst, arith}
+use Rattle.std.proofs.Common.{◌≡◌, ◌+◌, ◌-◌, ◌*◌, ◌≤◌, ℕ, Option, Some, ap, ◌∙◌, sym, subst, arith}
 use Rattle.std.proofs.Math.Nat.{le-mul_of_pos_right}
 use native.Mathlib.Nat.{add-mul}
 use Rattle.search_traits.specs.Turns.{AreSpent, IsShareSpent}

@@ -11,7 +11,7 @@ use Rattle.worker_results.specs.Naming.{numbers_from}
 use Rattle.worker_results.specs.Passes.{Owned, KnownPass, all_taken, deques}
 use Rattle.worker_results.specs.Results.{Handed, IsHandedIn}
 use Rattle.worker_results.specs.Holdings.{work_of}
-use Rattle.worker_results.specs.Joining.{total}
+use Rattle.worker_results.specs.Joining.{numbers_of, total, workers_of, works_of}
 
 -- so many passes at each deque are still out
 abbrev pub AreOut : ℕ → List Owned → Type 0
@@ -46,6 +46,13 @@ pub record AreParted (region : Instance) (start : ℕ → List Subproblem) (work
       → total (λ own. weigh weight own.knows.pushed) owners + total (λ work. weigh weight work.refused) works
       ≡ total (λ own. weigh weight (start own.worker)) owners
       + total (λ work. weigh weight (all_kids work.opened)) works
+
+-- the owner, the row and the work of each result, in order
+pub record AreOfEach (results : List Handed) (owners : List Owned) (rows : List (List KnownPass)) (works : List Worked)
+    : Type 0 where
+  pub numbers : numbers_of owners ≡ workers_of results
+  pub count : length rows ≡ length results
+  pub heaps : works ≡ works_of results
 
 -- the parts of one result
 pub record AreResultParts (region : Instance) (start : ℕ → List Subproblem) (workers : ℕ) (done : Handed) (own : Owned)

@@ -1,9 +1,8 @@
 //! Results are taken apart, and their seats joined to the first one: `AreParted` of specs/Parting.antt. The parts stand
-//! in the order of the results.
-ghost use Rattle.std.specs.Prelude.{◌≡◌, length, true, IfOk};
+//! in the order of the results, as `AreOfEach` says.
+ghost use Rattle.std.specs.Prelude.{◌≡◌, true, IfOk};
 ghost use Rattle.beacon.specs.Marks.{together};
-ghost use Rattle.worker_results.specs.Parting.{AreParted, AreResultParts, IsOneMore};
-ghost use Rattle.worker_results.specs.Joining.{numbers_of, workers_of, works_of};
+ghost use Rattle.worker_results.specs.Parting.{AreOfEach, AreParted, AreResultParts, IsOneMore};
 
 use crate::done::{Done, Parts};
 use crate::naming::Naming;
@@ -36,10 +35,8 @@ pub(crate) fn part_all<B: Naming>(
     ensures apart { IfOk result (λ parts. AreParted B.region B.start B.workers
         first.knows parts.first.knows
         parts.owners.items parts.rows.items parts.works.items) }
-    ensures numbers { IfOk result (λ parts.
-        numbers_of parts.owners.items ≡ workers_of results.items) }
-    ensures rows { IfOk result (λ parts. length parts.rows.items ≡ length results.items) }
-    ensures works { IfOk result (λ parts. parts.works.items ≡ works_of results.items) }
+    ensures each { IfOk result (λ parts. AreOfEach results.items
+        parts.owners.items parts.rows.items parts.works.items) }
 {
     let mut parts = AllParts {
         first,

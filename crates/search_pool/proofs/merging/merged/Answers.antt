@@ -19,7 +19,7 @@ report-requires-clause-gleaned g c =
     let works = c.args.ran.joined.works.items in
     let left = c.args.ran.joined.left.items in
     let all = counted_at (arc_value c.args.region.now) c.args.rooted.cover.places c.args.rooted.root works left
-    c.requires.run.joined c.cell.result _ c.cell.ensures c.in-Ok.ensures.gathered in
+    c.requires.1.run.joined c.cell.result _ c.cell.ensures c.in-Ok.ensures.gathered in
     let tally = c.count_pieces-counts.result in
     let told = subst (λ (l : List Worked). AreTallied l tally) c.deref.ensures.value
     c.count_pieces-counts.ensures.counted in
@@ -35,12 +35,12 @@ returns-in-Ok-clause-counts g c =
     let told = subst (λ (l : List Worked). AreTallied l tally) c.deref.ensures.value
     c.count_pieces-counts.ensures.counted in
     let all = counted_at (arc_value c.args.region.now) c.args.rooted.cover.places c.args.rooted.root works left
-    c.requires.run.joined c.cell.result _ c.cell.ensures c.in-Ok.ensures.gathered in
+    c.requires.1.run.joined c.cell.result _ c.cell.ensures c.in-Ok.ensures.gathered in
     let gleaned = all_gleaned works left _ tally all told in
-    let closed = ap sum_of c.report.ensures.same.2 ∙ all_by_workers works left _ tally all told in
+    let closed = ap sum_of c.report.ensures.closed_by ∙ all_by_workers works left _ tally all told in
     let r = c.report.ensures in
     let long = c.len-left.ensures in
-    let a = r.pushed in let b = r.numbers.0 in let d = r.numbers.1 in let e = r.numbers.2 in let f = r.gleaned in
+    let a = r.pushed in let b = r.opened in let d = r.handed_back in let e = r.left_over in let f = r.gleaned in
     record {
       whole = omega (arith, gleaned, closed, long, a, b, d, e, f);
       gleaned_few = omega (arith, gleaned, closed, long, a, b, d, e, f);
@@ -55,19 +55,19 @@ returns-in-Ok-clause-report g c =
     let tally = c.count_pieces-counts.result in
     let told = subst (λ (l : List Worked). AreTallied l tally) c.deref.ensures.value
     c.count_pieces-counts.ensures.counted in
-    let run = c.requires.run in
+    let run = c.requires.1.run in
     let gathered = c.in-Ok.gathered in
-    let is = c.requires.rooted in
+    let is = c.requires.0 in
     let came = all_came region c.args.rooted.cover.places root works left run.joined tally is.is_root told in
     let r = c.report.ensures in
     let long = c.len-left.ensures in
-    let a = r.pushed in let b = r.numbers.0 in let d = r.numbers.1 in let e = r.numbers.2 in let f = r.gleaned in
+    let a = r.pushed in let b = r.opened in let d = r.handed_back in let e = r.left_over in let f = r.gleaned in
     let t0 = told.opened in let t1 = told.back in let t2 = told.refused in
     record {
       first = c.args.rooted.cover;
-      covers = c.requires.rooted.covers;
+      covers = c.requires.0.covers;
       root = root;
-      is_root = c.requires.rooted.is_root;
+      is_root = c.requires.0.is_root;
       works = works;
       left = left;
       run = run;
@@ -79,7 +79,7 @@ returns-in-Ok-clause-report g c =
             closed_by = x.1.1.1;
             gleaned = gathered.gleaned.items;
           }))
-          (λ i. (c.cell.ensures i, (sym r.same.0 i, (sym r.same.1 i, sym r.same.2 i)))) c.in-Ok.ensures.gathered;
+          (λ i. (c.cell.ensures i, (sym r.cover i, (sym r.tree i, sym r.closed_by i)))) c.in-Ok.ensures.gathered;
       numbers = record {
         pushed = omega (arith, came, a, long, t2);
         opened = b ∙ t0;
@@ -93,9 +93,9 @@ pub returns-in-Ok-clause-granted : goal.returns-in-Ok-clause-granted
 returns-in-Ok-clause-granted g c =
     let turns = c.args.turns in let granted = c.args.ran.turns in let more = c.in-Ok.gathered.turns in
     let spent = c.args.ran.is_spent in
-    let within = subst (λ (o : Option ℕ). IsWithin o more) c.left_of-rest.ensures c.in-Ok.ensures.granted in
+    let within = subst (λ (o : Option ℕ). IsWithin o more) c.left_of-rest.ensures c.in-Ok.ensures.granted.within in
     subst (IsWithin turns) (sym c.report.ensures.turns)
-    (both_within turns granted more spent c.requires.turns.within within)
+    (both_within turns granted more spent c.requires.1.granted.within within)
 
 pub returns-in-Err-Stopped : goal.returns-in-Err-Stopped
 returns-in-Err-Stopped g c =
@@ -114,7 +114,7 @@ returns-in-Err-Stopped g c =
       stopped = subst (λ (v : Covering). StopsPool region turns number (Stopped v c.max.result c.sum.result))
           (sym c.in-Err-Stopped.cover-is)
           (stops_both region number turns granted spent cover c.args.rooted.floor least more c.max.result c.sum.result
-          (few_workers number c.args.workers.some).0 c.requires.turns c.requires.rooted.none_below stops
+          (few_workers number c.args.workers.some).0 c.requires.1.granted c.requires.0.none_below stops
           (omega (arith, c.max.ensures, c.in-Err-Stopped.least-is))
           (omega (arith, c.sum.ensures, c.in-Err-Stopped.more-is)));
     }

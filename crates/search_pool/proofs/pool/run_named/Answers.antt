@@ -9,25 +9,15 @@ use Rattle.worker_results.specs.Results.{Handed}
 use Rattle.worker_results.specs.Holdings.{work_of}
 use Rattle.search_pool.proofs.pool.run_named.Goals as goal
 
-pub run_scope-requires-clause-some : goal.run_scope-requires-clause-some
-run_scope-requires-clause-some g c =
+pub run_scope-requires-clause-count : goal.run_scope-requires-clause-count
+run_scope-requires-clause-count g c κs within =
     let owned = c.in_ok-passes.passes.owned.items in
     let long = owned_long owned g.B.Naming.workers c.in_ok-passes.ensures.numbers in
     let few = few_workers c.args.run.workers.number c.args.run.workers.some in
     let each = c.in_ok-slots.ensures.each in
     let same = c.requires.few.0 in
     let slice = c.as_slice.ensures.len in
-    omega (arith, long, few.0, each, same, slice)
-
-pub run_scope-requires-clause-few : goal.run_scope-requires-clause-few
-run_scope-requires-clause-few g c =
-    let owned = c.in_ok-passes.passes.owned.items in
-    let long = owned_long owned g.B.Naming.workers c.in_ok-passes.ensures.numbers in
-    let few = few_workers c.args.run.workers.number c.args.run.workers.some in
-    let each = c.in_ok-slots.ensures.each in
-    let same = c.requires.few.0 in
-    let slice = c.as_slice.ensures.len in
-    omega (arith, long, few.1, each, same, slice)
+    (omega (arith, long, few.0, each, same, slice), omega (arith, long, few.1, each, same, slice))
 
 pub close_up-requires-clause-all : goal.close_up-requires-clause-all
 close_up-requires-clause-all g c =
@@ -41,22 +31,9 @@ close_up-requires-clause-all g c =
     omega (arith, l, long, each, slice)) in
     in_a_row 0 are.own are.each results are.row ∙ ap (numbers_from 0) count
 
-pub returns-clause-run : goal.returns-clause-run
-returns-clause-run g c =
+pub returns : goal.returns
+returns g c =
     let joined = c.in_ok-joined.ensures in
-    let results = c.in_ok-results.results.items in
-    let long = owned_long c.in_ok-passes.passes.owned.items g.B.Naming.workers c.in_ok-passes.ensures.numbers in
-    record {
-      joined = joined.joined c.args.run.root.now c.requires.root c.requires.start;
-      each = (let w = ap length joined.works in
-          let m = length-map (λ (done : Handed). work_of done.holdings done.cover) results in
-          let l = c.in_ok-results.ensures.1 in
-          let each = c.in_ok-slots.ensures.each in let same = c.requires.few.0 in
-          let slice = c.as_slice.ensures.len in omega (arith, w, m, l, long, each, same, slice));
-    }
-
-pub returns-clause-turns : goal.returns-clause-turns
-returns-clause-turns g c =
     let results = c.in_ok-results.results.items in
     let workers = c.args.run.workers.number in
     let turns = c.args.run.turns in
@@ -68,5 +45,13 @@ returns-clause-turns g c =
     let count : length results ≡ workers = (let l = c.in_ok-results.ensures.1 in
     let each = c.in_ok-slots.ensures.each in let same = c.requires.few.0 in
     let slice = c.as_slice.ensures.len in omega (arith, l, long, each, same, slice)) in
-    subst (λ (n : ℕ × Bool). AreGranted workers turns n.0 n.1) (λ i. (sym sum i, sym asked i))
-    (granted_of workers turns results c.in_ok-results.ensures.0 each count)
+    record {
+      run = record {
+        joined = joined.joined c.args.run.root.now c.requires.root c.requires.dealt.stocked;
+        each = (let w = ap length joined.works in
+            let m = length-map (λ (done : Handed). work_of done.holdings done.cover) results in
+            omega (arith, w, m, count));
+      };
+      granted = subst (λ (n : ℕ × Bool). AreGranted workers turns n.0 n.1) (λ i. (sym sum i, sym asked i))
+          (granted_of workers turns results c.in_ok-results.ensures.0 each count);
+    }

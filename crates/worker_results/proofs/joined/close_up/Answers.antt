@@ -9,7 +9,8 @@ take_rows-requires-clause-out g c =
     let p = c.in_ok-first.ensures in
     let f = c.in_ok-first.field-0 in
     let workers = g.B.Naming.workers in
-    let long : length f.rows.items ≡ workers = p.rows ∙ results_long c.args.results.items workers c.requires.all in
+    let long : length f.rows.items ≡ workers
+    = p.each.count ∙ results_long c.args.results.items workers c.requires.all in
     subst (λ n. AreOut n f.owners.items) (sym long) p.apart.passes_out
 
 pub close-requires : goal.close-requires
@@ -18,7 +19,7 @@ close-requires g c =
     let f = c.in_ok-first.field-0 in
     let r = c.requires in
     let workers = g.B.Naming.workers in
-    let long : length f.rows.items ≡ workers = p.rows ∙ results_long c.args.results.items workers r.all in
+    let long : length f.rows.items ≡ workers = p.each.count ∙ results_long c.args.results.items workers r.all in
     let out = p.apart.out in
     let began = r.seat.out in
     (p.seat ∙ sym r.beacon, p.apart.first, omega arith)
@@ -31,4 +32,7 @@ returns-clause-joined g c = λ root is_root start.
     joined g.B.Naming.region g.B.Naming.start g.B.Naming.workers root c.close.result c.args.best.now.places
     c.args.first.knows f.first.knows f.owners.items c.take_rows.new.owners.items f.rows.items f.works.items
     c.in_ok-left.left.items c.in_ok-first.ensures.apart c.take_rows.ensures.sums c.in_ok-left.ensures
-    r.seat.told w.told w.seen (c.in_ok-first.ensures.numbers ∙ r.all) is_root start
+    r.seat.told w.told w.seen (c.in_ok-first.ensures.each.numbers ∙ r.all) is_root start
+
+pub returns-clause-works : goal.returns-clause-works
+returns-clause-works g c = c.in_ok-first.ensures.each.heaps

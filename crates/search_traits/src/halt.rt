@@ -1,13 +1,12 @@
-//! Why the caller's thread stopped closing what is left. `gather` tells it on as a fault of the whole, as
-//! `StopsGathering` of specs/Gathered.antt says.
+//! Why a search ended early: its desk granted no further turn, or memory was refused.
 ghost use Rattle.std.specs.Prelude.{◌≡◌};
-ghost use Rattle.gathering.specs.declared.halt.Halt.TheVariants.{OutOfMemory};
+ghost use Rattle.search_traits.specs.declared.halt.Halt.TheVariants.{OutOfMemory};
 
 use std::alloc::{AllocError, AllocFailed};
 
-/// Why the caller's thread stopped.
+/// Why a search ended early.
 #[derive(Clone, Copy, Debug, PartialEq, Eq)]
-pub(crate) enum Halt {
+pub enum Halt {
     /// The desk granted no further turn.
     TurnsSpent,
     OutOfMemory,
