@@ -65,6 +65,14 @@ fn lines(alloc: Global, tree: &Proof) -> Result<u64, OutOfMemory> {
                 kid,
             } => open.push(kid.tree())?,
             Proof::Omit { cells: _, kid } => open.push(kid.tree())?,
+            Proof::Pick {
+                place: _,
+                with,
+                without,
+            } => {
+                open.push(with.tree())?;
+                open.push(without.tree())?;
+            }
         }
     }
     Ok(count)

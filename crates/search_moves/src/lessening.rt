@@ -82,6 +82,23 @@ fn lessened(
             let cells = Vec::from_slice(alloc, cells.as_slice())?;
             omitted(alloc, cells, tree)?
         }
+        Proof::Pick {
+            place,
+            with,
+            without,
+        } => picked(
+            alloc,
+            whole,
+            left,
+            PickedTrees {
+                place: *place,
+                with: with.tree(),
+                without: without.tree(),
+            },
+            room - 1,
+            is_first,
+            &mut spoken,
+        )?,
         Proof::Leaf(cells) => {
             spoken.add_cells(cells.as_slice());
             copied(alloc, cells.as_slice())?
@@ -94,6 +111,53 @@ fn lessened(
     };
     let tree = wrap(alloc, bars, bare)?;
     Ok(Told { tree, spoken })
+}
+
+/// A place that is picked, and the trees with it chosen and with it barred.
+#[derive(Clone, Copy)]
+struct PickedTrees<'a> {
+    place: u32,
+    with: &'a Proof,
+    without: &'a Proof,
+}
+
+/// The same for both trees of a pick. One of a place that is gone is its second tree. What the tree speaks of gains what
+/// they do.
+#[cycle(lessening)]
+fn picked(
+    alloc: Global,
+    whole: RegionInstance<'_>,
+    left: NodeRows,
+    trees: PickedTrees<'_>,
+    room: usize,
+    is_first: bool,
+    spoken: &mut Spoken,
+) -> Result<Proof, AllocError> {
+    let PickedTrees {
+        place,
+        with,
+        without,
+    } = trees;
+    let mut rest = left.copied(alloc)?;
+    set_bit(rest.barred.as_mut_slice(), place as usize);
+    let without = lessened(alloc, whole, rest, without, room, is_first)?;
+    spoken.join(&without.spoken);
+    if is_set(&left.gone, place as usize) {
+        let Told { tree, .. } = without;
+        return Ok(tree);
+    }
+    let mut below = left;
+    for lit in whole.instance.spread(InRegion::of(place)) {
+        clear_bit(below.unlit.as_mut_slice(), *lit as usize);
+    }
+    let with = lessened(alloc, whole, below, with, room, is_first)?;
+    spoken.join(&with.spoken);
+    let (Told { tree: with, .. }, Told { tree: without, .. }) = (with, without);
+    Ok(Proof::Pick {
+        place,
+        with: Below::of(alloc, with)?,
+        without: Below::of(alloc, without)?,
+    })
 }
 
 /// The same for each tree of a branch, whose kids have these places, but for those that are gone.
@@ -112,11 +176,9 @@ fn all_lessened(
     for index in 0..trees.len() {
         let place = places.get(index).copied().unwrap_or(u32::MAX);
         if !is_set(&left.gone, place as usize) {
-            let mut below = NodeRows {
-                unlit: Vec::from_slice(alloc, &left.unlit)?,
-                barred: Vec::from_slice(alloc, &barred)?,
-                gone: Vec::from_slice(alloc, &left.gone)?,
-            };
+            let mut below = left.copied(alloc)?;
+            below.barred.clear();
+            below.barred.extend_from_slice(&barred)?;
             for lit in whole.instance.spread(InRegion::of(place)) {
                 clear_bit(below.unlit.as_mut_slice(), *lit as usize);
             }
@@ -128,6 +190,14 @@ fn all_lessened(
 }
 
 impl NodeRows {
+    fn copied(&self, alloc: Global) -> Result<NodeRows, AllocError> {
+        Ok(NodeRows {
+            unlit: Vec::from_slice(alloc, &self.unlit)?,
+            barred: Vec::from_slice(alloc, &self.barred)?,
+            gone: Vec::from_slice(alloc, &self.gone)?,
+        })
+    }
+
     /// Bars the places. Those of the bars whose places aren't gone: the tree speaks of what these go by.
     fn take_bars(
         &mut self,
@@ -190,7 +260,7 @@ fn branch(
 }
 
 /// The tree below cells that are left out, if any are.
-fn omitted(alloc: Global, cells: Vec<u32>, tree: Proof) -> Result<Proof, AllocError> {
+pub(crate) fn omitted(alloc: Global, cells: Vec<u32>, tree: Proof) -> Result<Proof, AllocError> {
     if cells.is_empty() {
         return Ok(tree);
     }

@@ -7,6 +7,7 @@ mod barring;
 mod branching;
 mod carrying;
 mod groups;
+mod kernel_cells;
 mod lessening;
 mod moves;
 mod needless_kids;

@@ -8,6 +8,7 @@ mod felt;
 mod gathered;
 mod kids;
 mod omissions;
+mod picks;
 mod pieces;
 mod rings;
 mod shortened;

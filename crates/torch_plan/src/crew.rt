@@ -1,18 +1,21 @@
 //! Many workers, who plan regions in threads of their own. What they answer of a region is `IsRegionPlan` of
 //! search_traits' specs/Planning.antt.
 ghost use Rattle.std.specs.Arc.{arc_value};
-ghost use Rattle.std.specs.Prelude.{◌≡◌, ◌<◌, ◌≤◌, ◌+◌, ◌⊎◌, IfOk, IfSome, IsTrue, Some, length};
+ghost use Rattle.std.specs.Prelude.{◌≡◌, ◌<◌, IfOk};
 ghost use Rattle.search_traits.specs.Planned.{IsFloor};
 ghost use Rattle.search_traits.specs.Planning.{IsRegionPlan};
-ghost use Rattle.search_traits.specs.Turns.{AreSpent, IsShareSpent, IsWithin};
-ghost use Rattle.torch_plan.specs.Crew.{of_pool, rest};
+ghost use Rattle.search_traits.specs.Turns.{IsWithin};
+ghost use Rattle.torch_plan.specs.Crew.{of_pool};
 
 use cave_model::OutOfMemory;
 use instance_regions::{Cover, Region};
 use plan_options::Workers;
 use search_core::{BranchAndBound, carried_cover, carried_plan, core_region, plan_by_one};
 use search_pool::{PoolFault, Report, plan_with};
-use search_traits::{BestPlan, Closer, Observer, RegionFault, RegionPlan, Strategy};
+use search_traits::{
+    BestPlan, Closer, Observer, RegionFault, RegionPlan, Strategy, are_spent, first_of, rest_of,
+    smaller_of, stopped, with_earlier, with_known,
+};
 use std::alloc::Global;
 use std::marker::PhantomData;
 use std::sync::{Arc, Wait};
@@ -61,7 +64,7 @@ impl<'e, X: Threads + Wait + Sync, S: Strategy + Send + Sync, O: Observer> Crew<
         if region.places().len() <= FEW {
             return self.plan_by_many(alloc, region, turns);
         }
-        let first = first_of(turns);
+        let first = first_of(turns, ALONE);
         match plan_by_one::<S, O>(alloc, region, Some(first), self.observer) {
             Ok(plan) => Ok(plan),
             Err(RegionFault::Stopped { cover, floor, .. }) => {
@@ -86,23 +89,14 @@ impl<'e, X: Threads + Wait + Sync, S: Strategy + Send + Sync, O: Observer> Crew<
         requires floor { IsFloor (arc_value region.now) floor }
         ensures { IsRegionPlan self.now.workers.number turns (arc_value region.now) result }
     {
+        let workers = self.workers.number;
         if are_spent(turns, granted) {
-            return Err(RegionFault::Stopped {
-                cover,
-                floor,
-                turns: granted,
-            });
+            return stopped(region, workers, turns, granted, cover, floor);
         }
-        let plan = self.plan_by_core(alloc, region, rest_of(turns, granted));
-        let plan = with_known(
-            region,
-            self.workers,
-            rest_of(turns, granted),
-            plan,
-            cover,
-            floor,
-        );
-        with_earlier(region, self.workers, turns, granted, plan)
+        let left = rest_of(turns, granted);
+        let plan = self.plan_by_core(alloc, region, left);
+        let plan = with_known(region, workers, left, plan, cover, floor);
+        with_earlier(region, workers, turns, granted, plan)
     }
 
     /// The plan by many workers.
@@ -182,7 +176,7 @@ impl<'e, X: Threads + Wait + Sync, S: Strategy + Send + Sync, O: Observer> Crew<
             });
         }
         let plan = self.plan_by_many(alloc, region, rest_of(turns, granted));
-        with_earlier(region, self.workers, turns, granted, plan)
+        with_earlier(region, self.workers.number, turns, granted, plan)
     }
 }
 
@@ -203,119 +197,6 @@ fn plan_of(report: Report) -> BestPlan
     }
 }
 
-/// The turns of one worker alone: the first ones of so many.
-fn first_of(turns: Option<u64>) -> u64
-    ensures { IsWithin turns result }
-{
-    match turns {
-        None => ALONE,
-        Some(limit) => limit.min(ALONE),
-    }
-}
-
-/// The turns that are left of so many, or any number of them.
-fn rest_of(turns: Option<u64>, granted: u64) -> Option<u64>
-    requires { IsWithin turns granted }
-    ensures { result ≡ rest turns granted }
-{
-    match turns {
-        None => None,
-        Some(limit) => Some(limit - granted),
-    }
-}
-
-/// Whether all turns were granted.
-fn are_spent(turns: Option<u64>, granted: u64) -> bool
-    ensures { IsTrue result → AreSpent turns granted }
-{
-    match turns {
-        Some(limit) => limit == granted,
-        None => false,
-    }
-}
-
-/// The sum of two numbers, where that is within the limit.
-fn sum_within(limit: u64, granted: u64, later: u64) -> u64
-    ensures { granted + later ≤ limit → result ≡ granted + later }
-{
-    limit.min(granted.saturating_add(later))
-}
-
-/// The turns of two searches, of which the later one spent a share of what the earlier one had left.
-fn sum_of(turns: Option<u64>, granted: u64, later: u64, _workers: Workers) -> u64
-    requires within { IsWithin turns granted }
-    requires later { IsShareSpent _workers.number (rest turns granted) later }
-    ensures { IsShareSpent _workers.number turns result }
-{
-    match turns {
-        Some(limit) => sum_within(limit, granted, later),
-        None => granted,
-    }
-}
-
-/// A plan with the turns that are left, as one with all turns: so many were granted before.
-fn with_earlier(
-    _region: &Arc<Region>,
-    workers: Workers,
-    turns: Option<u64>,
-    granted: u64,
-    plan: RegionPlan,
-) -> RegionPlan
-    requires within { IsWithin turns granted }
-    requires plan { IsRegionPlan workers.number (rest turns granted) (arc_value _region.now) plan }
-    ensures { IsRegionPlan workers.number turns (arc_value _region.now) result }
-{
-    match plan {
-        Ok(plan) => Ok(BestPlan {
-            cover: plan.cover,
-            proof: plan.proof,
-            turns: plan.turns.saturating_add(granted),
-        }),
-        Err(
-            RegionFault::Stopped {
-                cover,
-                floor,
-                turns: later,
-            },
-        ) => Err(RegionFault::Stopped {
-            cover,
-            floor,
-            turns: sum_of(turns, granted, later, workers),
-        }),
-        Err(fault) => Err(fault),
-    }
-}
-
-/// A plan, or where its turns were spent the smaller of two covers and the greater of two floors.
-fn with_known(
-    _region: &Arc<Region>,
-    _workers: Workers,
-    _turns: Option<u64>,
-    plan: RegionPlan,
-    cover: Cover,
-    floor: u64,
-) -> RegionPlan
-    requires plan { IsRegionPlan _workers.number _turns (arc_value _region.now) plan }
-    requires cover { cover.region ≡ arc_value _region.now }
-    requires floor { IsFloor (arc_value _region.now) floor }
-    ensures { IsRegionPlan _workers.number _turns (arc_value _region.now) result }
-{
-    match plan {
-        Err(
-            RegionFault::Stopped {
-                cover: other,
-                floor: more,
-                turns,
-            },
-        ) => Err(RegionFault::Stopped {
-            cover: smaller_of(cover, Some(other)),
-            floor: floor.max(more),
-            turns,
-        }),
-        plan => plan,
-    }
-}
-
 /// What is known of the region where the turns were spent on its core: the smaller of that cover and of a first one,
 /// and a size that none is below.
 fn known<S: Strategy>(
@@ -328,18 +209,6 @@ fn known<S: Strategy>(
     let begun = BranchAndBound::<S>::begin(alloc, region)?;
     let carried = carried_cover::<S>(alloc, region, cover)?;
     Ok((smaller_of(begun.cover, carried), begun.floor))
-}
-
-/// The smaller of two covers, or the one that there is.
-fn smaller_of(first: Cover, other: Option<Cover>) -> Cover
-    ensures one { (result ≡ first) ⊎ (other ≡ Some result) }
-    ensures least { (length result.places ≤ length first.places)
-        × IfSome other (λ cover. length result.places ≤ length cover.places) }
-{
-    match other {
-        Some(cover) if cover.size() < first.size() => cover,
-        _ => first,
-    }
 }
 
 /// Why many workers have no plan of a region, as any planner tells it.

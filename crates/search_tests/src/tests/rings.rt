@@ -51,6 +51,7 @@ fn kids_of(proof: &Proof) -> usize {
             kid,
         } => kids_of(kid.tree()),
         Proof::Omit { cells: _, kid } => kids_of(kid.tree()),
+        Proof::Pick { .. } => 2,
     }
 }
 

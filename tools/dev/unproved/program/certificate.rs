@@ -18,9 +18,11 @@ pub fn region_lines(region: &Region, places: &[u32], tree: &Proof) -> String {
 pub fn version(tree: &Proof) -> u32 {
     match tree {
         Proof::Leaf(_) => 1,
-        Proof::Weighted(_) | Proof::Omit { .. } => 3,
+        Proof::Weighted(_) => 3,
+        Proof::Omit { kid, .. } => version(kid.tree()).max(3),
         Proof::Branch { kids, .. } => kids.trees().iter().map(version).max().unwrap_or(1),
         Proof::Bar { kid, .. } => version(kid.tree()).max(2),
+        Proof::Pick { .. } => 4,
     }
 }
 
@@ -57,6 +59,15 @@ fn write_tree(text: &mut String, tree: &Proof) {
             let cells = cells.as_slice();
             writeln!(text, "D {}{}", cells.len(), listed(cells)).unwrap();
             write_tree(text, kid.tree());
+        }
+        Proof::Pick {
+            place,
+            with,
+            without,
+        } => {
+            writeln!(text, "P {place}").unwrap();
+            write_tree(text, with.tree());
+            write_tree(text, without.tree());
         }
     }
 }

@@ -42,6 +42,7 @@ pub enum Proof {
     Branch { cell: u32, kids: Kids },
     Bar { place: u32, by: u32, kid: Below },
     Omit { cells: Sequence<u32>, kid: Below },
+    Pick { place: u32, with: Below, without: Below },
 }
 
 /// A place to leave out, and one that does as well.

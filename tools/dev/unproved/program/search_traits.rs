@@ -10,13 +10,21 @@ pub struct Task<'a> {
     pub region: &'a Region,
     pub node: &'a Node,
     pub floor: Option<u64>,
+    pub refused: u32,
+    pub may_pick: bool,
+}
+
+#[derive(Clone, Copy)]
+pub enum Branching {
+    Cell(u32),
+    Place(u32),
 }
 
 pub struct Proposal {
     pub cover: Option<Vec<u32>>,
     pub tree: Proof,
     pub bars: Vec<Bar>,
-    pub branch: u32,
+    pub branch: Option<Branching>,
 }
 
 pub trait Proposer {
@@ -25,6 +33,8 @@ pub trait Proposer {
 
 pub trait Strategy: Proposer + Sized {
     fn at(alloc: Global, region: &Region, node: &Node) -> Result<Self, AllocError>;
+
+    fn is_for_picks(&self) -> bool;
 
     fn shortened(
         &self,
@@ -35,6 +45,15 @@ pub trait Strategy: Proposer + Sized {
     ) -> Result<Proof, AllocError>;
 
     fn kept_places(alloc: Global, region: &Region) -> Result<Vec<u32>, AllocError>;
+
+    fn core_cover(
+        &self,
+        alloc: Global,
+        region: &Region,
+        node: &Node,
+        core: &Region,
+        cover: &[u32],
+    ) -> Result<Vec<u32>, AllocError>;
 
     fn carried_places(
         alloc: Global,

@@ -61,6 +61,13 @@ impl<'a> Judge<'a> {
             .all(|((lit, other), left)| lit & !other & left == 0)
     }
 
+    /// Whether the place may be picked.
+    pub fn may_be_picked(&self, node: &Node, place: u32) -> bool {
+        (place as usize) < self.region.places().len()
+            && !has(&node.barred, place as usize)
+            && !node.chosen.contains(&place)
+    }
+
     /// Whether the tree closes the node at the floor. The node is used up.
     pub fn is_good(&mut self, node: &mut Node, tree: &Proof, floor: u64) -> bool {
         match tree {
@@ -139,6 +146,21 @@ impl<'a> Judge<'a> {
                 }
                 avoids(tree, &omitted) && self.is_good(node, tree, floor)
             }
+            Proof::Pick {
+                place,
+                with,
+                without,
+            } => {
+                if !self.may_be_picked(node, *place) {
+                    return false;
+                }
+                let mut kid = node.kid(self.region, &node.barred, *place);
+                if !self.is_good(&mut kid, with.tree(), floor) {
+                    return false;
+                }
+                add(&mut node.barred, *place as usize);
+                self.is_good(node, without.tree(), floor)
+            }
         }
     }
 
@@ -205,5 +227,6 @@ fn avoids(tree: &Proof, cells: &[u64]) -> bool {
         }
         Proof::Bar { kid, .. } => avoids(kid.tree(), cells),
         Proof::Omit { cells: more, kid } => are_out(more.as_slice()) && avoids(kid.tree(), cells),
+        Proof::Pick { with, without, .. } => avoids(with.tree(), cells) && avoids(without.tree(), cells),
     }
 }
