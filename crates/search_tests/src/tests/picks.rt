@@ -10,9 +10,7 @@ use std::test::Fail;
 use tree_judges::{is_good, with_numbers};
 
 fn leaf(alloc: Global, cells: &[u32]) -> Result<Proof, AllocError> {
-    Ok(Proof::Leaf(Sequence::from_vec(Vec::from_slice(
-        alloc, cells,
-    )?)))
+    Ok(Proof::Leaf(Sequence::from_vec(Vec::from_slice(alloc, cells)?)))
 }
 
 fn pick(alloc: Global, place: u32, with: Proof, without: Proof) -> Result<Proof, AllocError> {
@@ -59,7 +57,14 @@ fn the_trees_of_a_pick_stand_in_their_order(rt: HostRuntime) -> Result<(), Fail>
     let alloc = rt.alloc();
     let ring = ring(alloc, 5)?;
     let region = ring.as_ref();
-    assert!(rt; !is_taken(alloc, region, &tree_of(alloc, 0, &APART_WITHOUT, &APART)?, 3)?);
+    assert!(rt;
+        !is_taken(
+            alloc,
+            region,
+            &tree_of(alloc, 0, &APART_WITHOUT, &APART)?,
+            3
+        )?
+    );
     // the chosen place lights these cells, and each of the first two trees has to be good
     assert!(rt; !is_taken(alloc, region, &tree_of(alloc, 0, &LIT, &APART_WITHOUT)?, 3)?);
     assert!(rt; !is_taken(alloc, region, &tree_of(alloc, 0, &APART, &APART)?, 3)?);
@@ -71,8 +76,22 @@ fn a_place_is_picked_once_and_is_one_of_the_region(rt: HostRuntime) -> Result<()
     let alloc = rt.alloc();
     let ring = ring(alloc, 5)?;
     let region = ring.as_ref();
-    assert!(rt; !is_taken(alloc, region, &tree_of(alloc, 5, &APART, &APART_WITHOUT)?, 2)?);
-    assert!(rt; !is_taken(alloc, region, &tree_of(alloc, u32::MAX, &APART, &APART_WITHOUT)?, 2)?);
+    assert!(rt;
+        !is_taken(
+            alloc,
+            region,
+            &tree_of(alloc, 5, &APART, &APART_WITHOUT)?,
+            2
+        )?
+    );
+    assert!(rt;
+        !is_taken(
+            alloc,
+            region,
+            &tree_of(alloc, u32::MAX, &APART, &APART_WITHOUT)?,
+            2
+        )?
+    );
     // chosen above, or barred above
     let again = tree_of(alloc, 0, &APART, &APART)?;
     let twice = pick(alloc, 0, again, leaf(alloc, &APART_WITHOUT)?)?;
