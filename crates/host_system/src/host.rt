@@ -35,11 +35,13 @@ fn path_of(path: &str) -> &str {
 }
 
 impl System for Host<'_> {
-    ghost use Rattle.std.specs.Prelude.{None};
+    ghost use Rattle.std.specs.Prelude.{None, false};
 
     ghost sources = { λ _. record {
       files = λ _. None;
+      missing = λ _. false;
       input = None;
+      made = λ _. None;
       same = λ _ _. None;
       over = λ _. None;
     } };

@@ -1,1 +1,2 @@
+pub mod MemoryLemmas
 pub mod RunLemmas

@@ -1,18 +1,18 @@
 -- What a run over files gives, as far as these are known.
 use Rattle.std.proofs.Common.{◌≡◌, ◌≢◌, ◌<◌, ◌∙◌, ℕ, Bool, true, false, List, Option, Some, None, Result, Ok, Err}
-use Rattle.std.proofs.Common.{sym, ap, subst, ◌⊎◌, inl, inr}
+use Rattle.std.proofs.Common.{sym, ap, subst, ◌⊎◌, inl, inr, true≢false}
 use Rattle.std.specs.Io.KnownBytes.{Keeps}
-use Rattle.std.specs.Prelude.{IfErr, IfOk, IfSome, OnOk, bytes_eq, codes, if◌then◌else◌}
+use Rattle.std.specs.Prelude.{IfErr, IfOk, IfSome, IsFalse, OnOk, bytes_eq, codes, if◌then◌else◌}
 use Rattle.cave_model.specs.Rule.{Rule}
-use Rattle.cave_runs.specs.PlanRuns.{IsNoPlanOfInput}
+use Rattle.cave_runs.specs.PlanRuns.{BeginsPlan, IsNoPlanOfInput, Plans}
 use Rattle.cave_runs.specs.Runs.{BeginsDark, IsFaultOfInput, IsOfInput, WritesDark}
 use Rattle.cave_runs.specs.declared.fault.RunFault.{RunFault}
 use Rattle.cave_runs.specs.declared.fault.RunFault.TheVariants as faults
 use Rattle.cave_runs.specs.declared.plan.Outcome.{Outcome}
 use Rattle.search_traits.specs.declared.planner.Allowance.{Allowance}
-use Rattle.torch_plan.specs.Answers.{AnswersDark, AnswersPlan, BeginsSome, LeavesOutput, PlansSome, structure_in}
+use Rattle.torch_plan.specs.Answers.{AnswersDark, AnswersPlan, LeavesMade, LeavesOutput, structure_in}
 use Rattle.torch_plan.specs.Answers.{table_in}
-use Rattle.torch_plan.specs.Sources.{Sources}
+use Rattle.torch_plan.specs.Sources.{Sources, LacksStructure, LacksTable, made_in}
 
 -- standard input, where that is named
 pub standard_in : (sources : Sources) (file : List ℕ) → bytes_eq file (codes "-") ≡ true
@@ -46,54 +46,76 @@ pub dark_answered : (sources : Sources) (file : List ℕ) (table : Option (List 
     → OnOk result (IfSome remaining (λ bytes. WritesDark bytes read rule old new)) → LeavesOutput result old new
     → IfErr result (λ e. e ≡ faults.WriteFailed → IfSome remaining (λ bytes. BeginsDark bytes read rule old new))
     → IfErr result (λ e. IsOfInput e → IfSome remaining (λ bytes. IsFaultOfInput bytes read e))
+    → ¬ (LacksStructure sources file ⊎ LacksTable sources table)
     → AnswersDark sources file table rule old new result
-dark_answered sources file table rule old new remaining read (Ok u) same told done left begun fault = record {
+dark_answered sources file table rule old new remaining read (Ok u) same told done left begun fault there = record {
   done = known (structure_in sources file) remaining (table_in sources table) read
       (λ bytes rows. WritesDark bytes rows rule old new) same told done;
   left = left;
   begun = tt;
   fault = tt;
+  lacking = λ lacks. absurd (there lacks);
 }
-dark_answered sources file table rule old new remaining read (Err e) same told done left begun fault = record {
+dark_answered sources file table rule old new remaining read (Err e) same told done left begun fault there = record {
   done = tt;
   left = left;
   begun = λ failed. known (structure_in sources file) remaining (table_in sources table) read
       (λ bytes rows. BeginsDark bytes rows rule old new) same told (begun failed);
   fault = λ of. inr (known (structure_in sources file) remaining (table_in sources table) read
       (λ bytes rows. IsFaultOfInput bytes rows e) same told (fault of));
+  lacking = λ lacks. absurd (there lacks);
 }
 
 -- a run of a plan over what is known
-pub plan_answered : (sources : Sources) (file : List ℕ) (table : Option (List ℕ)) (rule : Rule)
-    (allowance : Allowance) (old new remaining read : Option (List ℕ)) (result : Result Outcome RunFault)
+pub plan_answered : (sources : Sources) (file : List ℕ) (table out : Option (List ℕ)) (rule : Rule)
+    (allowance : Allowance) (old new kept remaining read : Option (List ℕ)) (result : Result Outcome RunFault)
     → remaining ≡ structure_in sources file → IfSome (table_in sources table) (λ r. read ≡ r)
-    → IfOk result (λ outcome. IfSome remaining (λ bytes. PlansSome bytes read rule allowance outcome old new))
+    → IfOk result (λ outcome. IfSome remaining (λ bytes.
+    Plans bytes read rule allowance outcome old new (made_in sources out) kept))
     → LeavesOutput result old new
     → IfErr result (λ e. e ≡ faults.WriteFailed → Keeps old new
-    ⊎ IfSome remaining (λ bytes. BeginsSome bytes read rule allowance old new))
+    ⊎ IfSome remaining (λ bytes. BeginsPlan bytes read rule allowance old new (made_in sources out) kept))
     → IfErr result (λ e. IsOfInput e → e ≢ faults.NoThread
     → IfSome remaining (λ bytes. IsNoPlanOfInput bytes read rule e))
-    → IfErr result (λ e. e ≡ faults.NoThread → 1 < allowance.workers)
-    → AnswersPlan sources file table rule allowance old new result
-plan_answered sources file table rule allowance old new remaining read (Ok outcome) same told done left begun
-    fault threads = record {
+    → IfErr result (λ e. e ≡ faults.NoThread → 1 < allowance.workers) → LeavesMade result (made_in sources out) kept
+    → ¬ (LacksStructure sources file ⊎ LacksTable sources table)
+    → AnswersPlan sources file table out rule allowance old new kept result
+plan_answered sources file table out rule allowance old new kept remaining read (Ok outcome) same told done left begun
+    fault threads untouched there = record {
       done = known (structure_in sources file) remaining (table_in sources table) read
-          (λ bytes rows. PlansSome bytes rows rule allowance outcome old new) same told done;
+          (λ bytes rows. Plans bytes rows rule allowance outcome old new (made_in sources out) kept) same told done;
       left = left;
       begun = tt;
       fault = tt;
       threads = tt;
+      untouched = untouched;
+      lacking = λ lacks. absurd (there lacks);
     }
-plan_answered sources file table rule allowance old new remaining read (Err e) same told done left begun fault
-    threads = record {
+plan_answered sources file table out rule allowance old new kept remaining read (Err e) same told done left begun fault
+    threads untouched there = record {
       done = tt;
       left = left;
       begun = λ failed. (elim (begun failed) [
-        | inl kept ↦ inl kept
+        | inl keeps ↦ inl keeps
         | inr some ↦ inr (known (structure_in sources file) remaining (table_in sources table) read
-            (λ bytes rows. BeginsSome bytes rows rule allowance old new) same told some)
+            (λ bytes rows. BeginsPlan bytes rows rule allowance old new (made_in sources out) kept) same told some)
       ]);
       fault = λ of more. inr (known (structure_in sources file) remaining (table_in sources table) read
           (λ bytes rows. IsNoPlanOfInput bytes rows rule e) same told (fault of more));
       threads = threads;
+      untouched = untouched;
+      lacking = λ lacks. absurd (there lacks);
     }
+
+-- standard input isn't missing
+pub there_at_standard : (sources : Sources) (file : List ℕ) (table : Option (List ℕ))
+    → bytes_eq file (codes "-") ≡ true → ¬ LacksTable sources table
+    → ¬ (LacksStructure sources file ⊎ LacksTable sources table)
+there_at_standard sources file table is has (inl lacks) = absurd (true≢false (sym is ∙ lacks.0))
+there_at_standard sources file table is has (inr lacks) = has lacks
+
+-- nor is a file that was opened
+pub there_at_file : (sources : Sources) (file : List ℕ) (table : Option (List ℕ)) → IsFalse (sources.missing file)
+    → ¬ LacksTable sources table → ¬ (LacksStructure sources file ⊎ LacksTable sources table)
+there_at_file sources file table is has (inl lacks) = absurd (true≢false (sym lacks.1 ∙ is))
+there_at_file sources file table is has (inr lacks) = has lacks

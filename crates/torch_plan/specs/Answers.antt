@@ -1,6 +1,6 @@
 -- What a run of the program reads, its exit status and what it writes. This is this project's own.
 use Rattle.std.specs.Prelude.{◌≡◌, ◌≢◌, ◌<◌, ◌⊎◌, ℕ, List, length, Option, Some, None, Result, Ok, Err, OnOk, IfOk}
-use Rattle.std.specs.Prelude.{IfErr, IfSome, IsSome, bytes_eq, codes, option_copied, option_map, if◌then◌else◌}
+use Rattle.std.specs.Prelude.{IfErr, IfSome, IsTrue, bytes_eq, codes, option_copied, option_map, if◌then◌else◌}
 use Rattle.std.specs.Io.KnownBytes.{Keeps}
 use Rattle.cave_model.specs.Rule.{Rule}
 use Rattle.cave_model.specs.RuleOf.{rule_of}
@@ -16,7 +16,8 @@ use Rattle.cave_runs.specs.declared.plan.Outcome.{Outcome}
 use Rattle.command_words.specs.Requests.{IsAsked}
 use Rattle.search_traits.specs.declared.planner.Allowance.{Allowance}
 use Rattle.torch_plan.specs.Given.{given}
-use Rattle.torch_plan.specs.Sources.{Sources, MayOverwrite, MayStandApart}
+use Rattle.torch_plan.specs.Sources.{IsUnread, LacksStructure, LacksTable, MayOverwrite, MayStandApart, Sources}
+use Rattle.torch_plan.specs.Sources.{made_in}
 use Rattle.torch_plan.specs.Status.{end_status, judged, status}
 use Rattle.command_words.specs.Mistakes.{AreWellFormed}
 use Rattle.torch_plan.specs.Usage.{IsExplained}
@@ -50,6 +51,11 @@ IsOfTable sources table fault = (fault ≡ faults.TooLong TableInput) × IsLong 
 abbrev pub LeavesOutput : {X : Type 0} → Result X RunFault → Option (List ℕ) → Option (List ℕ) → Type 0
 LeavesOutput result old new = IfErr result (λ fault. fault ≢ faults.WriteFailed → Keeps old new)
 
+-- a fault but of writing and of memory leaves a file as it was made, if it was
+abbrev pub LeavesMade : {X : Type 0} → Result X RunFault → Option (List ℕ) → Option (List ℕ) → Type 0
+LeavesMade result made kept = IfErr result (λ fault. fault ≢ faults.WriteFailed → fault ≢ faults.OutOfMemory
+    → (kept ≡ None) ⊎ Keeps made kept)
+
 -- ---- dark cells
 
 -- 0, or that of the fault
@@ -66,6 +72,7 @@ pub record AnswersDark (sources : Sources) (file : List ℕ) (table : Option (Li
       BeginsDark bytes rows rule old new))
   pub fault : IfErr result (λ fault. IsOfInput fault → IsOfTable sources table fault
       ⊎ Known sources file table (λ bytes rows. IsFaultOfInput bytes rows fault))
+  pub lacking : LacksStructure sources file ⊎ LacksTable sources table → IsUnread result
 
 -- ---- plans
 
@@ -74,33 +81,20 @@ abbrev pub plan_status : Result Outcome RunFault → ℕ
 plan_status (Ok outcome) = end_status outcome
 plan_status (Err fault) = status fault
 
--- the plan was written, and its proof
-pub record PlansSome (bytes : List ℕ) (table : Option (List ℕ)) (rule : Rule) (allowance : Allowance) (outcome : Outcome)
-    (old new : Option (List ℕ)) : Type 0 where
-  -- what was written of the proof before
-  pub before : Option (List ℕ)
-  pub after : Option (List ℕ)
-  pub plans : Plans bytes table rule allowance outcome old new before after
-
--- a beginning of the plan was written, and of its proof
-pub record BeginsSome (bytes : List ℕ) (table : Option (List ℕ)) (rule : Rule) (allowance : Allowance)
-    (old new : Option (List ℕ)) : Type 0 where
-  -- what was written of the proof before
-  pub before : Option (List ℕ)
-  pub after : Option (List ℕ)
-  pub begins : BeginsPlan bytes table rule allowance old new before after
-
--- the plan was written, and its proof to some file or to none, or the fault is that of a long table or the structure's
-pub record AnswersPlan (sources : Sources) (file : List ℕ) (table : Option (List ℕ)) (rule : Rule)
-    (allowance : Allowance) (old new : Option (List ℕ)) (result : Result Outcome RunFault) : Type 0 where
+-- the plan was written, and its proof to the file that was made by the name `out`, where one is named; or the fault is
+-- that of a long table or the structure's. That file holds `kept` then
+pub record AnswersPlan (sources : Sources) (file : List ℕ) (table out : Option (List ℕ)) (rule : Rule)
+    (allowance : Allowance) (old new kept : Option (List ℕ)) (result : Result Outcome RunFault) : Type 0 where
   pub done : IfOk result (λ outcome. Known sources file table (λ bytes rows.
-      PlansSome bytes rows rule allowance outcome old new))
+      Plans bytes rows rule allowance outcome old new (made_in sources out) kept))
   pub left : LeavesOutput result old new
   pub begun : IfErr result (λ fault. fault ≡ faults.WriteFailed → Keeps old new ⊎ Known sources file table
-      (λ bytes rows. BeginsSome bytes rows rule allowance old new))
+      (λ bytes rows. BeginsPlan bytes rows rule allowance old new (made_in sources out) kept))
   pub fault : IfErr result (λ fault. IsOfInput fault → fault ≢ faults.NoThread → IsOfTable sources table fault
       ⊎ Known sources file table (λ bytes rows. IsNoPlanOfInput bytes rows rule fault))
   pub threads : IfErr result (λ fault. fault ≡ faults.NoThread → 1 < allowance.workers)
+  pub untouched : LeavesMade result (made_in sources out) kept
+  pub lacking : LacksStructure sources file ⊎ LacksTable sources table → IsUnread result
 
 -- ---- verdicts
 
@@ -120,6 +114,8 @@ pub record AnswersCheck (sources : Sources) (file proof : List ℕ) (table : Opt
   pub fault : IfErr result (λ fault. IsOfInput fault → IsOfTable sources table fault
       ⊎ IfSome (table_in sources table) (λ rows.
       IsNoVerdict (structure_in sources file) rows (sources.files proof) fault))
+  pub lacking : LacksStructure sources file ⊎ LacksTable sources table ⊎ IsTrue (sources.missing proof)
+      → IsUnread result
 
 -- ---- requests
 
@@ -129,10 +125,10 @@ RunsDark sources file table rule old new code = (result : Result (Unit {0}) RunF
     × (code ≡ dark_status result) × AnswersDark sources file table rule old new result
 
 -- a run of a plan that ends with this status
-abbrev pub RunsPlan : Sources → List ℕ → Option (List ℕ) → Rule → Allowance → Option (List ℕ)
-    → Option (List ℕ) → ℕ → Type 0
-RunsPlan sources file table rule allowance old new code = (result : Result Outcome RunFault)
-    × (code ≡ plan_status result) × AnswersPlan sources file table rule allowance old new result
+abbrev pub RunsPlan : Sources → List ℕ → Option (List ℕ) → Option (List ℕ) → Rule → Allowance → Option (List ℕ)
+    → Option (List ℕ) → Option (List ℕ) → ℕ → Type 0
+RunsPlan sources file table out rule allowance old new kept code = (result : Result Outcome RunFault)
+    × (code ≡ plan_status result) × AnswersPlan sources file table out rule allowance old new kept result
 
 -- a run of a check that ends with this status
 abbrev pub RunsCheck : Sources → List ℕ → List ℕ → Option (List ℕ) → Rule → Option (List ℕ) → Option (List ℕ)
@@ -140,21 +136,25 @@ abbrev pub RunsCheck : Sources → List ℕ → List ℕ → Option (List ℕ) �
 RunsCheck sources file proof table rule old new code = (result : Result Verdict RunFault)
     × (code ≡ check_status result) × AnswersCheck sources file proof table rule old new result
 
--- what was asked for was done: the run of these files, by this table and rule, ended with this status; or the file for
--- the proof may be one that is read, or the output, and nothing was done
-abbrev pub Does : Sources → Request → Option (List ℕ) → Option (List ℕ) → ℕ → Type 0
-Does sources (Dark file table rule progress) old new code =
+-- what was asked for was done: the run of these files, by this table and rule, ended with this status, and left `kept`
+-- in the file for the proof; or that file may be one that is read, or the output, and nothing was done
+abbrev pub Does : Sources → Request → Option (List ℕ) → Option (List ℕ) → Option (List ℕ) → ℕ → Type 0
+Does sources (Dark file table rule progress) old new kept code =
     RunsDark sources file.now (option_copied table) (rule_of rule) old new code
-Does sources (Plan file table opts proof progress) old new code =
+Does sources (Plan file table opts proof progress) old new kept code =
     (MayOverwrite sources (option_copied proof) file.now (option_copied table) × (code ≡ 2) × Keeps old new)
     ⊎ (MayStandApart sources (option_copied proof) file.now (option_copied table)
-    × RunsPlan sources file.now (option_copied table) (rule_of opts.rule) (given opts.workers.number opts.turns)
-    old new code)
-Does sources (Check file proof table rule) old new code =
+    × RunsPlan sources file.now (option_copied table) (option_copied proof) (rule_of opts.rule)
+    (given opts.workers.number opts.turns) old new kept code)
+Does sources (Check file proof table rule) old new kept code =
     RunsCheck sources file.now proof.now (option_copied table) (rule_of rule) old new code
 
 -- the words are well formed, and what they ask for was done; or nothing was, and they were explained
-abbrev pub Answers : Sources → List (List ℕ) → Option (List ℕ) → Option (List ℕ) → ℕ → Type 0
-Answers sources words old new code =
-    (AreWellFormed words × (request : Request) × IsAsked words request × Does sources request old new code)
+abbrev pub Answers : Sources → List (List ℕ) → Option (List ℕ) → Option (List ℕ) → Option (List ℕ) → ℕ → Type 0
+Answers sources words old new kept code =
+    (AreWellFormed words × (request : Request) × IsAsked words request × Does sources request old new kept code)
     ⊎ (Keeps old new × IsExplained words code)
+
+-- so it is, whatever the file for the proof holds
+abbrev pub AnswersSome : Sources → List (List ℕ) → Option (List ℕ) → Option (List ℕ) → ℕ → Type 0
+AnswersSome sources words old new code = (kept : Option (List ℕ)) × Answers sources words old new kept code

@@ -1,8 +1,10 @@
 -- public clauses cite
 pub mod Status
 pub mod Sources
+pub mod Kept
 pub mod Answers
 pub mod Usage
 pub mod Given
+pub mod Memory
 -- private
 pub mod Crew

@@ -2,7 +2,8 @@
 ghost use Rattle.std.specs.Io.KnownBytes.{Keeps};
 ghost use Rattle.std.specs.Prelude.{◌≡◌, ◌⊎◌, IsFalse, IsTrue, map, option_copied, string_bytes};
 ghost use Rattle.clap.specs.Words.{kind_of};
-ghost use Rattle.torch_plan.specs.Answers.{Answers, Does};
+ghost use Rattle.torch_plan.specs.Answers.{Answers, AnswersSome, Does};
+ghost use Rattle.torch_plan.specs.Kept.{held_by};
 ghost use Rattle.torch_plan.specs.Sources.{MayOverwrite, MayStandApart};
 ghost use Rattle.torch_plan.specs.Status.{IsRefused, end_status, judged, status};
 ghost use Rattle.torch_plan.specs.Usage.{explained_status};
@@ -88,7 +89,7 @@ fn is_overwriting<S: System>(
     }
 }
 
-/// Does what was asked for.
+/// Does what was asked for, and hands back the file for a proof, where one was made.
 fn answered<X: Threads + Wait + Sync, S: System, O: Watcher, W: Write>(
     threads: &X,
     alloc: Global,
@@ -96,9 +97,10 @@ fn answered<X: Threads + Wait + Sync, S: System, O: Watcher, W: Write>(
     observer: &O,
     request: &Request<'_>,
     output: &mut W,
-) -> u8
-    ensures does { Does (S.sources system.now) request.now (W.contents output.old) (W.contents output.new) result }
-    ensures silent { IsRefused result → Keeps (W.contents output.old) (W.contents output.new) }
+) -> (u8, Option<S::Kept>)
+    ensures does { Does (S.sources system.now) request.now (W.contents output.old) (W.contents output.new)
+        (held_by S.Kept.contents result.1) result.0 }
+    ensures silent { IsRefused result.0 → Keeps (W.contents output.old) (W.contents output.new) }
 {
     match *request {
         Request::Dark {
@@ -109,8 +111,8 @@ fn answered<X: Threads + Wait + Sync, S: System, O: Watcher, W: Write>(
         } => {
             system.watch(progress);
             match answer_dark(alloc, system, file, table, rule, observer, output) {
-                Ok(()) => 0,
-                Err(fault) => refused(system, &fault),
+                Ok(()) => (0, None),
+                Err(fault) => (refused(system, &fault), None),
             }
         }
         Request::Plan {
@@ -124,14 +126,15 @@ fn answered<X: Threads + Wait + Sync, S: System, O: Watcher, W: Write>(
                 system.print_mistake(
                     "--proof would write over a file that is read, or over the output",
                 );
-                return 2;
+                return (2, None);
             }
             system.watch(progress);
-            match answer_plan(
+            let (result, kept) = answer_plan(
                 threads, alloc, system, file, table, &opts, observer, proof, output,
-            ) {
-                Ok(outcome) => status_of_plan(outcome),
-                Err(fault) => refused(system, &fault),
+            );
+            match result {
+                Ok(outcome) => (status_of_plan(outcome), kept),
+                Err(fault) => (refused(system, &fault), kept),
             }
         }
         Request::Check {
@@ -140,8 +143,8 @@ fn answered<X: Threads + Wait + Sync, S: System, O: Watcher, W: Write>(
             table,
             rule,
         } => match answer_check(alloc, system, file, proof, table, rule, output) {
-            Ok(verdict) => status_of_check(verdict),
-            Err(fault) => refused(system, &fault),
+            Ok(verdict) => (status_of_check(verdict), None),
+            Err(fault) => (refused(system, &fault), None),
         },
     }
 }
@@ -161,13 +164,30 @@ pub fn answer<X: Threads + Wait + Sync, S: System, O: Watcher, W: Write>(
 ) -> u8
     // Where the words are well formed, what they ask for is done over the system's files; else help is explained where
     // they ask for it, or the mistake in usage that they make.
-    ensures does { Answers (S.sources system.now) (map (λ word. string_bytes word) words.now)
+    ensures does { AnswersSome (S.sources system.now) (map (λ word. string_bytes word) words.now)
         (W.contents output.old) (W.contents output.new) result }
     // A refused input, a mistake in usage, and refused memory or threads leave the output as it was.
     ensures silent { IsRefused result → Keeps (W.contents output.old) (W.contents output.new) }
 {
+    answer_kept(threads, alloc, system, observer, words, output).0
+}
+
+/// As `answer`, and hands back the file that was made for a proof, if one was.
+pub fn answer_kept<X: Threads + Wait + Sync, S: System, O: Watcher, W: Write>(
+    threads: &X,
+    alloc: Global,
+    system: &S,
+    observer: &O,
+    words: &[String],
+    output: &mut W,
+) -> (u8, Option<S::Kept>)
+    // As of `answer`; what that file holds is the certificate.
+    ensures does { Answers (S.sources system.now) (map (λ word. string_bytes word) words.now)
+        (W.contents output.old) (W.contents output.new) (held_by S.Kept.contents result.1) result.0 }
+    ensures silent { IsRefused result.0 → Keeps (W.contents output.old) (W.contents output.new) }
+{
     match request_of(alloc, words) {
         Ok(request) => answered(threads, alloc, system, observer, &request, output),
-        Err(error) => explained(system, &error),
+        Err(error) => (explained(system, &error), None),
     }
 }

@@ -4,19 +4,21 @@
 mod advance;
 mod answering;
 mod crew;
+mod memory;
 mod planner;
 mod runs;
 mod status;
 mod system;
 
 pub use advance::Advance;
-pub use answering::answer;
+pub use answering::{answer, answer_kept};
 pub use cave_model::Rule;
 pub use cave_runs::{
     Input, Name, Observer, OpenSides, Outcome, RunFault, Unkept, Unobserved, Verdict, Watcher,
     read_table, run_check, run_dark,
 };
 pub use command_words::{Request, request_of};
+pub use memory::{Ended, NamedFile, answer_in_memory};
 pub use plan_options::{PlanOpts, Workers};
 pub use planner::{run_plan, run_plan_alone};
 pub use status::status_of;

@@ -2,13 +2,15 @@
 ghost use Rattle.std.specs.Io.KnownBytes.{Keeps};
 ghost use Rattle.std.specs.Prelude.{◌≡◌, ◌≢◌, ◌<◌, ◌⊎◌, IfErr, IfOk, IfSome, option_copied, option_map};
 ghost use Rattle.cave_model.specs.RuleOf.{rule_of};
-ghost use Rattle.cave_runs.specs.PlanRuns.{IsNoPlanOfInput};
+ghost use Rattle.cave_runs.specs.PlanRuns.{BeginsPlan, IsNoPlanOfInput, Plans};
 ghost use Rattle.cave_runs.specs.Runs.{IsOfInput};
 ghost use Rattle.cave_runs.specs.declared.fault.Input.TheVariants.{TableInput};
 ghost use Rattle.cave_runs.specs.declared.fault.RunFault.{RunFault};
-ghost use Rattle.torch_plan.specs.Answers.{AnswersCheck, AnswersDark, AnswersPlan, BeginsSome, LeavesOutput, PlansSome};
-ghost use Rattle.torch_plan.specs.Answers.{IsOfTable, table_in};
+ghost use Rattle.torch_plan.specs.Answers.{AnswersCheck, AnswersDark, AnswersPlan, IsOfTable, LeavesMade};
+ghost use Rattle.torch_plan.specs.Answers.{LeavesOutput, table_in};
 ghost use Rattle.torch_plan.specs.Given.{given};
+ghost use Rattle.torch_plan.specs.Kept.{held_by};
+ghost use Rattle.torch_plan.specs.Sources.{LacksTable, made_in};
 
 use crate::planner::run_plan;
 use crate::system::System;
@@ -32,6 +34,7 @@ fn table_of<S: System>(
         ⊎ (e ≡ RunFault.OutOfMemory)) }
     ensures long { IfErr result (λ e. IsOfInput e
         → IsOfTable (S.sources system.now) (option_copied table.entry) e) }
+    ensures there { IfOk result (λ _. ¬ LacksTable (S.sources system.now) (option_copied table.entry)) }
 {
     let Some(path) = table else {
         return Ok(None);
@@ -66,7 +69,7 @@ pub(crate) fn answer_dark<S: System, O: Watcher, W: Write>(
     }
 }
 
-/// Plans what the reader has. The file for the proof is made, or emptied, before it is read.
+/// Plans what the reader has. The file for the proof is made, or emptied, before it is read, and handed back.
 fn plan_from<X: Threads + Wait + Sync, S: System, O: Watcher, R: Read, W: Write>(
     threads: &X,
     alloc: Global,
@@ -77,21 +80,25 @@ fn plan_from<X: Threads + Wait + Sync, S: System, O: Watcher, R: Read, W: Write>
     observer: &O,
     proof: Option<&str>,
     output: &mut W,
-) -> Result<Outcome, RunFault>
-    ensures done { IfOk result (λ outcome. IfSome (R.remaining reader.old) (λ bytes.
-        PlansSome bytes (option_copied table.entry) (rule_of opts.now.rule)
-        (given opts.now.workers.number opts.now.turns) outcome
-        (W.contents output.old) (W.contents output.new))) }
-    ensures left { LeavesOutput result (W.contents output.old) (W.contents output.new) }
-    ensures begun { IfErr result (λ e. e ≡ RunFault.WriteFailed → Keeps (W.contents output.old) (W.contents output.new)
-        ⊎ IfSome (R.remaining reader.old) (λ bytes. BeginsSome bytes (option_copied table.entry) (rule_of opts.now.rule)
-        (given opts.now.workers.number opts.now.turns) (W.contents output.old) (W.contents output.new))) }
-    ensures fault { IfErr result (λ e. IsOfInput e → e ≢ RunFault.NoThread → IfSome (R.remaining reader.old)
+) -> (Result<Outcome, RunFault>, Option<S::Kept>)
+    ensures done { IfOk result.0 (λ outcome. IfSome (R.remaining reader.old) (λ bytes.
+        Plans bytes (option_copied table.entry) (rule_of opts.now.rule)
+        (given opts.now.workers.number opts.now.turns) outcome (W.contents output.old) (W.contents output.new)
+        (made_in (S.sources system.now) (option_copied proof.entry)) (held_by S.Kept.contents result.1))) }
+    ensures left { LeavesOutput result.0 (W.contents output.old) (W.contents output.new) }
+    ensures begun { IfErr result.0 (λ e. e ≡ RunFault.WriteFailed
+        → Keeps (W.contents output.old) (W.contents output.new)
+        ⊎ IfSome (R.remaining reader.old) (λ bytes. BeginsPlan bytes (option_copied table.entry) (rule_of opts.now.rule)
+        (given opts.now.workers.number opts.now.turns) (W.contents output.old) (W.contents output.new)
+        (made_in (S.sources system.now) (option_copied proof.entry)) (held_by S.Kept.contents result.1))) }
+    ensures fault { IfErr result.0 (λ e. IsOfInput e → e ≢ RunFault.NoThread → IfSome (R.remaining reader.old)
         (λ bytes. IsNoPlanOfInput bytes (option_copied table.entry) (rule_of opts.now.rule) e)) }
-    ensures threads { IfErr result (λ e. e ≡ RunFault.NoThread → 1 < opts.now.workers.number) }
+    ensures threads { IfErr result.0 (λ e. e ≡ RunFault.NoThread → 1 < opts.now.workers.number) }
+    ensures untouched { LeavesMade result.0 (made_in (S.sources system.now) (option_copied proof.entry))
+        (held_by S.Kept.contents result.1) }
 {
     let Some(path) = proof else {
-        return run_plan(
+        let result = run_plan(
             threads,
             alloc,
             reader,
@@ -101,16 +108,20 @@ fn plan_from<X: Threads + Wait + Sync, S: System, O: Watcher, R: Read, W: Write>
             output,
             &mut Unkept,
         );
+        return (result, None);
     };
     match system.create(path) {
-        Some(mut kept) => run_plan(
-            threads, alloc, reader, table, opts, observer, output, &mut kept,
-        ),
-        None => Err(RunFault::WriteFailed),
+        Some(mut kept) => {
+            let result = run_plan(
+                threads, alloc, reader, table, opts, observer, output, &mut kept,
+            );
+            (result, Some(kept))
+        }
+        None => (Err(RunFault::WriteFailed), None),
     }
 }
 
-/// The plan of a structure.
+/// The plan of a structure, and the file for its proof, where one was made.
 pub(crate) fn answer_plan<X: Threads + Wait + Sync, S: System, O: Watcher, W: Write>(
     threads: &X,
     alloc: Global,
@@ -121,11 +132,15 @@ pub(crate) fn answer_plan<X: Threads + Wait + Sync, S: System, O: Watcher, W: Wr
     observer: &O,
     proof: Option<&str>,
     output: &mut W,
-) -> Result<Outcome, RunFault>
-    ensures { AnswersPlan (S.sources system.now) file.now (option_copied table.entry) (rule_of opts.now.rule)
-        (given opts.now.workers.number opts.now.turns) (W.contents output.old) (W.contents output.new) result }
+) -> (Result<Outcome, RunFault>, Option<S::Kept>)
+    ensures { AnswersPlan (S.sources system.now) file.now (option_copied table.entry) (option_copied proof.entry)
+        (rule_of opts.now.rule) (given opts.now.workers.number opts.now.turns)
+        (W.contents output.old) (W.contents output.new) (held_by S.Kept.contents result.1) result.0 }
 {
-    let table = table_of(alloc, system, table)?;
+    let table = match table_of(alloc, system, table) {
+        Ok(table) => table,
+        Err(fault) => return (Err(fault), None),
+    };
     let table = table.as_deref();
     if file == "-" {
         let mut input = system.standard();
@@ -137,7 +152,7 @@ pub(crate) fn answer_plan<X: Threads + Wait + Sync, S: System, O: Watcher, W: Wr
         Some(mut input) => plan_from(
             threads, alloc, system, &mut input, table, opts, observer, proof, output,
         ),
-        None => Err(RunFault::ReadFailed),
+        None => (Err(RunFault::ReadFailed), None),
     }
 }
 

@@ -1,5 +1,5 @@
 //! What the program asks of the system that it runs on: files, streams, and words for its user.
-ghost use Rattle.std.specs.Prelude.{◌≡◌, IfSome};
+ghost use Rattle.std.specs.Prelude.{◌≡◌, IfSome, IsFalse};
 ghost use Rattle.torch_plan.specs.Sources.{Sources};
 
 use cave_runs::RunFault;
@@ -8,7 +8,7 @@ use std::io::{Read, Write};
 
 /// The files and streams of a run. The program has those of its host, of which no bytes are known, tests their own.
 pub trait System {
-    // What is known of the bytes of its files and of standard input.
+    // What is known of its files and of standard input.
     ghost sources: { Self → Sources };
 
     /// A file that is read.
@@ -22,14 +22,16 @@ pub trait System {
 
     /// Opens a file to read it. None where that fails.
     fn open(&self, path: &str) -> Option<Self::File>
-        ensures { IfSome result (λ file. Self.File.remaining file ≡ (sources self.now).files path.now) };
+        ensures bytes { IfSome result (λ file. Self.File.remaining file ≡ (sources self.now).files path.now) }
+        ensures there { IfSome result (λ file. IsFalse ((sources self.now).missing path.now)) };
 
     /// Standard input.
     fn standard(&self) -> Self::Standard
         ensures { Self.Standard.remaining result ≡ (sources self.now).input };
 
     /// Makes a file, or empties the one that is there. None where that fails.
-    fn create(&self, path: &str) -> Option<Self::Kept>;
+    fn create(&self, path: &str) -> Option<Self::Kept>
+        ensures { IfSome result (λ kept. Self.Kept.contents kept ≡ (sources self.now).made path.now) };
 
     /// Whether writing to the one file would write over the other. `-` is standard input.
     fn is_same(&self, path: &str, other: &str) -> bool

@@ -75,11 +75,13 @@ impl Write for &Notes {
 }
 
 impl<'a> System for Shelf<'a> {
-    ghost use Rattle.std.specs.Prelude.{None};
+    ghost use Rattle.std.specs.Prelude.{None, false};
 
     ghost sources = { λ _. record {
       files = λ _. None;
+      missing = λ _. false;
       input = None;
+      made = λ _. None;
       same = λ _ _. None;
       over = λ _. None;
     } };

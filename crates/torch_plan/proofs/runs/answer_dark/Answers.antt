@@ -2,7 +2,7 @@ use Rattle.std.proofs.Common.{◌∙◌, sym}
 use Rattle.std.specs.Prelude.{option_copied}
 use Rattle.cave_model.specs.RuleOf.{rule_of}
 use Rattle.torch_plan.specs.Answers.{table_in}
-use Rattle.torch_plan.proofs.RunLemmas.{dark_answered, file_in, standard_in, told_as}
+use Rattle.torch_plan.proofs.RunLemmas.{dark_answered, file_in, standard_in, there_at_file, there_at_standard, told_as}
 use Rattle.command_words.proofs.WordLemmas.{copied}
 use Rattle.torch_plan.proofs.runs.answer_dark.Goals as goal
 
@@ -16,6 +16,8 @@ returns-then-eq g c =
     dark_answered sources file (option_copied c.args.table) (rule_of c.args.rule) (g.W.Write.contents c.args.output.now)
     (g.W.Write.contents run.new.writer) _ (option_copied rows.result) run.result same told run.ensures.done
     run.ensures.untouched run.ensures.begun run.ensures.fault
+    (there_at_standard sources file (option_copied c.args.table)
+    (sym c.eq.ensures ∙ c.if-eq.true) c.in_ok-table.ensures.there)
 
 pub returns-in-Some : goal.returns-in-Some
 returns-in-Some g c =
@@ -23,7 +25,8 @@ returns-in-Some g c =
     let rows = c.as_deref-table in let run = c.run_dark-in-Some in
     let told = told_as (table_in sources (option_copied c.args.table)) (option_copied rows.result) _
     (sym (copied rows.result) ∙ rows.ensures.value) c.in_ok-table.ensures.known in
-    let same = c.in-Some.ensures ∙ sym (file_in sources file (sym c.eq.ensures ∙ c.if-eq.false)) in
+    let same = c.in-Some.ensures.bytes ∙ sym (file_in sources file (sym c.eq.ensures ∙ c.if-eq.false)) in
     dark_answered sources file (option_copied c.args.table) (rule_of c.args.rule) (g.W.Write.contents c.args.output.now)
     (g.W.Write.contents run.new.writer) _ (option_copied rows.result) run.result same told run.ensures.done
     run.ensures.untouched run.ensures.begun run.ensures.fault
+    (there_at_file sources file (option_copied c.args.table) c.in-Some.ensures.there c.in_ok-table.ensures.there)

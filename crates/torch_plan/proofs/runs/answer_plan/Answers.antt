@@ -3,7 +3,8 @@ use Rattle.std.specs.Prelude.{option_copied}
 use Rattle.cave_model.specs.RuleOf.{rule_of}
 use Rattle.torch_plan.specs.Answers.{table_in}
 use Rattle.torch_plan.specs.Given.{given}
-use Rattle.torch_plan.proofs.RunLemmas.{file_in, plan_answered, standard_in, told_as}
+use Rattle.torch_plan.specs.Kept.{held_by}
+use Rattle.torch_plan.proofs.RunLemmas.{file_in, plan_answered, standard_in, there_at_file, there_at_standard, told_as}
 use Rattle.command_words.proofs.WordLemmas.{copied}
 use Rattle.torch_plan.proofs.runs.answer_plan.Goals as goal
 
@@ -12,19 +13,25 @@ returns-then-eq g c =
     let sources = g.S.System.sources c.args.system.now in let file = c.args.file.now in
     let opts = c.args.opts.now in let rows = c.as_deref-table in let run = c.plan_from in
     let told = told_as (table_in sources (option_copied c.args.table)) (option_copied rows.result) _
-    (sym (copied rows.result) ∙ rows.ensures.value) c.in_ok-table.ensures.known in
+    (sym (copied rows.result) ∙ rows.ensures.value) c.in-Ok.ensures.known in
     let same = c.standard-input.ensures ∙ sym (standard_in sources file (sym c.eq.ensures ∙ c.if-eq.true)) in
-    plan_answered sources file (option_copied c.args.table) (rule_of opts.rule) (given opts.workers.number opts.turns)
-    (g.W.Write.contents c.args.output.now) (g.W.Write.contents run.new.output) _ (option_copied rows.result) run.result
-    same told run.ensures.done run.ensures.left run.ensures.begun run.ensures.fault run.ensures.threads
+    plan_answered sources file (option_copied c.args.table) (option_copied c.args.proof) (rule_of opts.rule)
+    (given opts.workers.number opts.turns) (g.W.Write.contents c.args.output.now) (g.W.Write.contents run.new.output)
+    (held_by g.S.Kept.Write.contents run.result.1) _ (option_copied rows.result) run.result.0 same told
+    run.ensures.done run.ensures.left run.ensures.begun run.ensures.fault run.ensures.threads
+    run.ensures.untouched (there_at_standard sources file (option_copied c.args.table)
+    (sym c.eq.ensures ∙ c.if-eq.true) c.in-Ok.ensures.there)
 
 pub returns-in-Some : goal.returns-in-Some
 returns-in-Some g c =
     let sources = g.S.System.sources c.args.system.now in let file = c.args.file.now in
     let opts = c.args.opts.now in let rows = c.as_deref-table in let run = c.plan_from-in-Some in
     let told = told_as (table_in sources (option_copied c.args.table)) (option_copied rows.result) _
-    (sym (copied rows.result) ∙ rows.ensures.value) c.in_ok-table.ensures.known in
-    let same = c.in-Some.ensures ∙ sym (file_in sources file (sym c.eq.ensures ∙ c.if-eq.false)) in
-    plan_answered sources file (option_copied c.args.table) (rule_of opts.rule) (given opts.workers.number opts.turns)
-    (g.W.Write.contents c.args.output.now) (g.W.Write.contents run.new.output) _ (option_copied rows.result) run.result
-    same told run.ensures.done run.ensures.left run.ensures.begun run.ensures.fault run.ensures.threads
+    (sym (copied rows.result) ∙ rows.ensures.value) c.in-Ok.ensures.known in
+    let same = c.in-Some.ensures.bytes ∙ sym (file_in sources file (sym c.eq.ensures ∙ c.if-eq.false)) in
+    plan_answered sources file (option_copied c.args.table) (option_copied c.args.proof) (rule_of opts.rule)
+    (given opts.workers.number opts.turns) (g.W.Write.contents c.args.output.now) (g.W.Write.contents run.new.output)
+    (held_by g.S.Kept.Write.contents run.result.1) _ (option_copied rows.result) run.result.0 same told
+    run.ensures.done run.ensures.left run.ensures.begun run.ensures.fault run.ensures.threads
+    run.ensures.untouched (there_at_file sources file (option_copied c.args.table)
+    c.in-Some.ensures.there c.in-Ok.ensures.there)
