@@ -107,8 +107,8 @@ wrote files input output proof code (Plan file table opts out progress) (inr (ap
         also (structure_in known file.now) read.0
             (λ bytes. Plans bytes read.1 (rule_of opts.rule) allowance outcome (Some []) (Some output) made proof)
             read.2.structure (resolved (table_in known (option_copied table)) read.1
-            (λ rows. IfSome (structure_in known file.now) (λ bytes. Plans bytes rows (rule_of opts.rule) allowance outcome
-            (Some []) (Some output) made proof)) read.2.user run.done),
+            (λ rows. IfSome (structure_in known file.now) (λ bytes. Plans bytes rows (rule_of opts.rule) allowance
+            outcome (Some []) (Some output) made proof)) read.2.user run.done),
       ),
     )
 wrote files input output proof code (Plan file table opts out progress) (inr (apart, (Err fault, is, run))) of =
@@ -126,11 +126,12 @@ wrote files input output proof code (Check file certificate table rule) (Ok verd
         text.1,
         verdict,
         is,
-        subst (λ (t : Option (List ℕ)). WritesVerdict (Some read.0) read.1 (rule_of rule) t (Some []) (Some output) verdict)
-            text.1 (subst (λ (s : Option (List ℕ)). WritesVerdict s read.1 (rule_of rule) (bytes_at files certificate.now)
-            (Some []) (Some output) verdict) read.2.structure (resolved (table_in known (option_copied table)) read.1
-            (λ rows. WritesVerdict (structure_in known file.now) rows (rule_of rule) (bytes_at files certificate.now) (Some [])
-            (Some output) verdict) read.2.user run.done)),
+        subst (λ (t : Option (List ℕ)). WritesVerdict (Some read.0) read.1 (rule_of rule) t (Some []) (Some output)
+            verdict) text.1 (subst (λ (s : Option (List ℕ)). WritesVerdict s read.1 (rule_of rule)
+            (bytes_at files certificate.now) (Some []) (Some output) verdict) read.2.structure
+            (resolved (table_in known (option_copied table)) read.1
+            (λ rows. WritesVerdict (structure_in known file.now) rows (rule_of rule) (bytes_at files certificate.now)
+            (Some []) (Some output) verdict) read.2.user run.done)),
       ),
     )
 wrote files input output proof code (Check file certificate table rule) (Err fault, is, run) of =
