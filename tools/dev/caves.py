@@ -78,6 +78,84 @@ def mine(seed, size):
     return cells
 
 
+def open_from(floor_of, size, high=2):
+    """Air so many layers high above each column that has a floor, within walls."""
+    x_side, y_side, z_side = size
+    cells = {}
+    for (x, z), floor in floor_of.items():
+        if 0 < x < x_side - 1 and 0 < z < z_side - 1:
+            cells.update({(x, y, z): AIR for y in range(floor + 1, min(floor + 1 + high, y_side))})
+    return cells
+
+
+def grotto(seed, size):
+    """A flat cave with ragged walls: noise, smoothed four times."""
+    rng = random.Random(seed)
+    x_side, _, z_side = size
+    columns = [(x, z) for x in range(x_side) for z in range(z_side)]
+    is_open = {at: rng.random() < 0.56 for at in columns}
+    for _ in range(4):
+        near = lambda x, z: sum(is_open.get((x + i, z + j), False) for i in (-1, 0, 1) for j in (-1, 0, 1))
+        is_open = {at: near(*at) >= 5 for at in columns}
+    return open_from({at: 0 for at in columns if is_open[at]}, size, 3)
+
+
+def rooms(seed, size):
+    """Rooms of many sizes on one floor, each joined to the next by a corridor with a bend."""
+    rng = random.Random(seed)
+    x_side, _, z_side = size
+    floor, last = {}, None
+    for _ in range(x_side * z_side // 180):
+        w, d = rng.randrange(3, 11), rng.randrange(3, 11)
+        x, z = rng.randrange(1, x_side - w - 1), rng.randrange(1, z_side - d - 1)
+        floor.update({(x + i, z + j): 0 for i in range(w) for j in range(d)})
+        if last:
+            floor.update({(i, last[1]): 0 for i in range(min(x, last[0]), max(x, last[0]) + 1)})
+            floor.update({(x, j): 0 for j in range(min(z, last[1]), max(z, last[1]) + 1)})
+        last = x, z
+    return open_from(floor, size)
+
+
+def ledge(seed, size):
+    """A slope of ledges: steps of a level or more, which light has to climb."""
+    rng = random.Random(seed)
+    x_side, y_side, z_side = size
+    heights = {(x, z): 0 for x in range(x_side) for z in range(z_side)}
+    for _ in range(x_side * z_side // 90):
+        cx, cz, r = rng.randrange(x_side), rng.randrange(z_side), rng.randrange(3, 12)
+        step = rng.choice((-2, -1, 1, 2))
+        for at in heights:
+            if (at[0] - cx) ** 2 + (at[1] - cz) ** 2 <= r * r:
+                heights[at] = min(max(heights[at] + step, 0), y_side - 4)
+    return open_from(heights, size, 3)
+
+
+def pillars(seed, size):
+    """A hall with a pillar here and there."""
+    rng = random.Random(seed)
+    x_side, _, z_side = size
+    columns = [(x, z) for x in range(x_side) for z in range(z_side)]
+    return open_from({at: 0 for at in columns if rng.random() > 0.03}, size, 3)
+
+
+def tunnels(seed, size):
+    """Winding tunnels, one or two wide, that cross."""
+    rng = random.Random(seed)
+    x_side, _, z_side = size
+    floor = {}
+    for _ in range(x_side * z_side // 500 + 1):
+        x, z = rng.randrange(2, x_side - 2), rng.randrange(2, z_side - 2)
+        dx, dz = rng.choice(((1, 0), (-1, 0), (0, 1), (0, -1)))
+        for _ in range(rng.randrange(30, 90)):
+            floor[x, z] = 0
+            if rng.random() < 0.3:
+                floor[x + abs(dz), z + abs(dx)] = 0
+            if rng.random() < 0.2:
+                dx, dz = rng.choice(((dz, dx), (-dz, -dx)))
+            x, z = min(max(x + dx, 2), x_side - 3), min(max(z + dz, 2), z_side - 3)
+    return open_from(floor, size)
+
+
 def ring():
     """A ring of 28 cells round an 8 x 8 square, two high, in a box of 10 x 4 x 10."""
     return {(x, y, z): AIR for x in range(1, 9) for y in (1, 2) for z in range(1, 9) if x in (1, 8) or z in (1, 8)}

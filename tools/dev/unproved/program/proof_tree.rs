@@ -39,10 +39,24 @@ impl Kids {
 pub enum Proof {
     Leaf(Sequence<u32>),
     Weighted(Sequence<Group>),
-    Branch { cell: u32, kids: Kids },
-    Bar { place: u32, by: u32, kid: Below },
-    Omit { cells: Sequence<u32>, kid: Below },
-    Pick { place: u32, with: Below, without: Below },
+    Branch {
+        cell: u32,
+        kids: Kids,
+    },
+    Bar {
+        place: u32,
+        by: u32,
+        kid: Below,
+    },
+    Omit {
+        cells: Sequence<u32>,
+        kid: Below,
+    },
+    Pick {
+        place: u32,
+        with: Below,
+        without: Below,
+    },
 }
 
 /// A place to leave out, and one that does as well.

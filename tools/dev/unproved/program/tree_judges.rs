@@ -227,6 +227,8 @@ fn avoids(tree: &Proof, cells: &[u64]) -> bool {
         }
         Proof::Bar { kid, .. } => avoids(kid.tree(), cells),
         Proof::Omit { cells: more, kid } => are_out(more.as_slice()) && avoids(kid.tree(), cells),
-        Proof::Pick { with, without, .. } => avoids(with.tree(), cells) && avoids(without.tree(), cells),
+        Proof::Pick { with, without, .. } => {
+            avoids(with.tree(), cells) && avoids(without.tree(), cells)
+        }
     }
 }
