@@ -6,3 +6,6 @@ decreases-lessened l = 2 * l.room
 
 abbrev pub decreases-all_lessened : goal.decreases-all_lessened
 decreases-all_lessened l = 2 * l.room + 1
+
+abbrev pub decreases-picked : goal.decreases-picked
+decreases-picked l = 2 * l.room + 1
