@@ -77,10 +77,23 @@ pub(crate) fn sum(numbers: &[i64]) -> i64 {
     sum
 }
 
-/// Moves the numbers this part of the way to those ahead.
-pub(crate) fn move_on(numbers: &mut [i64], ahead: &[i64], part: i64) {
+/// Sets the numbers to the others.
+pub(crate) fn copy_all(numbers: &mut [i64], others: &[i64]) {
     for index in 0..numbers.len() {
-        let way = at(ahead, index).wrapping_sub(numbers[index]);
-        numbers[index] = numbers[index].wrapping_add(way.wrapping_mul(part) >> BITS);
+        numbers[index] = at(others, index);
     }
+}
+
+/// Sets the numbers to what lies this part of the way from those ahead to the first ones.
+pub(crate) fn draw_back(numbers: &mut [i64], ahead: &[i64], first: &[i64], part: i64) {
+    for index in 0..numbers.len() {
+        let from = at(ahead, index);
+        let way = at(first, index).wrapping_sub(from);
+        numbers[index] = from.wrapping_add(way.wrapping_mul(part) >> BITS);
+    }
+}
+
+/// One by a number.
+pub(crate) fn one_of(by: u32) -> i64 {
+    signed(ONE.unsigned_abs() / u64::from(by.max(1)))
 }
