@@ -121,8 +121,8 @@ struct PickedTrees<'a> {
     without: &'a Proof,
 }
 
-/// The same for both trees of a pick. One of a place that is gone is its second tree. What the tree speaks of gains what
-/// they do.
+/// The pick of both trees, each made shorter. One of a place that is gone is its second tree. What the tree speaks of
+/// gains what they do.
 #[cycle(lessening)]
 fn picked(
     alloc: Global,

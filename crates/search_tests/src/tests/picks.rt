@@ -32,8 +32,8 @@ fn is_taken(alloc: Global, region: &Region, tree: &Proof, floor: u64) -> Result<
     is_good(alloc, region, &mut node, tree, floor)
 }
 
-/// The cells that place 0 of the ring lights, two others that no place lights both, and three that no other place lights
-/// two of.
+/// The cells that place 0 of the ring lights, two others that no place lights both, and three of which no other place
+/// lights two.
 const LIT: [u32; 2] = [0, 1];
 
 const APART: [u32; 2] = [2, 4];
