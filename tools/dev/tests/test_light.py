@@ -311,7 +311,9 @@ class Refusals(Commands):
         for number, status in [(signal.SIGINT, 130), (signal.SIGTERM, 143)]:
             self.prepare()
             words = [sys.executable, SCRIPT, "room.nbt"]
-            child = subprocess.Popen(words, text=True, stdout=subprocess.PIPE, stderr=subprocess.PIPE)
+            # A process in the background of a script ignores the first of these, and so do those that it starts.
+            child = subprocess.Popen(words, text=True, stdout=subprocess.PIPE, stderr=subprocess.PIPE,
+                                     preexec_fn=lambda: signal.signal(signal.SIGINT, signal.SIG_DFL))
             for _ in range(200):
                 if len(self.calls()) == 2:
                     break
