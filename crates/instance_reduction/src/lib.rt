@@ -5,6 +5,7 @@
 
 mod cyclic_core;
 mod kernel_places;
+mod node_below;
 mod node_places;
 mod node_rows;
 mod numbered_places;
