@@ -5,6 +5,8 @@
 
 mod fewer_cells;
 mod fixed_point;
+mod lane_side;
+mod lanes;
 mod relaxation;
 mod rounding;
 mod runs;
@@ -12,6 +14,7 @@ mod side;
 mod whole_weights;
 
 pub use fixed_point::{BITS, ONE, add_at, at, most_at, ones};
+pub use lanes::{LANES, Lanes};
 pub use relaxation::Relaxation;
 pub use rounding::places_for;
 pub use whole_weights::WholeWeights;

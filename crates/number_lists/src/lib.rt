@@ -1,5 +1,5 @@
-//! Lists of numbers and rows of bits, and which cells and places of a set cover instance are outdone by others. All of it
-//! serves what proposes, and nothing is promised of it but that it ends and stays in bounds.
+//! Lists of numbers and rows of bits, and which cells and places of a set cover instance are outdone by others. All of
+//! it serves what proposes, and nothing is promised of it but that it ends and stays in bounds.
 #![tactic(auto)]
 
 mod bits;

@@ -6,6 +6,7 @@
 mod barring;
 mod branching;
 mod carrying;
+mod covers;
 mod groups;
 mod kernel_cells;
 mod lessening;

@@ -21,15 +21,15 @@ pub(crate) struct Effort {
 }
 
 impl Effort {
-    /// That at a node of this depth, where so many nodes came before it.
-    pub(crate) fn at(depth: usize, nodes: u64) -> Effort {
+    /// That at a node of this depth, where so many nodes came before it. A search that may pick is long.
+    pub(crate) fn at(depth: usize, nodes: u64, may_pick: bool) -> Effort {
         if depth == 0 {
             return Effort {
                 runs: FIRST_RUNS,
                 is_long: false,
             };
         }
-        let is_long = nodes >= SHORT_SEARCH;
+        let is_long = may_pick || nodes >= SHORT_SEARCH;
         Effort {
             runs: if is_long { LONG_RUNS } else { RUNS },
             is_long,

@@ -1,6 +1,6 @@
 //! Weighted leaves: weights of cells by the linear relaxation of what a node leaves of the reduced instance, part by
-//! part, rounded to whole numbers; and where they fall short, a cell to branch on or a place to pick. All of it proposes, and nothing
-//! is promised of it but that it ends and stays in bounds: judges accept or refuse.
+//! part, rounded to whole numbers; and where they fall short, a cell to branch on or a place to pick. All of it
+//! proposes, and nothing is promised of it but that it ends and stays in bounds: judges accept or refuse.
 #![tactic(auto)]
 
 mod branch_on;
@@ -9,12 +9,14 @@ mod effort;
 mod grouping;
 mod kernel;
 mod kid_bounds;
-mod kid_relaxation;
+mod kid_start;
+mod lane_runs;
 mod leaf;
 mod parts;
 mod picking;
 mod solving;
 mod sought;
+mod starting;
 
 pub use branch_on::BranchOn;
 pub use leaf::WeightedLeaves;

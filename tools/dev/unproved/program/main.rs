@@ -1,6 +1,7 @@
 //! The search without its proofs: the crates that only propose, as rustc builds them, below stand-ins for the crates
 //! with contracts. It reads a cave's regions and writes how many torches they need, and the certificate.
 
+#![feature(portable_simd)]
 mod cave_base;
 mod instance_regions;
 mod certificate;

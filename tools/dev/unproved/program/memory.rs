@@ -100,3 +100,19 @@ macro_rules! filled {
     };
 }
 pub(crate) use filled;
+
+pub fn nearest_i64_to_f32(number: i64) -> f32 {
+    number as f32
+}
+
+pub fn nearest_u32_to_f32(number: u32) -> f32 {
+    number as f32
+}
+
+pub fn nearest_usize_to_f32(number: usize) -> f32 {
+    number as f32
+}
+
+pub fn saturating_f32_to_i64(number: f32) -> i64 {
+    number as i64
+}
