@@ -1,2 +1,3 @@
 pub mod AloneLemmas
+pub mod AtNodeLemmas
 pub mod PieceLemmas

@@ -2,3 +2,4 @@
 pub mod Alone
 -- private
 pub mod Aimed
+pub mod AtNode

@@ -1,6 +1,6 @@
 //! Where a search takes place.
 ghost use Rattle.std.specs.Arc.{arc_value};
-ghost use Rattle.std.specs.Prelude.{◌≡◌, ◌<◌, ◌+◌};
+ghost use Rattle.std.specs.Prelude.{◌≡◌, ◌↔◌, ◌<◌, ◌+◌, IsTrue};
 
 use instance_regions::Region;
 use std::alloc::Global;
@@ -9,8 +9,8 @@ use std::sync::Arc;
 /// How many places that were picked may be barred above a node: each stands for a frame of the stack.
 const MOST_PICKS: u32 = 1024;
 
-/// The allocator and the region of a search, and the region once more as covers and pieces share it; how many places that
-/// were picked are barred here, and how many may be: none where places aren't picked.
+/// The allocator and the region of a search, and the region once more as covers and pieces share it; how many places
+/// that were picked are barred here, and how many may be: none where places aren't picked.
 #[derive(Clone, Copy)]
 pub(crate) struct Ground<'a> {
     pub(crate) alloc: Global,
@@ -33,6 +33,13 @@ impl<'a> Ground<'a> {
             refused: 0,
             picks: if may_pick { MOST_PICKS } else { 0 },
         }
+    }
+
+    /// Whether one more place may be picked, and barred in the second tree of the pick.
+    pub(crate) fn may_pick(&self) -> bool
+        ensures { IsTrue result ↔ self.now.refused < self.now.picks }
+    {
+        self.refused < self.picks
     }
 
     /// The same where one more place that was picked is barred.

@@ -1,6 +1,6 @@
 //! The search for the fewest places, as far as it is proved: branch and bound in which a strategy proposes and judges
 //! accept. It is generic over the strategy, of which nothing is promised.
-#![tactic(auto, using(search_traits::proofs::DeskLemmas::continues_same, search_traits::proofs::DeskLemmas::continues_then, search_traits::proofs::DeskLemmas::continues_look, search_traits::proofs::DeskLemmas::continues_take, search_traits::proofs::DeskLemmas::continues_enter, search_traits::proofs::DeskLemmas::works_enter, search_traits::proofs::DeskLemmas::works_then))]
+#![tactic(auto, using(search_traits::proofs::DeskLemmas::continues_same, search_traits::proofs::DeskLemmas::continues_then, search_traits::proofs::DeskLemmas::continues_look, search_traits::proofs::DeskLemmas::continues_take, search_traits::proofs::DeskLemmas::continues_enter, search_traits::proofs::DeskLemmas::works_enter, search_traits::proofs::DeskLemmas::works_then, crate::proofs::AtNodeLemmas::still_at_node))]
 
 mod aimed;
 mod beginning;

@@ -37,7 +37,12 @@ impl<'o, P: Proposer, O: Observer> Told<'o, P, O> {
 
 impl<P: Proposer, O: Observer> Proposer for Told<'_, P, O> {
     fn propose(&mut self, alloc: Global, task: Task<'_>) -> Result<Proposal, AllocError> {
-        self.observer.turn(self.size, task.floor.unwrap_or(0));
+        // The size comes from the round, the aim from the desk: two that don't go together are not told.
+        if let Some(aim) = task.floor {
+            if 1 <= aim && aim <= self.size {
+                self.observer.turn(self.size, aim);
+            }
+        }
         self.inner.propose(alloc, task)
     }
 }

@@ -69,6 +69,13 @@ impl AloneDesk {
         &self.cover
     }
 
+    /// How many turns it grants, or any number of them.
+    pub fn limit(&self) -> Option<u64>
+        ensures { result ≡ self.now.limit }
+    {
+        self.limit
+    }
+
     /// How many turns were granted. The count stops at the greatest number that it holds.
     pub fn granted(&self) -> u64
         ensures count { result ≡ self.now.granted }

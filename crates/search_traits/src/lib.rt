@@ -1,6 +1,6 @@
-//! The roles of a search, and what they tell each other: who proposes, who closes pieces, where a size to beat is shown,
-//! who is told how it gets on, and who plans a region, whether by one thread or by many. Those who search and those who
-//! ask for a plan stand on these alone, and not on each other.
+//! The roles of a search, and what they tell each other: who proposes, who closes pieces, where a size to beat is
+//! shown, who is told how it gets on, and who plans a region, whether by one thread or by many. Those who search and
+//! those who ask for a plan stand on these alone, and not on each other.
 #![tactic(auto)]
 
 mod alone;

@@ -14,7 +14,9 @@ pub trait Observer: Sync {
 
     /// A node is worked on. The smallest cover had so many places as the round began, and it is proved, if the round
     /// comes to its end, that no cover has fewer than these.
-    fn turn(&self, _size: u64, _aim: u64) {}
+    fn turn(&self, _size: u64, _aim: u64)
+        requires { (1 ≤ _aim) × (_aim ≤ _size) }
+    {}
 
     /// The worker with this number took the piece of this name, and works on it next.
     fn enter(&self, _worker: u32, _name: &Name) {}

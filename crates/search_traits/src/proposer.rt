@@ -91,8 +91,8 @@ pub trait Strategy: Proposer + Drop {
         places: &[Cell],
     ) -> Result<Vec<u32>, AllocError>;
 
-    /// A tree of the region's core, by numbers, as one of the region, by indices: below cells that are left out and bars
-    /// for the other places, as far as it needs them.
+    /// A tree of the region's core, by numbers, as one of the region, by indices: below cells that are left out and
+    /// bars for the other places, as far as it needs them.
     fn carried_tree(
         &self,
         alloc: Global,
