@@ -48,7 +48,8 @@ pub record WritesBest (cave : Cave) (old new proof_old proof_new : Option (List 
 
 -- turns were limited: safe torches were printed, with a number that no safe ones are fewer than, the sum of what parts
 -- for the cave's regions have, and no certificate
-pub record WritesFloor (cave : Cave) (allowance : Allowance) (old new proof_old proof_new : Option (List ℕ)) : Type 0 where
+pub record WritesFloor (cave : Cave) (allowance : Allowance) (old new proof_old proof_new : Option (List ℕ))
+    : Type 0 where
   pub limited : IsSome allowance.turns
   pub torches : List ℕ
   pub floor : ℕ
@@ -85,7 +86,8 @@ AreTextsOf cave allowance text proof = ((plans : List Plan) × IsPlanned cave te
     ⊎ ((plans : List Plan) × IsStoppedAt cave allowance text plans × (proof ≡ []))
 
 -- a beginning of the text was written, and not all, and one of the certificate, or all of it
-pub record BeginsTexts (cave : Cave) (allowance : Allowance) (old new proof_old proof_new : Option (List ℕ)) : Type 0 where
+pub record BeginsTexts (cave : Cave) (allowance : Allowance) (old new proof_old proof_new : Option (List ℕ))
+    : Type 0 where
   pub text : List ℕ
   pub proof : List ℕ
   pub are : AreTextsOf cave allowance text proof
@@ -113,7 +115,8 @@ Leaves other known table rule allowance old new proof_old proof_new = Keeps old 
 -- what a fault of writing leaves of this cave's plan
 abbrev pub LeavesIn : RunFault → Cave → Allowance → Option (List ℕ) → Option (List ℕ) → Option (List ℕ)
     → Option (List ℕ) → Type 0
-LeavesIn faults.WriteFailed cave allowance old new proof_old proof_new = BeginsTexts cave allowance old new proof_old proof_new
+LeavesIn faults.WriteFailed cave allowance old new proof_old proof_new =
+    BeginsTexts cave allowance old new proof_old proof_new
 LeavesIn faults.OutOfMemory cave allowance old new proof_old proof_new = Keeps old new
     × BeginsTexts cave allowance old new proof_old proof_new
 LeavesIn other cave allowance old new proof_old proof_new = ⊥

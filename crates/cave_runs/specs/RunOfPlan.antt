@@ -10,7 +10,8 @@ use Rattle.cave_runs.specs.declared.fault.RunFault.{RunFault}
 use Rattle.cave_runs.specs.declared.fault.RunFault.TheVariants as faults
 use Rattle.cave_runs.specs.declared.plan.Outcome.{Outcome}
 
--- how a run of a plan by so many workers and turns ends, of what its reader had, with what its two writers held and hold
+-- how a run of a plan by so many workers and turns ends, of what its reader had and has, with what its two writers held
+-- and hold
 pub record IsRunOfPlan (known rest table : Option (List ℕ)) (rule : Rule) (allowance : Allowance)
     (result : Result Outcome RunFault) (old new proof_old proof_new : Option (List ℕ)) : Type 0 where
   -- the fewest torches of the cave that the bytes tell, and their proof; or, where turns were limited, safe torches and

@@ -5,6 +5,8 @@ mod dark_streams;
 mod entering;
 mod faults;
 mod gates;
+mod in_memory;
+mod large_certificates;
 mod limits;
 mod plan_streams;
 mod planning;

@@ -1,9 +1,10 @@
-//! Files planned by many workers, from bytes to bytes.
+//! Files planned by many workers, from bytes to bytes, and where words ask for them.
+use super::answering::words_of;
 use super::gates::Meeting;
 use super::planning::{is_accepted, lines_with, plan_by, plan_run, shared};
 use cave_files::caves::{RING, WIDE_RING};
 use std::test::Fail;
-use torch_plan::{Outcome, Rule};
+use torch_plan::{NamedFile, Outcome, Rule, answer_in_memory};
 
 #[test]
 fn both_workers_enter_where_a_file_is_planned(rt: HostRuntime) -> Result<(), Fail> {
@@ -17,6 +18,24 @@ fn both_workers_enter_where_a_file_is_planned(rt: HostRuntime) -> Result<(), Fai
     assert!(rt; gate.has_both());
     assert!(rt; !gate.gave_up());
     is_accepted(&rt, alloc, &bytes, None, opts.rule, &planned)
+}
+
+#[test]
+fn both_workers_enter_and_are_told_of_where_words_ask_for_two(rt: HostRuntime) -> Result<(), Fail> {
+    let alloc = rt.alloc();
+    let bytes = RING.bytes(alloc)?;
+    let files = [NamedFile {
+        name: "ring",
+        bytes: &bytes,
+    }];
+    let words = words_of(alloc, "torchplan plan ring --workers 2")?;
+    let gate = Meeting::of([true, true]);
+    let ended = answer_in_memory(&rt, alloc, &files, b"", &gate, &words);
+    assert_eq!(rt; ended.status, 0);
+    assert!(rt; ended.output.starts_with(b"torches 2\ndark 28\n"));
+    assert!(rt; gate.has_both());
+    assert!(rt; !gate.gave_up());
+    Ok(())
 }
 
 #[test]
