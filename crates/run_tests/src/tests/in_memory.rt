@@ -28,11 +28,11 @@ const BRANCH: &[u8] =
     b"torchproof 1\nbox 1 3 1\nheadroom 2\nregions 1\nregion 1 1\nD 1\nT 1\nB 1 1\nL 0\nend\n";
 
 /// How a line ends, where the cave is the file `cave` and standard input, and `proof` has a certificate.
-fn ended<X: Threads + Wait + Sync>(
+fn ended<'f, X: Threads + Wait + Sync>(
     rt: &X,
     alloc: Global,
-    cave: &[u8],
-    proof: &[u8],
+    cave: &'f [u8],
+    proof: &'f [u8],
     line: &str,
 ) -> Result<Ended, AllocError> {
     let files = [
@@ -64,10 +64,14 @@ fn a_plan_leaves_its_certificate_in_the_file_that_was_made_and_a_check_accepts_i
         "torchplan plan - --proof out",
         "torchplan plan cave --proof out --workers 3",
     ] {
-        let plan = ended(&rt, alloc, &cave, b"", line)?;
-        assert_eq!(rt; plan.status, 0, "{line}");
-        assert_eq!(rt; plan.output.as_slice(), PLAN, "{line}");
-        let Some(proof) = plan.proof else {
+        let Ended {
+            status,
+            output,
+            proof,
+        } = ended(&rt, alloc, &cave, b"", line)?;
+        assert_eq!(rt; status, 0, "{line}");
+        assert_eq!(rt; output.as_slice(), PLAN, "{line}");
+        let Some(proof) = proof else {
             return Err(Fail::from("no file was made"));
         };
         assert!(rt; proof.as_slice() == LEAF || proof.as_slice() == BRANCH);
@@ -85,15 +89,19 @@ fn the_file_that_was_made_stays_empty_where_a_plan_is_stopped_or_refused(
 ) -> Result<(), Fail> {
     let alloc = rt.alloc();
     let ring = RING.bytes(alloc)?;
-    for (line, status, torches) in [
+    for (line, due, torches) in [
         ("torchplan plan cave --proof out --turns 1", 5, 2),
         ("torchplan plan proof --proof out", 1, 0),
     ] {
-        let plan = ended(&rt, alloc, &ring, LEAF, line)?;
-        assert_eq!(rt; plan.status, status, "{line}");
-        assert!(rt; lines_with(&plan.output, b'T') >= torches, "{line}");
-        assert!(rt; plan.output.is_empty() == (status == 1), "{line}");
-        let Some(proof) = plan.proof else {
+        let Ended {
+            status,
+            output,
+            proof,
+        } = ended(&rt, alloc, &ring, LEAF, line)?;
+        assert_eq!(rt; status, due, "{line}");
+        assert!(rt; lines_with(&output, b'T') >= torches, "{line}");
+        assert!(rt; output.is_empty() == (status == 1), "{line}");
+        let Some(proof) = proof else {
             return Err(Fail::from("no file was made"));
         };
         assert!(rt; proof.is_empty(), "{line}");

@@ -53,9 +53,10 @@ fn told(
         first: AtomicU64::new(0),
         last: AtomicU64::new(0),
     };
-    let granted = match plan_by_one::<Moves, Turns>(alloc, region, turns, &seen) {
+    let plan = plan_by_one::<Moves, Turns>(alloc, region, turns, &seen);
+    let granted = match &plan {
         Ok(plan) => plan.turns,
-        Err(RegionFault::Stopped { turns, .. }) => turns,
+        Err(RegionFault::Stopped { turns, .. }) => *turns,
         Err(_) => return Err(AllocError),
     };
     Ok((
