@@ -1,7 +1,7 @@
 -- What a plan writes, and what its faults leave.
-use Rattle.std.proofs.Common.{◌≡◌, ℕ, ◌<◌, ◌≤◌, List, [], length, map, Contains, Option}
+use Rattle.std.proofs.Common.{◌≡◌, ◌≢◌, ℕ, ◌<◌, ◌≤◌, List, [], length, map, Contains, Option}
 use Rattle.std.proofs.Common.{Some, None, Result, Ok, Err, refl, sym, ap, subst, ◌∙◌, ◌⊎◌, inl, inr, arith}
-use Rattle.std.specs.Prelude.{IfErr, IfSome, OnErr, OnOk}
+use Rattle.std.specs.Prelude.{IfErr, IfOk, IfSome, OnErr, OnOk}
 use Rattle.std.specs.Io.KnownBytes.{Appends}
 use Rattle.std.specs.List.Sorted.{IsStrictlyIncreasing}
 use Rattle.std.proofs.KnownBytes.{Keeps-refl}
@@ -27,12 +27,17 @@ use Rattle.cave_plan.specs.Faults.{NamesUnlightable}
 use Rattle.cave_plan.specs.Outline.{IsPlanned, IsStoppedAt, Prints}
 use Rattle.cave_plan.specs.declared.fault.PlanFault.{PlanFault}
 use Rattle.cave_plan.specs.declared.fault.PlanFault.TheVariants as plan
+use Rattle.proof_check.specs.Reading.{GivesAtMost}
 use Rattle.search_traits.specs.declared.planner.Allowance.{Allowance}
 use Rattle.cave_runs.specs.Faults.{run_fault_of, of_write}
 use Rattle.cave_runs.specs.Limits.{structure_limit}
 use Rattle.cave_runs.specs.PlanRuns.{WritesBest, EndsIn, Plans, BeginsTexts, BeginsPlan, Leaves}
 use Rattle.cave_runs.specs.PlanRuns.{LeavesIn, LeavesProved, NamesUnlit, IsNoPlan, IsNoPlanOfInput}
-use Rattle.cave_runs.proofs.RunLemmas.{cave_refused, cave_clean}
+use Rattle.cave_runs.specs.RunOfPlan.{IsRunOfPlan}
+use Rattle.cave_runs.specs.Runs.{IsOfInput}
+use Rattle.cave_runs.proofs.RunLemmas.{IsNotRead, IsTooLong, bytes_unwritten, cave_refused, cave_clean, long_input}
+use Rattle.cave_runs.proofs.RunLemmas.{long_refused, unwritten, widened}
+use Rattle.cave_runs.specs.declared.fault.Input.TheVariants.{StructureInput}
 use Rattle.cave_runs.specs.declared.fault.RunFault.{RunFault}
 use Rattle.cave_runs.specs.declared.fault.RunFault.TheVariants as faults
 use Rattle.cave_runs.specs.declared.plan.Outcome.{Outcome}
@@ -273,3 +278,120 @@ pub text_failed_in : {X : Type 0} (r : Result X RunFault) (cave : Cave) (text : 
 text_failed_in (Ok x) cave text plans old new proof_old proof_new is kind front proved = tt
 text_failed_in (Err e) cave text plans old new proof_old proof_new is kind front proved = text_failed e cave text
     plans old new proof_old proof_new kind is front proved
+
+-- ---- the run of a plan
+
+-- where no write failed, both writers are as they were
+leaves_kept : (fault : RunFault) (known table : Option (List ℕ)) (rule : Rule) (allowance : Allowance)
+    (held proof : Option (List ℕ)) → (fault ≡ faults.WriteFailed → ⊥)
+    → Leaves fault known table rule allowance held held proof proof
+leaves_kept faults.WriteFailed known table rule allowance held proof other = absurd (other refl)
+leaves_kept faults.OutOfMemory known table rule allowance held proof other =
+    (Keeps-refl held, inl (Keeps-refl proof))
+leaves_kept faults.ReadFailed known table rule allowance held proof other = (Keeps-refl held, Keeps-refl proof)
+leaves_kept (faults.TooLong i) known table rule allowance held proof other = (Keeps-refl held, Keeps-refl proof)
+leaves_kept (faults.Scan f) known table rule allowance held proof other = (Keeps-refl held, Keeps-refl proof)
+leaves_kept (faults.Table f) known table rule allowance held proof other = (Keeps-refl held, Keeps-refl proof)
+leaves_kept (faults.Build f) known table rule allowance held proof other = (Keeps-refl held, Keeps-refl proof)
+leaves_kept (faults.Unlightable x y z) known table rule allowance held proof other =
+    (Keeps-refl held, Keeps-refl proof)
+leaves_kept faults.NoThread known table rule allowance held proof other = (Keeps-refl held, Keeps-refl proof)
+
+-- why there is no plan is no failed write
+plan_unwritten : (bytes : List ℕ) (table : Option (List ℕ)) (rule : Rule) (e : RunFault)
+    → IsNoPlan bytes table rule e → e ≡ faults.WriteFailed → ⊥
+plan_unwritten bytes table rule e (inl fault) is = bytes_unwritten bytes table e fault is
+plan_unwritten bytes table rule e (inr (cave, told, unlit)) is = (let both : faults.WriteFailed
+    ≡ faults.Unlightable (coordinates cave.size unlit.cell).x (coordinates cave.size unlit.cell).y
+    (coordinates cave.size unlit.cell).z = sym is ∙ unlit.named in cc)
+
+-- what a fault of writing leaves, only such a fault and refused memory leave
+left_by : (e : RunFault) (cave : Cave) (allowance : Allowance) (old new proof_old proof_new : Option (List ℕ))
+    → LeavesIn e cave allowance old new proof_old proof_new → (e ≡ faults.WriteFailed) ⊎ (e ≡ faults.OutOfMemory)
+left_by faults.WriteFailed cave allowance old new proof_old proof_new b = inl refl
+left_by faults.OutOfMemory cave allowance old new proof_old proof_new b = inr refl
+left_by faults.ReadFailed cave allowance old new proof_old proof_new b = absurd b
+left_by (faults.TooLong i) cave allowance old new proof_old proof_new b = absurd b
+left_by (faults.Scan f) cave allowance old new proof_old proof_new b = absurd b
+left_by (faults.Table f) cave allowance old new proof_old proof_new b = absurd b
+left_by (faults.Build f) cave allowance old new proof_old proof_new b = absurd b
+left_by (faults.Unlightable x y z) cave allowance old new proof_old proof_new b = absurd b
+left_by faults.NoThread cave allowance old new proof_old proof_new b = absurd b
+
+-- neither lies in the input, or in a want of threads
+none_of_input : (e : RunFault) → (e ≡ faults.WriteFailed) ⊎ (e ≡ faults.OutOfMemory) → IsOfInput e → ⊥
+none_of_input e (inl failed) of = of.1 failed
+none_of_input e (inr none) of = of.2 none
+
+none_of_threads : (e : RunFault) → (e ≡ faults.WriteFailed) ⊎ (e ≡ faults.OutOfMemory) → e ≡ faults.NoThread → ⊥
+none_of_threads e (inl failed) is = (let both : faults.WriteFailed ≡ faults.NoThread = sym failed ∙ is in cc)
+none_of_threads e (inr none) is = (let both : faults.OutOfMemory ≡ faults.NoThread = sym none ∙ is in cc)
+
+unread_of_threads : (e : RunFault) → IsNotRead e → e ≡ faults.NoThread → ⊥
+unread_of_threads e (inl failed) is = (let both : faults.ReadFailed ≡ faults.NoThread = sym failed ∙ is in cc)
+unread_of_threads e (inr (inl long)) is =
+    (let both : faults.TooLong StructureInput ≡ faults.NoThread = sym long ∙ is in cc)
+unread_of_threads e (inr (inr none)) is = (let both : faults.OutOfMemory ≡ faults.NoThread = sym none ∙ is in cc)
+
+module _ (known rest table : Option (List ℕ)) (rule : Rule) (allowance : Allowance) where
+  -- a run whose input wasn't read
+  pub plan_unread : (e : RunFault) (held proof : Option (List ℕ)) → IsNotRead e → IsTooLong known e
+      → (e ≡ faults.ReadFailed → GivesAtMost structure_limit known rest)
+      → IsRunOfPlan known rest table rule allowance (Err e) held held proof proof
+  plan_unread e held proof not_read long before = record {
+    done = tt;
+    left = leaves_kept e known table rule allowance held proof (unwritten e not_read);
+    fault = λ of thread. long_input (λ bytes f. IsNoPlan bytes table rule f) known e not_read long of;
+    refused = long_refused (λ bytes f. IsNoPlan bytes table rule f)
+        (λ due. (e ≡ due) ⊎ (e ≡ faults.ReadFailed) ⊎ (e ≡ faults.OutOfMemory)) known e not_read long
+        (λ due same. inl same) (λ failed due. inr (inl failed)) (λ none due. inr (inr none));
+    threads = λ is. absurd (unread_of_threads e not_read is);
+    before = before;
+  }
+
+  module _ (bytes : List ℕ) (same : IfSome known (λ b. bytes ≡ b)) (within : length bytes ≤ structure_limit)
+      (ended : GivesAtMost structure_limit known rest) where
+    -- one whose input has no plan, or that gets no thread
+    pub plan_refused : (e : RunFault) (held proof : Option (List ℕ))
+        → (e ≢ faults.OutOfMemory → e ≢ faults.NoThread → IsNoPlan bytes table rule e)
+        → (e ≡ faults.NoThread → 1 < allowance.workers)
+        → ((due : RunFault) → IsNoPlan bytes table rule due → (e ≡ due) ⊎ (e ≡ faults.OutOfMemory))
+        → IsRunOfPlan known rest table rule allowance (Err e) held held proof proof
+    plan_refused e held proof told threads refused = record {
+      done = tt;
+      left = leaves_kept e known table rule allowance held proof (λ failed. plan_unwritten bytes table rule e (told
+          (λ none. (let both : faults.WriteFailed ≡ faults.OutOfMemory = sym failed ∙ none in cc))
+          (λ thread. (let both : faults.WriteFailed ≡ faults.NoThread = sym failed ∙ thread in cc))) failed);
+      fault = λ of thread. no_plan_input known bytes table rule e same within (told of.2 thread);
+      refused = no_plan_refused known bytes table rule
+          (λ due. (e ≡ due) ⊎ (e ≡ faults.ReadFailed) ⊎ (e ≡ faults.OutOfMemory)) same within
+          (λ due of. widened e due (refused due of));
+      threads = threads;
+      before = λ failed. ended;
+    }
+
+    -- one that ends with the writes of its texts
+    pub plan_ended : (cave : Cave) (r : Result Outcome RunFault) (old new proof_old proof_new : Option (List ℕ))
+        → IsCaveOfBytes bytes table rule cave → ((due : RunFault) → IsNoPlan bytes table rule due → ⊥)
+        → IfOk r (λ outcome. EndsIn outcome cave allowance old new proof_old proof_new)
+        → IfErr r (λ e. LeavesIn e cave allowance old new proof_old proof_new)
+        → IsRunOfPlan known rest table rule allowance r old new proof_old proof_new
+    plan_ended cave (Ok outcome) old new proof_old proof_new told clean ends left = record {
+      done = plans known bytes table rule allowance cave outcome old new proof_old proof_new same told ends;
+      left = tt;
+      fault = tt;
+      refused = no_plan_refused known bytes table rule (λ due. ⊥) same within clean;
+      threads = tt;
+      before = tt;
+    }
+    plan_ended cave (Err e) old new proof_old proof_new told clean ends left =
+        let by = left_by e cave allowance old new proof_old proof_new left in record {
+          done = tt;
+          left = leaves e known bytes table rule allowance cave old new proof_old proof_new same told left;
+          fault = λ of thread. absurd (none_of_input e by of);
+          refused = no_plan_refused known bytes table rule
+              (λ due. (e ≡ due) ⊎ (e ≡ faults.ReadFailed) ⊎ (e ≡ faults.OutOfMemory)) same within
+              (λ due of. absurd (clean due of));
+          threads = λ is. absurd (none_of_threads e by is);
+          before = λ failed. ended;
+        }

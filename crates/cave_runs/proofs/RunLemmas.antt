@@ -1,15 +1,20 @@
--- Why a run is refused, from why its parts are.
-use Rattle.std.proofs.Common.{◌≡◌, ◌≢◌, ℕ, ◌≤◌, List, length, Option, Some, None, Result, Ok, Err, refl, sym, ap}
+-- Why a run is refused, from why its parts are, and the run of dark cells.
+use Rattle.std.proofs.Common.{◌≡◌, ◌≢◌, ℕ, ◌<◌, ◌≤◌, List, length, Option, Some, None, Result, Ok, Err, refl, sym, ap}
 use Rattle.std.proofs.Common.{subst, ◌∙◌, ◌⊎◌, inl, inr, arith}
-use Rattle.std.specs.Prelude.{IfErr, IfSome, OnErr}
+use Rattle.std.specs.Prelude.{IfErr, IfSome, OnErr, OnOk}
+use Rattle.std.specs.Io.KnownBytes.{Appends}
+use Rattle.std.proofs.KnownBytes.{Keeps-refl}
 use Rattle.cave_reading.specs.Bytes as caves
 use Rattle.cave_model.specs.Rule.{Rule}
 use Rattle.cave_reading.specs.declared.cave_fault.CaveFault.{CaveFault}
 use Rattle.cave_reading.specs.declared.cave_fault.CaveFault.TheVariants as cave
 use Rattle.certificate_text.specs.Writing.{AppendsFront}
+use Rattle.proof_check.specs.Reading.{GivesAtMost}
 use Rattle.cave_runs.specs.Faults.{run_fault_of}
-use Rattle.cave_runs.specs.Runs.{IsFaultOfBytes, IsFaultOfInput, IsRefusedRun, IsDarkTextOf, BeginsDark}
 use Rattle.cave_runs.specs.Limits.{structure_limit}
+use Rattle.cave_runs.specs.RunOfDark.{IsRunOfDark}
+use Rattle.cave_runs.specs.Runs.{IsFaultOfBytes, IsFaultOfInput, IsOfInput, IsDarkTextOf, BeginsDark, WritesDark}
+use Rattle.cave_runs.specs.declared.fault.Input.TheVariants.{StructureInput}
 use Rattle.cave_runs.specs.declared.fault.RunFault.{RunFault}
 use Rattle.cave_runs.specs.declared.fault.RunFault.TheVariants as faults
 
@@ -65,17 +70,141 @@ input_refused (Some b) bytes table Met same within met =
     (subst (λ (x : List ℕ). IsFaultOfInput x table due) (sym same) fault))
 
 -- a refusal without streams is one with them
-pub widened : {X : Type 0} (r : Result X RunFault) (e due : RunFault) → r ≡ Err e → (e ≡ due)
-    ⊎ (e ≡ faults.OutOfMemory) → IsRefusedRun r due
-widened r e due is (inl same) = rw is (inl same)
-widened r e due is (inr none) = rw is (inr (inr none))
+pub widened : (e due : RunFault) → (e ≡ due) ⊎ (e ≡ faults.OutOfMemory)
+    → (e ≡ due) ⊎ (e ≡ faults.ReadFailed) ⊎ (e ≡ faults.OutOfMemory)
+widened e due (inl same) = inl same
+widened e due (inr none) = inr (inr none)
 
--- what a failed write leaves of the text of the bytes that were read
-pub begun_text : {X : Type 0} (r : Result X RunFault) (known : Option (List ℕ)) (bytes : List ℕ)
-    (table : Option (List ℕ)) (rule : Rule) (text : List ℕ) (old new : Option (List ℕ))
-    → IfSome known (λ b. bytes ≡ b) → IsDarkTextOf bytes table rule text → OnErr r (AppendsFront old new text)
-    → IfErr r (λ e. e ≡ faults.WriteFailed → IfSome known (λ b. BeginsDark b table rule old new))
-begun_text (Ok x) known bytes table rule text old new same dark begun = tt
-begun_text (Err e) None bytes table rule text old new same dark begun = λ is. tt
-begun_text (Err e) (Some b) bytes table rule text old new same dark begun =
-    λ is. (text, subst (λ (x : List ℕ). IsDarkTextOf x table rule text) same dark, begun)
+-- ---- an input that wasn't read
+
+-- why it wasn't
+abbrev pub IsNotRead : RunFault → Type 0
+IsNotRead e = (e ≡ faults.ReadFailed) ⊎ (e ≡ faults.TooLong StructureInput) ⊎ (e ≡ faults.OutOfMemory)
+
+-- too long is what has more bytes than the limit
+abbrev pub IsTooLong : Option (List ℕ) → RunFault → Type 0
+IsTooLong known e = e ≡ faults.TooLong StructureInput → IfSome known (λ bytes. structure_limit < length bytes)
+
+-- the input is too long, or its bytes have such a fault
+abbrev pub IsOfBytes : (List ℕ → RunFault → Type 0) → List ℕ → RunFault → Type 0
+IsOfBytes Inner bytes fault = ((structure_limit < length bytes) × (fault ≡ faults.TooLong StructureInput))
+    ⊎ ((length bytes ≤ structure_limit) × Inner bytes fault)
+
+-- no write failed
+pub unwritten : (e : RunFault) → IsNotRead e → e ≡ faults.WriteFailed → ⊥
+unwritten e (inl failed) is = (let both : faults.ReadFailed ≡ faults.WriteFailed = sym failed ∙ is in cc)
+unwritten e (inr (inl long)) is =
+    (let both : faults.TooLong StructureInput ≡ faults.WriteFailed = sym long ∙ is in cc)
+unwritten e (inr (inr none)) is = (let both : faults.OutOfMemory ≡ faults.WriteFailed = sym none ∙ is in cc)
+
+-- a fault of the input is that it is too long
+pub long_input : (Inner : List ℕ → RunFault → Type 0) (known : Option (List ℕ)) (e : RunFault) → IsNotRead e
+    → IsTooLong known e → IsOfInput e → IfSome known (λ bytes. IsOfBytes Inner bytes e)
+long_input Inner None e not_read long of = tt
+long_input Inner (Some bytes) e (inl failed) long of = absurd (of.0 failed)
+long_input Inner (Some bytes) e (inr (inl is)) long of = inl (long is, is)
+long_input Inner (Some bytes) e (inr (inr none)) long of = absurd (of.2 none)
+
+-- what is due to an input that is too long is just this
+due_long : (Inner : List ℕ → RunFault → Type 0) (bytes : List ℕ) (e due : RunFault)
+    → e ≡ faults.TooLong StructureInput → structure_limit < length bytes → IsOfBytes Inner bytes due → e ≡ due
+due_long Inner bytes e due is more (inl long) = is ∙ sym long.1
+due_long Inner bytes e due is more (inr within) = absurd (omega (arith, within.0))
+
+-- what that, a failed read and refused memory meet, all faults that are due meet
+pub long_refused : (Inner : List ℕ → RunFault → Type 0) (Met : RunFault → Type 0) (known : Option (List ℕ))
+    (e : RunFault) → IsNotRead e → IsTooLong known e → ((due : RunFault) → e ≡ due → Met due)
+    → (e ≡ faults.ReadFailed → (due : RunFault) → Met due) → (e ≡ faults.OutOfMemory → (due : RunFault) → Met due)
+    → IfSome known (λ bytes. (due : RunFault) → IsOfBytes Inner bytes due → Met due)
+long_refused Inner Met None e not_read long same failed none = tt
+long_refused Inner Met (Some bytes) e (inl is) long same failed none = λ due of. failed is due
+long_refused Inner Met (Some bytes) e (inr (inl is)) long same failed none =
+    λ due of. same due (due_long Inner bytes e due is (long is) of)
+long_refused Inner Met (Some bytes) e (inr (inr is)) long same failed none = λ due of. none is due
+
+-- ---- the run of dark cells
+
+-- no fault of a cave is a failed write
+never_written : (e : CaveFault) → run_fault_of e ≡ faults.WriteFailed → ⊥
+never_written (cave.Scan f) is = cc
+never_written (cave.Table f) is = cc
+never_written (cave.Build f) is = cc
+never_written cave.OutOfMemory is = cc
+
+-- nor is one of the bytes
+pub bytes_unwritten : (bytes : List ℕ) (table : Option (List ℕ)) (e : RunFault) → IsFaultOfBytes bytes table e
+    → e ≡ faults.WriteFailed → ⊥
+bytes_unwritten bytes table e (inner, of, same) is = never_written inner (sym same ∙ is)
+
+-- the text of the bytes that were read, written as that of those that the reader had
+dark_written : (known : Option (List ℕ)) (bytes : List ℕ) (table : Option (List ℕ)) (rule : Rule) (text : List ℕ)
+    (old new : Option (List ℕ)) → IfSome known (λ b. bytes ≡ b) → IsDarkTextOf bytes table rule text
+    → Appends old new text → IfSome known (λ b. WritesDark b table rule old new)
+dark_written None bytes table rule text old new same dark written = tt
+dark_written (Some b) bytes table rule text old new same dark written =
+    (text, subst (λ (x : List ℕ). IsDarkTextOf x table rule text) same dark, written)
+
+-- and a beginning of it
+dark_begun : (known : Option (List ℕ)) (bytes : List ℕ) (table : Option (List ℕ)) (rule : Rule) (text : List ℕ)
+    (old new : Option (List ℕ)) → IfSome known (λ b. bytes ≡ b) → IsDarkTextOf bytes table rule text
+    → AppendsFront old new text → IfSome known (λ b. BeginsDark b table rule old new)
+dark_begun None bytes table rule text old new same dark front = tt
+dark_begun (Some b) bytes table rule text old new same dark front =
+    (text, subst (λ (x : List ℕ). IsDarkTextOf x table rule text) same dark, front)
+
+-- a run whose input wasn't read
+pub dark_unread : (known rest table : Option (List ℕ)) (rule : Rule) (e : RunFault) (held : Option (List ℕ))
+    → IsNotRead e → IsTooLong known e → (e ≡ faults.ReadFailed → GivesAtMost structure_limit known rest)
+    → IsRunOfDark known rest table rule (Err e) held held
+dark_unread known rest table rule e held not_read long before = record {
+  done = tt;
+  untouched = λ other. Keeps-refl held;
+  begun = λ failed. absurd (unwritten e not_read failed);
+  fault = λ of. long_input (λ bytes f. IsFaultOfBytes bytes table f) known e not_read long of;
+  refused = long_refused (λ bytes f. IsFaultOfBytes bytes table f)
+      (λ due. (e ≡ due) ⊎ (e ≡ faults.ReadFailed) ⊎ (e ≡ faults.OutOfMemory)) known e not_read long
+      (λ due same. inl same) (λ failed due. inr (inl failed)) (λ none due. inr (inr none));
+  before = before;
+}
+
+-- one whose input has a fault
+pub dark_refused : (known rest table : Option (List ℕ)) (rule : Rule) (bytes : List ℕ) (e : RunFault)
+    (held : Option (List ℕ)) → IfSome known (λ b. bytes ≡ b) → length bytes ≤ structure_limit
+    → GivesAtMost structure_limit known rest → (e ≢ faults.OutOfMemory → IsFaultOfBytes bytes table e)
+    → ((due : RunFault) → IsFaultOfBytes bytes table due → (e ≡ due) ⊎ (e ≡ faults.OutOfMemory))
+    → IsRunOfDark known rest table rule (Err e) held held
+dark_refused known rest table rule bytes e held same within ended told refused = record {
+  done = tt;
+  untouched = λ other. Keeps-refl held;
+  begun = λ failed. absurd (bytes_unwritten bytes table e (told
+      (λ none. (let both : faults.WriteFailed ≡ faults.OutOfMemory = sym failed ∙ none in cc))) failed);
+  fault = λ of. input_fault known bytes table e same within (told of.2);
+  refused = input_refused known bytes table (λ due. (e ≡ due) ⊎ (e ≡ faults.ReadFailed) ⊎ (e ≡ faults.OutOfMemory))
+      same within (λ due of. widened e due (refused due of));
+  before = λ failed. ended;
+}
+
+-- one that ends with the write of its text
+pub dark_ended : (known rest table : Option (List ℕ)) (rule : Rule) (bytes text : List ℕ)
+    (r : Result (Unit {0}) RunFault) (old new : Option (List ℕ)) → IfSome known (λ b. bytes ≡ b)
+    → length bytes ≤ structure_limit → GivesAtMost structure_limit known rest → IsDarkTextOf bytes table rule text
+    → ((due : RunFault) → IsFaultOfBytes bytes table due → ⊥) → OnOk r (Appends old new text)
+    → IfErr r (λ e. e ≡ faults.WriteFailed) → OnErr r (AppendsFront old new text)
+    → IsRunOfDark known rest table rule r old new
+dark_ended known rest table rule bytes text (Ok u) old new same within ended dark clean written kind front = record {
+  done = dark_written known bytes table rule text old new same dark written;
+  untouched = tt;
+  begun = tt;
+  fault = tt;
+  refused = input_refused known bytes table (λ due. ⊥) same within clean;
+  before = tt;
+}
+dark_ended known rest table rule bytes text (Err e) old new same within ended dark clean written kind front = record {
+  done = tt;
+  untouched = λ other. absurd (other kind);
+  begun = λ failed. dark_begun known bytes table rule text old new same dark front;
+  fault = λ of. absurd (of.1 kind);
+  refused = input_refused known bytes table (λ due. (e ≡ due) ⊎ (e ≡ faults.ReadFailed) ⊎ (e ≡ faults.OutOfMemory))
+      same within (λ due of. absurd (clean due of));
+  before = λ failed. ended;
+}

@@ -1,14 +1,11 @@
-//! The run of `dark`, from the bytes read to the bytes written: `WritesDark` of specs/Runs.antt.
-ghost use Rattle.std.specs.Io.KnownBytes.{Keeps};
-ghost use Rattle.std.specs.Prelude.{◌≡◌, ◌≢◌, IfOk, IfErr, IfSome, OnOk, option_copied, string_bytes};
+//! The run of `dark`, from the bytes read to the bytes written: `IsRunOfDark` of specs/RunOfDark.antt.
+ghost use Rattle.std.specs.Prelude.{◌≡◌, ◌≢◌, IfOk, IfErr, option_copied, string_bytes};
 ghost use Rattle.cave_base.specs.Answer.{IsRefusal};
 ghost use Rattle.cave_model.specs.RuleOf.{rule_of};
 ghost use Rattle.cave_runs.specs.DarkText.{IsDarkText};
-ghost use Rattle.cave_runs.specs.Limits.{structure_limit};
-ghost use Rattle.cave_runs.specs.Runs.{BeginsDark, IsDarkTextOf, IsFaultOfBytes, IsFaultOfInput, IsOfInput};
-ghost use Rattle.cave_runs.specs.Runs.{IsRefusedRun, WritesDark};
+ghost use Rattle.cave_runs.specs.RunOfDark.{IsRunOfDark};
+ghost use Rattle.cave_runs.specs.Runs.{IsDarkTextOf, IsFaultOfBytes};
 ghost use Rattle.cave_runs.specs.declared.fault.RunFault.{RunFault};
-ghost use Rattle.proof_check.specs.Reading.{GivesAtMost};
 
 use crate::fault::{Input, RunFault};
 use crate::limits::STRUCTURE_LIMIT;
@@ -65,24 +62,8 @@ pub fn run_dark<R: Read, O: Watcher, W: Write>(
     observer: &O,
     writer: &mut W,
 ) -> Result<(), RunFault>
-    // What was written is the text of the bytes that were read.
-    ensures done { OnOk result (IfSome (R.remaining reader.old) (λ bytes.
-        WritesDark bytes (option_copied table.entry) (rule_of rule) (W.contents writer.old) (W.contents writer.new))) }
-    // A refused input leaves the writer as it was.
-    ensures untouched { IfErr result (λ e. e ≢ RunFault.WriteFailed
-        → Keeps (W.contents writer.old) (W.contents writer.new)) }
-    // A failed write leaves a beginning of the text.
-    ensures begun { IfErr result (λ e. e ≡ RunFault.WriteFailed → IfSome (R.remaining reader.old) (λ bytes.
-        BeginsDark bytes (option_copied table.entry) (rule_of rule) (W.contents writer.old) (W.contents writer.new))) }
-    // A fault of the input is the one that the definitions name.
-    ensures fault { IfErr result (λ e. IsOfInput e
-        → IfSome (R.remaining reader.old) (λ bytes. IsFaultOfInput bytes (option_copied table.entry) e)) }
-    // Such a fault is answered, unless a read failed.
-    ensures refused { IfSome (R.remaining reader.old) (λ bytes.
-        (e : RunFault) → IsFaultOfInput bytes (option_copied table.entry) e → IsRefusedRun result e) }
-    // A failed read comes before more than the limit was read.
-    ensures before { IfErr result (λ e. e ≡ RunFault.ReadFailed
-        → GivesAtMost structure_limit (R.remaining reader.old) (R.remaining reader.new)) }
+    ensures { IsRunOfDark (R.remaining reader.old) (R.remaining reader.new) (option_copied table.entry)
+        (rule_of rule) result (W.contents writer.old) (W.contents writer.new) }
 {
     let bytes = read_all(alloc, reader, STRUCTURE_LIMIT, Input::StructureInput)?;
     let text = text_of(alloc, &bytes, table, rule, observer)?;

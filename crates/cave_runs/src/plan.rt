@@ -1,16 +1,14 @@
-//! The plan of a structure, from the bytes read to the bytes written.
+//! The plan of a structure, from the bytes read to the bytes written: `IsRunOfPlan` of specs/RunOfPlan.antt.
 ghost use Rattle.std.specs.Arc.{arc_value};
-ghost use Rattle.std.specs.Prelude.{◌≡◌, ◌≢◌, ◌<◌, IfOk, IfErr, IfSome, OnOk, option_copied, string_bytes};
+ghost use Rattle.std.specs.Prelude.{◌≡◌, ◌≢◌, ◌<◌, IfOk, IfErr, OnOk, option_copied, string_bytes};
 ghost use Rattle.cave_base.specs.Answer.{IsRefusal};
 ghost use Rattle.cave_model.specs.RuleOf.{rule_of};
 ghost use Rattle.cave_plan.specs.Outline.{IsOutlineOf, IsPlanned};
-ghost use Rattle.cave_runs.specs.Limits.{structure_limit};
-ghost use Rattle.cave_runs.specs.PlanRuns.{EndsIn, IsNoPlan, IsNoPlanOfInput, Leaves, LeavesIn, LeavesProved};
-ghost use Rattle.cave_runs.specs.PlanRuns.{NamesUnlit, Plans, TellsPlans, WritesBest};
-ghost use Rattle.cave_runs.specs.Runs.{IsOfInput, IsRefusedRun};
+ghost use Rattle.cave_runs.specs.PlanRuns.{EndsIn, IsNoPlan, LeavesIn, LeavesProved, NamesUnlit, TellsPlans};
+ghost use Rattle.cave_runs.specs.PlanRuns.{WritesBest};
+ghost use Rattle.cave_runs.specs.RunOfPlan.{IsRunOfPlan};
 ghost use Rattle.cave_runs.specs.declared.fault.RunFault.{RunFault};
 ghost use Rattle.certificate_text.specs.PlanOf.{plans_of};
-ghost use Rattle.proof_check.specs.Reading.{GivesAtMost};
 ghost use Rattle.search_traits.specs.Planning.{PlansRegions};
 
 use crate::fault::{Input, RunFault};
@@ -154,19 +152,9 @@ pub fn run_planner<F: Fn(&Arc<Region>) -> RegionPlan, R: Read, W: Write, V: Writ
     requires callable { F.IsAlwaysCallable planner.now.plan }
     requires plans { PlansRegions (λ region. arc_value region.now) planner.now.allowance
         (F.post planner.now.plan) }
-    ensures done { IfOk result (λ outcome. IfSome (R.remaining reader.old) (λ bytes.
-        Plans bytes (option_copied table.entry) (rule_of rule) planner.now.allowance outcome
-        (W.contents writer.old) (W.contents writer.new) (V.contents proof.old) (V.contents proof.new))) }
-    ensures left { IfErr result (λ e. Leaves e (R.remaining reader.old) (option_copied table.entry)
-        (rule_of rule) planner.now.allowance
-        (W.contents writer.old) (W.contents writer.new) (V.contents proof.old) (V.contents proof.new)) }
-    ensures fault { IfErr result (λ e. IsOfInput e → e ≢ RunFault.NoThread → IfSome (R.remaining reader.old)
-        (λ bytes. IsNoPlanOfInput bytes (option_copied table.entry) (rule_of rule) e)) }
-    ensures refused { IfSome (R.remaining reader.old) (λ bytes. (e : RunFault)
-        → IsNoPlanOfInput bytes (option_copied table.entry) (rule_of rule) e → IsRefusedRun result e) }
-    ensures threads { IfErr result (λ e. e ≡ RunFault.NoThread → 1 < planner.now.allowance.workers) }
-    ensures before { IfErr result (λ e. e ≡ RunFault.ReadFailed
-        → GivesAtMost structure_limit (R.remaining reader.old) (R.remaining reader.new)) }
+    ensures { IsRunOfPlan (R.remaining reader.old) (R.remaining reader.new) (option_copied table.entry)
+        (rule_of rule) planner.now.allowance result
+        (W.contents writer.old) (W.contents writer.new) (V.contents proof.old) (V.contents proof.new) }
 {
     let bytes = read_all(alloc, reader, STRUCTURE_LIMIT, Input::StructureInput)?;
     let (world, outline) = plan_bytes(alloc, &bytes, table, rule, planner, observer)?;

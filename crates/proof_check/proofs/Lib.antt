@@ -19,4 +19,5 @@ pub mod TrialLemmas
 pub mod ConcludeLemmas
 pub mod ReadingLemmas
 pub mod VerdictLemmas
+pub mod ReadCheckLemmas
 pub mod SettingLemmas

@@ -5,6 +5,7 @@ pub mod Faults
 pub mod Verdict
 pub mod Texts
 pub mod Reading
+pub mod ReadCheck
 -- private
 pub mod Judged
 pub mod Track

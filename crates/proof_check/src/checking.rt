@@ -1,10 +1,11 @@
-//! The checker's two calls: the verdict on the bytes of a certificate, `IsJudged` of specs/Verdict.antt.
-ghost use Rattle.std.specs.Prelude.{◌≡◌, ◌≢◌, ◌<◌, length, IfOk, IfErr, IfSome, MatchResult, option_copied};
+//! The checker's two calls: the verdict on the bytes of a certificate, `IsJudged` of specs/Verdict.antt, in memory or
+//! from a reader, `IsReadCheck` of specs/ReadCheck.antt.
+ghost use Rattle.std.specs.Prelude.{◌≡◌, ◌≢◌, IfOk, IfErr, option_copied};
 ghost use Rattle.cave_base.specs.Answer.{IsAnswer, IsRefusal};
 ghost use Rattle.cave_model.specs.RuleOf.{rule_of};
-ghost use Rattle.proof_check.specs.Reading.{GivesAtMost};
+ghost use Rattle.proof_check.specs.ReadCheck.{IsReadCheck};
 ghost use Rattle.proof_check.specs.Tried.{IsTheVerdict};
-ghost use Rattle.proof_check.specs.Verdict.{IsFaultOfBytes, IsJudged, IsOfReading, IsReadAnswer, IsReadRefusal};
+ghost use Rattle.proof_check.specs.Verdict.{IsFaultOfBytes, IsJudged};
 ghost use Rattle.proof_check.specs.declared.fault.CheckFault.{CheckFault};
 ghost use Rattle.proof_check.specs.declared.verdict.Verdict.{Verdict};
 
@@ -47,7 +48,7 @@ pub fn check(
 
 /// The same over what the reader of the certificate has left, which is at most `limit` bytes. It is read to its end
 /// whatever is found on the way, so a failed read and too many bytes go before any fault of the structure or the table
-/// and before any verdict. At most 134,217,728 reads are made. One line of the certificate is kept at a time.
+/// and before any verdict. One line of the certificate is kept at a time.
 pub fn check_from<C: Read>(
     alloc: Global,
     structure: &[u8],
@@ -56,27 +57,8 @@ pub fn check_from<C: Read>(
     certificate: &mut C,
     limit: u64,
 ) -> Result<Verdict, CheckFault>
-    // What is answered is the verdict of what the reader had.
-    ensures found { IfOk result (λ v. IfSome (C.remaining certificate.old) (λ bytes.
-        IsJudged structure.now (option_copied table.entry) (rule_of rule) bytes v)) }
-    // Such a verdict is answered.
-    ensures only { IfSome (C.remaining certificate.old) (λ bytes. (verdict : Verdict)
-        → IsJudged structure.now (option_copied table.entry) (rule_of rule) bytes verdict
-        → IsReadAnswer result verdict) }
-    // A fault that isn't in the reader is the first of the structure and the table.
-    ensures fault { IfErr result (λ e. (¬ IsOfReading e)
-        → IsFaultOfBytes structure.now (option_copied table.entry) e) }
-    // Such a fault is answered.
-    ensures refused { (e : CheckFault) → IsFaultOfBytes structure.now (option_copied table.entry) e
-        → IsReadRefusal result e }
-    // Too long is what has more bytes than the limit; it is answered neither with a verdict nor with such a fault.
-    ensures too_long { IfErr result (λ e. e ≡ CheckFault.TooLong
-        → IfSome (C.remaining certificate.old) (λ bytes. limit < length bytes)) }
-    ensures whole { IfSome (C.remaining certificate.old) (λ bytes. limit < length bytes
-        → MatchResult result (λ _. ⊥) IsOfReading) }
-    // A failed read comes before more than the limit was read.
-    ensures before { IfErr result (λ e. e ≡ CheckFault.ReadFailed
-        → GivesAtMost limit (C.remaining certificate.old) (C.remaining certificate.new)) }
+    ensures { IsReadCheck structure.now (option_copied table.entry) (rule_of rule)
+        (C.remaining certificate.old) (C.remaining certificate.new) limit result }
 {
     match read_cave(alloc, structure, table, rule) {
         Ok(world) => {

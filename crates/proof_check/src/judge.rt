@@ -39,14 +39,20 @@ impl Judge {
     }
 
     /// Takes what a line says.
-    pub fn line(&mut self, kind: LineKind, numbers: &[u32], line: u64) -> Result<(), AllocError>
+    pub fn judge_line(
+        &mut self,
+        kind: LineKind,
+        numbers: &[u32],
+        line: u64,
+    ) -> Result<(), AllocError>
         requires wide { IsWide self.old.lists self.old.nodes }
         requires ascending { AreAscending self.old.lists }
         requires torches { self.old.torches.count + 1 < 2 ^ 64 }
         requires regions { self.old.regions.count + 1 < 2 ^ 64 }
         ensures { OnOk result (Hears kind numbers.now line self.old self.new) }
     {
-        self.nodes.line(&self.lists, kind, numbers, line)?;
+        self.nodes
+            .judge_node_line(&self.lists, kind, numbers, line)?;
         match kind {
             LineKind::Dark => self.regions.join(numbers),
             LineKind::Torches => self.torches.join(numbers),

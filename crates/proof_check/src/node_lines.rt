@@ -79,7 +79,7 @@ impl NodeJudge {
     }
 
     /// Judges a line; stands still after one against the rules.
-    pub fn line(
+    pub fn judge_node_line(
         &mut self,
         lists: &Lists,
         kind: LineKind,

@@ -43,7 +43,7 @@ impl Trial {
         ensures { OnOk result (HearsAll world.now piece.now self.old self.new) }
     {
         let mut rest = piece;
-        while let Some(after) = self.line(world, rest)? {
+        while let Some(after) = self.next_line(world, rest)? {
             rest = after;
         }
         Ok(())
@@ -69,7 +69,11 @@ impl Trial {
     }
 
     /// The next line that ends in the piece, and what comes after it.
-    fn line<'a>(&mut self, world: &World, piece: &'a [u8]) -> Result<Option<&'a [u8]>, AllocError>
+    fn next_line<'a>(
+        &mut self,
+        world: &World,
+        piece: &'a [u8],
+    ) -> Result<Option<&'a [u8]>, AllocError>
         requires { HasRoom world.now self.old (length piece.now) }
         ensures { IfOk result (λ r. MatchOption r (HearsAll world.now piece.now self.old self.new)
             (λ after. HearsTo world.now piece.now after.now self.old self.new)) }
@@ -96,7 +100,7 @@ impl Trial {
             return Ok(());
         }
         self.torches += torch_count(kind, numbers);
-        self.judge.line(kind, numbers, self.pieces.taken())?;
+        self.judge.judge_line(kind, numbers, self.pieces.taken())?;
         Ok(())
     }
 }

@@ -14,6 +14,6 @@ mod rounds;
 mod steps;
 mod told;
 
-pub use carrying::{carried_cover, carried_plan, core_region};
+pub use carrying::{carried_cover, carried_plan, core_region, cover_in_core};
 pub use one_worker::{AloneFault, plan_alone, plan_by_one};
 pub use pieces::BranchAndBound;

@@ -1,7 +1,7 @@
 //! A region is planned by many workers: `IsReport` of specs/Reports.antt, or `StopsPool` where turns don't do. Threads
 //! start only where one leaf doesn't close the root.
 ghost use Rattle.std.specs.Arc.{arc_value};
-ghost use Rattle.std.specs.Prelude.{◌≡◌, ◌≤◌, IfErr, IfOk, length, replicate};
+ghost use Rattle.std.specs.Prelude.{◌≡◌, ◌≤◌, IfErr, IfOk, IfSome, length, replicate};
 ghost use Rattle.proof_tree.specs.Shape.{tree_of};
 ghost use Rattle.search_pool.specs.Reports.{AddsUp, IsOneLeaf, IsReport, StopsPool};
 ghost use Rattle.search_traits.specs.Planned.{IsBest, IsLeaf, ProvesAt};
@@ -13,16 +13,16 @@ use crate::report::Report;
 use crate::rooted::rooted_at;
 use crate::starting::run_opened;
 use gathering::PoolFault;
-use instance_regions::Region;
+use instance_regions::{Cover, Region};
 use plan_options::Workers;
 use search_traits::{Beginning, Closer, Observer};
 use std::alloc::{AllocError, Global};
 use std::sync::{Arc, Wait};
 use std::thread::Threads;
 
-/// The fewest places that light every cell of the region, and a tree that proves it, by many workers. Where one leaf
-/// closes the root no worker starts. One turn is one node worked on, or one piece opened; the workers have even budgets
-/// of the turns, and where one budget is used up the search stops.
+/// The fewest places that light every cell of the region, and a tree that proves it, by many workers, where a cover may
+/// be known. Where one leaf closes the root no worker starts. One turn is one node worked on, or one piece opened; the
+/// workers have even budgets of the turns, and where one budget is used up the search stops.
 pub fn plan_with<C: Closer + Send + Sync, R: Threads + Wait + Sync, O: Observer>(
     rt: &R,
     alloc: Global,
@@ -30,7 +30,9 @@ pub fn plan_with<C: Closer + Send + Sync, R: Threads + Wait + Sync, O: Observer>
     workers: Workers,
     observer: &O,
     turns: Option<u64>,
+    known: Option<Cover>,
 ) -> Result<Report, PoolFault>
+    requires { IfSome known (λ cover. cover.region ≡ arc_value region.now) }
     ensures best { IfOk result (λ report.
         IsBest (arc_value region.now) report.cover (tree_of report.proof)) }
     ensures counts { IfOk result AddsUp }
@@ -38,7 +40,7 @@ pub fn plan_with<C: Closer + Send + Sync, R: Threads + Wait + Sync, O: Observer>
     ensures granted { IfOk result (λ report. IsWithin turns report.turns) }
     ensures stopped { IfErr result (StopsPool (arc_value region.now) turns workers.number) }
 {
-    let begun = C::begin(alloc, region)?;
+    let begun = C::begin(alloc, region, known)?;
     if begun.floor >= begun.cover.size() {
         let report = one_leaf(alloc, begun, workers)?;
         return Ok(report);

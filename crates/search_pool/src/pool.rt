@@ -28,9 +28,9 @@ use worker_results::{Joined, Naming, close_up};
 const DEEPEST: usize = 3;
 
 /// How many pieces a worker should find, and how many are enough for any number of workers.
-const PIECES: usize = 4;
+const PIECES: usize = 2;
 
-const MANY: usize = 16;
+const MANY: usize = 8;
 
 /// A region of no more places makes few pieces.
 const FEW: usize = 128;

@@ -9,15 +9,20 @@ use crate::close_fault::CloseFault;
 use crate::desk::Desk;
 use cave_base::Cell;
 use cave_model::OutOfMemory;
-use instance_regions::Region;
+use instance_regions::{Cover, Region};
 use proof_tree::{Closed, Piece};
 use std::alloc::Global;
 use std::sync::Arc;
 
 /// A search that may be shared out by pieces. Workers stand on this alone, and know nothing of how it is done.
 pub trait Closer {
-    /// What a search of a whole region begins with.
-    fn begin(alloc: Global, region: &Arc<Region>) -> Result<Beginning, OutOfMemory>
+    /// What a search of a whole region begins with, where a cover of it may be known.
+    fn begin(
+        alloc: Global,
+        region: &Arc<Region>,
+        known: Option<Cover>,
+    ) -> Result<Beginning, OutOfMemory>
+        requires { IfSome known (λ cover. cover.region ≡ arc_value region.now) }
         ensures { IfOk result (IsBeginning (arc_value region.now)) };
 
     /// The cell on which a piece is opened, or None where that is not worth while at this size.

@@ -1,7 +1,7 @@
 //! Two searches of a region, one after the other: the turns that the first leaves to the second, and what both tell
 //! together.
 ghost use Rattle.std.specs.Arc.{arc_value};
-ghost use Rattle.std.specs.Prelude.{◌≡◌, ◌≤◌, ◌+◌, ◌⊎◌, IfSome, IsTrue, Some, length};
+ghost use Rattle.std.specs.Prelude.{◌≡◌, ◌≤◌, ◌+◌, ◌⊎◌, ◌↔◌, IfSome, IsTrue, Some, length};
 ghost use Rattle.search_traits.specs.Planned.{IsFloor};
 ghost use Rattle.search_traits.specs.Planning.{IsRegionPlan};
 ghost use Rattle.search_traits.specs.Turns.{AreSpent, IsShareSpent, IsWithin, rest};
@@ -34,7 +34,7 @@ pub fn rest_of(turns: Option<u64>, granted: u64) -> Option<u64>
 
 /// Whether all turns were granted.
 pub fn are_spent(turns: Option<u64>, granted: u64) -> bool
-    ensures { IsTrue result → AreSpent turns granted }
+    ensures { IsTrue result ↔ AreSpent turns granted }
 {
     match turns {
         Some(limit) => limit == granted,

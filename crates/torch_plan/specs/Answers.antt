@@ -154,7 +154,3 @@ abbrev pub Answers : Sources → List (List ℕ) → Option (List ℕ) → Optio
 Answers sources words old new kept code =
     (AreWellFormed words × (request : Request) × IsAsked words request × Does sources request old new kept code)
     ⊎ (Keeps old new × IsExplained words code)
-
--- so it is, whatever the file for the proof holds
-abbrev pub AnswersSome : Sources → List (List ℕ) → Option (List ℕ) → Option (List ℕ) → ℕ → Type 0
-AnswersSome sources words old new code = (kept : Option (List ℕ)) × Answers sources words old new kept code

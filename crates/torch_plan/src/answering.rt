@@ -2,12 +2,13 @@
 ghost use Rattle.std.specs.Io.KnownBytes.{Keeps};
 ghost use Rattle.std.specs.Prelude.{◌≡◌, ◌⊎◌, IsFalse, IsTrue, map, option_copied, string_bytes};
 ghost use Rattle.clap.specs.Words.{kind_of};
-ghost use Rattle.torch_plan.specs.Answers.{Answers, AnswersSome, Does};
+ghost use Rattle.torch_plan.specs.Answers.{Answers, Does};
 ghost use Rattle.torch_plan.specs.Kept.{held_by};
 ghost use Rattle.torch_plan.specs.Sources.{MayOverwrite, MayStandApart};
 ghost use Rattle.torch_plan.specs.Status.{IsRefused, end_status, judged, status};
 ghost use Rattle.torch_plan.specs.Usage.{explained_status};
 
+use crate::environment::Environment;
 use crate::runs::{answer_check, answer_dark, answer_plan};
 use crate::status::status_of;
 use crate::system::System;
@@ -91,17 +92,15 @@ fn is_overwriting<S: System>(
 
 /// Does what was asked for, and hands back the file for a proof, where one was made.
 fn answered<X: Threads + Wait + Sync, S: System, O: Watcher, W: Write>(
-    threads: &X,
-    alloc: Global,
-    system: &S,
-    observer: &O,
+    environment: &Environment<'_, X, S, O>,
     request: &Request<'_>,
     output: &mut W,
 ) -> (u8, Option<S::Kept>)
-    ensures does { Does (S.sources system.now) request.now (W.contents output.old) (W.contents output.new)
-        (held_by S.Kept.contents result.1) result.0 }
+    ensures does { Does (S.sources environment.now.system.now) request.now
+        (W.contents output.old) (W.contents output.new) (held_by S.Kept.contents result.1) result.0 }
     ensures silent { IsRefused result.0 → Keeps (W.contents output.old) (W.contents output.new) }
 {
+    let system = environment.system;
     match *request {
         Request::Dark {
             file,
@@ -110,7 +109,7 @@ fn answered<X: Threads + Wait + Sync, S: System, O: Watcher, W: Write>(
             progress,
         } => {
             system.watch(progress);
-            match answer_dark(alloc, system, file, table, rule, observer, output) {
+            match answer_dark(environment, file, table, rule, output) {
                 Ok(()) => (0, None),
                 Err(fault) => (refused(system, &fault), None),
             }
@@ -129,9 +128,7 @@ fn answered<X: Threads + Wait + Sync, S: System, O: Watcher, W: Write>(
                 return (2, None);
             }
             system.watch(progress);
-            let (result, kept) = answer_plan(
-                threads, alloc, system, file, table, &opts, observer, proof, output,
-            );
+            let (result, kept) = answer_plan(environment, file, table, &opts, proof, output);
             match result {
                 Ok(outcome) => (status_of_plan(outcome), kept),
                 Err(fault) => (refused(system, &fault), kept),
@@ -142,7 +139,7 @@ fn answered<X: Threads + Wait + Sync, S: System, O: Watcher, W: Write>(
             proof,
             table,
             rule,
-        } => match answer_check(alloc, system, file, proof, table, rule, output) {
+        } => match answer_check(environment.alloc, system, file, proof, table, rule, output) {
             Ok(verdict) => (status_of_check(verdict), None),
             Err(fault) => (refused(system, &fault), None),
         },
@@ -152,8 +149,9 @@ fn answered<X: Threads + Wait + Sync, S: System, O: Watcher, W: Write>(
 /// Does what the words of a command line ask for, of which the first is the program's name, and answers the exit
 /// status: 0 done, or help that was asked for; 1 refused input; 2 a mistake in usage; 3 a cell that no torch lights;
 /// 4 a certificate that is rejected; 5 a plan whose turns were spent; 6 reading or writing failed; 7 memory or threads
-/// refused (this project's own). What is asked for is written to the output, help by the system. The observer is told
-/// of a plan while it goes on, and where free cells lie at a side of the box, as of dark cells.
+/// refused (this project's own). What is asked for is written to the output, help by the system. The file that was made
+/// for a proof, if one was, is handed back. The observer is told of a plan while it goes on, and where free cells lie
+/// at a side of the box, as of dark cells.
 pub fn answer<X: Threads + Wait + Sync, S: System, O: Watcher, W: Write>(
     threads: &X,
     alloc: Global,
@@ -161,33 +159,22 @@ pub fn answer<X: Threads + Wait + Sync, S: System, O: Watcher, W: Write>(
     observer: &O,
     words: &[String],
     output: &mut W,
-) -> u8
-    // Where the words are well formed, what they ask for is done over the system's files; else help is explained where
-    // they ask for it, or the mistake in usage that they make.
-    ensures does { AnswersSome (S.sources system.now) (map (λ word. string_bytes word) words.now)
-        (W.contents output.old) (W.contents output.new) result }
-    // A refused input, a mistake in usage, and refused memory or threads leave the output as it was.
-    ensures silent { IsRefused result → Keeps (W.contents output.old) (W.contents output.new) }
-{
-    answer_kept(threads, alloc, system, observer, words, output).0
-}
-
-/// As `answer`, and hands back the file that was made for a proof, if one was.
-pub fn answer_kept<X: Threads + Wait + Sync, S: System, O: Watcher, W: Write>(
-    threads: &X,
-    alloc: Global,
-    system: &S,
-    observer: &O,
-    words: &[String],
-    output: &mut W,
 ) -> (u8, Option<S::Kept>)
-    // As of `answer`; what that file holds is the certificate.
+    // Where the words are well formed, what they ask for is done over the system's files, and the file that is handed
+    // back holds the certificate; else help is explained where they ask for it, or the mistake in usage that they make.
     ensures does { Answers (S.sources system.now) (map (λ word. string_bytes word) words.now)
         (W.contents output.old) (W.contents output.new) (held_by S.Kept.contents result.1) result.0 }
+    // A refused input, a mistake in usage, and refused memory or threads leave the output as it was.
     ensures silent { IsRefused result.0 → Keeps (W.contents output.old) (W.contents output.new) }
 {
+    let environment = Environment {
+        threads,
+        alloc,
+        system,
+        observer,
+    };
     match request_of(alloc, words) {
-        Ok(request) => answered(threads, alloc, system, observer, &request, output),
+        Ok(request) => answered(&environment, &request, output),
         Err(error) => (explained(system, &error), None),
     }
 }

@@ -1,19 +1,21 @@
 //! Many workers, who plan regions in threads of their own. What they answer of a region is `IsRegionPlan` of
 //! search_traits' specs/Planning.antt.
 ghost use Rattle.std.specs.Arc.{arc_value};
-ghost use Rattle.std.specs.Prelude.{◌≡◌, ◌<◌, IfOk};
+ghost use Rattle.std.specs.Prelude.{◌≡◌, ◌<◌, IfOk, IfSome};
 ghost use Rattle.search_traits.specs.Planned.{IsFloor};
 ghost use Rattle.search_traits.specs.Planning.{IsRegionPlan};
 ghost use Rattle.search_traits.specs.Turns.{IsWithin};
 ghost use Rattle.torch_plan.specs.Crew.{of_pool};
 
-use cave_model::OutOfMemory;
+use crate::halls::is_hall;
 use instance_regions::{Cover, Region};
 use plan_options::Workers;
-use search_core::{BranchAndBound, carried_cover, carried_plan, core_region, plan_by_one};
+use search_core::{
+    BranchAndBound, carried_cover, carried_plan, core_region, cover_in_core, plan_by_one,
+};
 use search_pool::{PoolFault, Report, plan_with};
 use search_traits::{
-    BestPlan, Closer, Observer, RegionFault, RegionPlan, Strategy, are_spent, first_of, rest_of,
+    BestPlan, Observer, RegionFault, RegionPlan, Strategy, are_spent, first_of, rest_of,
     smaller_of, stopped, with_earlier, with_known,
 };
 use std::alloc::Global;
@@ -25,7 +27,10 @@ use std::thread::Threads;
 const FEW: usize = 128;
 
 /// So many turns of a larger region are one worker's alone, before it is shared: what so many close one closes soonest.
+/// In a hall they are fewer, since each takes long.
 const ALONE: u64 = 512;
+
+const ALONE_IN_HALL: u64 = 64;
 
 /// More workers than one, with their strategy, the handles for their threads, and an observer, who may hold them back.
 #[derive(Drop)]
@@ -62,9 +67,10 @@ impl<'e, X: Threads + Wait + Sync, S: Strategy + Send + Sync, O: Observer> Crew<
         ensures { IsRegionPlan self.now.workers.number turns (arc_value region.now) result }
     {
         if region.places().len() <= FEW {
-            return self.plan_by_many(alloc, region, turns);
+            return self.plan_by_many(alloc, region, turns, None);
         }
-        let first = first_of(turns, ALONE);
+        let alone = if is_hall(region.as_ref()) { ALONE_IN_HALL } else { ALONE };
+        let first = first_of(turns, alone);
         match plan_by_one::<S, O>(alloc, region, Some(first), self.observer) {
             Ok(plan) => Ok(plan),
             Err(RegionFault::Stopped { cover, floor, .. }) => {
@@ -94,13 +100,20 @@ impl<'e, X: Threads + Wait + Sync, S: Strategy + Send + Sync, O: Observer> Crew<
             return stopped(region, workers, turns, granted, cover, floor);
         }
         let left = rest_of(turns, granted);
-        let plan = self.plan_by_core(alloc, region, left);
+        let plan = self.plan_by_core(alloc, region, left, &cover, floor);
         let plan = with_known(region, workers, left, plan, cover, floor);
         with_earlier(region, workers, turns, granted, plan)
     }
 
-    /// The plan by many workers.
-    fn plan_by_many(&self, alloc: Global, region: &Arc<Region>, turns: Option<u64>) -> RegionPlan
+    /// The plan by many workers, where a cover of the region may be known.
+    fn plan_by_many(
+        &self,
+        alloc: Global,
+        region: &Arc<Region>,
+        turns: Option<u64>,
+        known: Option<Cover>,
+    ) -> RegionPlan
+        requires known { IfSome known (λ cover. cover.region ≡ arc_value region.now) }
         ensures { IsRegionPlan self.now.workers.number turns (arc_value region.now) result }
     {
         match plan_with::<BranchAndBound<S>, X, O>(
@@ -110,21 +123,34 @@ impl<'e, X: Threads + Wait + Sync, S: Strategy + Send + Sync, O: Observer> Crew<
             self.workers,
             self.observer,
             turns,
+            known,
         ) {
             Ok(report) => Ok(plan_of(report)),
             Err(fault) => Err(told(fault)),
         }
     }
 
-    /// The plan by many workers over the region's core, where some place is not of it. If the plan isn't one of the
-    /// region, that is planned with the turns that are left.
-    fn plan_by_core(&self, alloc: Global, region: &Arc<Region>, turns: Option<u64>) -> RegionPlan
+    /// The plan by many workers over the region's core, where some place is not of it, from this cover of the region
+    /// on, and where none is below this floor. If the plan isn't one of the region, that is planned with the turns that
+    /// are left.
+    fn plan_by_core(
+        &self,
+        alloc: Global,
+        region: &Arc<Region>,
+        turns: Option<u64>,
+        known: &Cover,
+        floor: u64,
+    ) -> RegionPlan
+        requires cover { known.now.region ≡ arc_value region.now }
+        requires floor { IsFloor (arc_value region.now) floor }
         ensures { IsRegionPlan self.now.workers.number turns (arc_value region.now) result }
     {
         let Some(core) = core_region::<S>(alloc, region.as_ref())? else {
-            return self.plan_by_many(alloc, region, turns);
+            let known = known.try_clone()?;
+            return self.plan_by_many(alloc, region, turns, Some(known));
         };
         let core = Arc::new(alloc, core)?;
+        let first = cover_in_core::<S>(alloc, region.as_ref(), &core, known)?;
         match plan_with::<BranchAndBound<S>, X, O>(
             self.rt,
             alloc,
@@ -132,6 +158,7 @@ impl<'e, X: Threads + Wait + Sync, S: Strategy + Send + Sync, O: Observer> Crew<
             self.workers,
             self.observer,
             turns,
+            first,
         ) {
             Ok(report) => self.plan_carried(alloc, region, turns, plan_of(report)),
             Err(
@@ -141,9 +168,9 @@ impl<'e, X: Threads + Wait + Sync, S: Strategy + Send + Sync, O: Observer> Crew<
                     ..
                 },
             ) => {
-                let (cover, floor) = known::<S>(alloc, region, &cover)?;
+                let carried = carried_cover::<S>(alloc, region, &cover)?;
                 Err(RegionFault::Stopped {
-                    cover,
+                    cover: smaller_of(known.try_clone()?, carried),
                     floor,
                     turns: granted,
                 })
@@ -175,7 +202,7 @@ impl<'e, X: Threads + Wait + Sync, S: Strategy + Send + Sync, O: Observer> Crew<
                 turns: granted,
             });
         }
-        let plan = self.plan_by_many(alloc, region, rest_of(turns, granted));
+        let plan = self.plan_by_many(alloc, region, rest_of(turns, granted), None);
         with_earlier(region, self.workers.number, turns, granted, plan)
     }
 }
@@ -195,20 +222,6 @@ fn plan_of(report: Report) -> BestPlan
         proof,
         turns,
     }
-}
-
-/// What is known of the region where the turns were spent on its core: the smaller of that cover and of a first one,
-/// and a size that none is below.
-fn known<S: Strategy>(
-    alloc: Global,
-    region: &Arc<Region>,
-    cover: &Cover,
-) -> Result<(Cover, u64), OutOfMemory>
-    ensures { IfOk result (λ r. (r.0.region ≡ arc_value region.now) × IsFloor (arc_value region.now) r.1) }
-{
-    let begun = BranchAndBound::<S>::begin(alloc, region)?;
-    let carried = carried_cover::<S>(alloc, region, cover)?;
-    Ok((smaller_of(begun.cover, carried), begun.floor))
 }
 
 /// Why many workers have no plan of a region, as any planner tells it.

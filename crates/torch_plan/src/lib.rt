@@ -4,6 +4,7 @@
 mod advance;
 mod answering;
 mod crew;
+mod environment;
 mod memory;
 mod planner;
 mod runs;
@@ -11,7 +12,7 @@ mod status;
 mod system;
 
 pub use advance::Advance;
-pub use answering::{answer, answer_kept};
+pub use answering::answer;
 pub use cave_model::Rule;
 pub use cave_runs::{
     Input, Name, Observer, OpenSides, Outcome, RunFault, Unkept, Unobserved, Verdict, Watcher,

@@ -3,7 +3,7 @@ ghost use Rattle.std.specs.Prelude.{◌≡◌, List, [], map, option_copied, opt
 ghost use Rattle.torch_plan.specs.Memory.{AnswersInMemory, bytes_at};
 ghost use Rattle.torch_plan.specs.Status.{IsRefused};
 
-use crate::answering::answer_kept;
+use crate::answering::answer;
 use crate::system::System;
 use cave_runs::{RunFault, Watcher};
 use clap::Error;
@@ -111,7 +111,7 @@ pub fn answer_in_memory<X: Threads + Wait + Sync, O: Watcher>(
         input,
     };
     let mut output = Vec::new(alloc);
-    let (status, proof) = answer_kept(threads, alloc, &memory, observer, words, &mut output);
+    let (status, proof) = answer(threads, alloc, &memory, observer, words, &mut output);
     Ended {
         status,
         output,

@@ -12,6 +12,7 @@ ghost use Rattle.torch_plan.specs.Given.{given};
 ghost use Rattle.torch_plan.specs.Kept.{held_by};
 ghost use Rattle.torch_plan.specs.Sources.{LacksTable, made_in};
 
+use crate::environment::Environment;
 use crate::planner::run_plan;
 use crate::system::System;
 use cave_model::Rule;
@@ -46,18 +47,19 @@ fn table_of<S: System>(
 }
 
 /// The dark cells of a structure.
-pub(crate) fn answer_dark<S: System, O: Watcher, W: Write>(
-    alloc: Global,
-    system: &S,
+pub(crate) fn answer_dark<X, S: System, O: Watcher, W: Write>(
+    environment: &Environment<'_, X, S, O>,
     file: &str,
     table: Option<&str>,
     rule: Rule,
-    observer: &O,
     output: &mut W,
 ) -> Result<(), RunFault>
-    ensures { AnswersDark (S.sources system.now) file.now (option_copied table.entry) (rule_of rule)
-        (W.contents output.old) (W.contents output.new) result }
+    ensures { AnswersDark (S.sources environment.now.system.now) file.now (option_copied table.entry)
+        (rule_of rule) (W.contents output.old) (W.contents output.new) result }
 {
+    let alloc = environment.alloc;
+    let system = environment.system;
+    let observer = environment.observer;
     let table = table_of(alloc, system, table)?;
     let table = table.as_deref();
     if file == "-" {
@@ -71,49 +73,56 @@ pub(crate) fn answer_dark<S: System, O: Watcher, W: Write>(
 
 /// Plans what the reader has. The file for the proof is made, or emptied, before it is read, and handed back.
 fn plan_from<X: Threads + Wait + Sync, S: System, O: Watcher, R: Read, W: Write>(
-    threads: &X,
-    alloc: Global,
-    system: &S,
+    environment: &Environment<'_, X, S, O>,
     reader: &mut R,
     table: Option<&[u8]>,
     opts: &PlanOpts,
-    observer: &O,
     proof: Option<&str>,
     output: &mut W,
 ) -> (Result<Outcome, RunFault>, Option<S::Kept>)
     ensures done { IfOk result.0 (λ outcome. IfSome (R.remaining reader.old) (λ bytes.
         Plans bytes (option_copied table.entry) (rule_of opts.now.rule)
         (given opts.now.workers.number opts.now.turns) outcome (W.contents output.old) (W.contents output.new)
-        (made_in (S.sources system.now) (option_copied proof.entry)) (held_by S.Kept.contents result.1))) }
+        (made_in (S.sources environment.now.system.now) (option_copied proof.entry))
+        (held_by S.Kept.contents result.1))) }
     ensures left { LeavesOutput result.0 (W.contents output.old) (W.contents output.new) }
     ensures begun { IfErr result.0 (λ e. e ≡ RunFault.WriteFailed
         → Keeps (W.contents output.old) (W.contents output.new)
         ⊎ IfSome (R.remaining reader.old) (λ bytes. BeginsPlan bytes (option_copied table.entry) (rule_of opts.now.rule)
         (given opts.now.workers.number opts.now.turns) (W.contents output.old) (W.contents output.new)
-        (made_in (S.sources system.now) (option_copied proof.entry)) (held_by S.Kept.contents result.1))) }
+        (made_in (S.sources environment.now.system.now) (option_copied proof.entry))
+        (held_by S.Kept.contents result.1))) }
     ensures fault { IfErr result.0 (λ e. IsOfInput e → e ≢ RunFault.NoThread → IfSome (R.remaining reader.old)
         (λ bytes. IsNoPlanOfInput bytes (option_copied table.entry) (rule_of opts.now.rule) e)) }
     ensures threads { IfErr result.0 (λ e. e ≡ RunFault.NoThread → 1 < opts.now.workers.number) }
-    ensures untouched { LeavesMade result.0 (made_in (S.sources system.now) (option_copied proof.entry))
+    ensures untouched { LeavesMade result.0
+        (made_in (S.sources environment.now.system.now) (option_copied proof.entry))
         (held_by S.Kept.contents result.1) }
 {
     let Some(path) = proof else {
         let result = run_plan(
-            threads,
-            alloc,
+            environment.threads,
+            environment.alloc,
             reader,
             table,
             opts,
-            observer,
+            environment.observer,
             output,
             &mut Unkept,
         );
         return (result, None);
     };
-    match system.create(path) {
+    match environment.system.create(path) {
         Some(mut kept) => {
             let result = run_plan(
-                threads, alloc, reader, table, opts, observer, output, &mut kept,
+                environment.threads,
+                environment.alloc,
+                reader,
+                table,
+                opts,
+                environment.observer,
+                output,
+                &mut kept,
             );
             (result, Some(kept))
         }
@@ -123,35 +132,29 @@ fn plan_from<X: Threads + Wait + Sync, S: System, O: Watcher, R: Read, W: Write>
 
 /// The plan of a structure, and the file for its proof, where one was made.
 pub(crate) fn answer_plan<X: Threads + Wait + Sync, S: System, O: Watcher, W: Write>(
-    threads: &X,
-    alloc: Global,
-    system: &S,
+    environment: &Environment<'_, X, S, O>,
     file: &str,
     table: Option<&str>,
     opts: &PlanOpts,
-    observer: &O,
     proof: Option<&str>,
     output: &mut W,
 ) -> (Result<Outcome, RunFault>, Option<S::Kept>)
-    ensures { AnswersPlan (S.sources system.now) file.now (option_copied table.entry) (option_copied proof.entry)
-        (rule_of opts.now.rule) (given opts.now.workers.number opts.now.turns)
+    ensures { AnswersPlan (S.sources environment.now.system.now) file.now (option_copied table.entry)
+        (option_copied proof.entry) (rule_of opts.now.rule) (given opts.now.workers.number opts.now.turns)
         (W.contents output.old) (W.contents output.new) (held_by S.Kept.contents result.1) result.0 }
 {
-    let table = match table_of(alloc, system, table) {
+    let system = environment.system;
+    let table = match table_of(environment.alloc, system, table) {
         Ok(table) => table,
         Err(fault) => return (Err(fault), None),
     };
     let table = table.as_deref();
     if file == "-" {
         let mut input = system.standard();
-        return plan_from(
-            threads, alloc, system, &mut input, table, opts, observer, proof, output,
-        );
+        return plan_from(environment, &mut input, table, opts, proof, output);
     }
     match system.open(file) {
-        Some(mut input) => plan_from(
-            threads, alloc, system, &mut input, table, opts, observer, proof, output,
-        ),
+        Some(mut input) => plan_from(environment, &mut input, table, opts, proof, output),
         None => (Err(RunFault::ReadFailed), None),
     }
 }

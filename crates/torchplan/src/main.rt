@@ -11,14 +11,11 @@ fn main(rt: HostRuntime) -> ExitCode {
     let progress = Progress::new(&rt);
     let host = Host::new(&rt, &progress);
     ExitCode::from(match words_of(&rt, &host) {
-        Ok(words) => answer(
-            &rt,
-            rt.alloc(),
-            &host,
-            &progress,
-            &words,
-            &mut io::writer(&rt),
-        ),
+        Ok(words) => {
+            let mut output = io::writer(&rt);
+            let (status, _kept) = answer(&rt, rt.alloc(), &host, &progress, &words, &mut output);
+            status
+        }
         Err(status) => status,
     })
 }

@@ -1,6 +1,8 @@
 //! How much is done at a node. A long search gets more: its trees and their leaves become shorter, where a short one
 //! would take longer.
 
+use crate::sought::Sought;
+
 /// How many nodes a search has before it is long.
 const SHORT_SEARCH: u64 = 400;
 
@@ -21,15 +23,16 @@ pub(crate) struct Effort {
 }
 
 impl Effort {
-    /// That at a node of this depth, where so many nodes came before it. A search that may pick is long.
-    pub(crate) fn at(depth: usize, nodes: u64, may_pick: bool) -> Effort {
-        if depth == 0 {
+    /// That at a node where so many came before it. A search that may pick is long below its first node, and one that
+    /// is part of a longer one is from there on.
+    pub(crate) fn at(sought: Sought, nodes: u64) -> Effort {
+        if sought.depth == 0 && !sought.is_part {
             return Effort {
                 runs: FIRST_RUNS,
                 is_long: false,
             };
         }
-        let is_long = may_pick || nodes >= SHORT_SEARCH;
+        let is_long = sought.may_pick || sought.is_part || nodes >= SHORT_SEARCH;
         Effort {
             runs: if is_long { LONG_RUNS } else { RUNS },
             is_long,

@@ -1,5 +1,5 @@
-//! Where the kids of a branch begin: their relaxations are run side by side, each less the places of the kids before it,
-//! until all is known of them. A place that may come back as these are barred is one of the lanes'.
+//! Where the kids of a branch begin: their relaxations are run side by side, each less the places of the kids before
+//! it, until all is known of them. A place that may come back as these are barred is one of the lanes'.
 
 use crate::branching::{Shortfall, before};
 use crate::kid_bounds::KidBounds;

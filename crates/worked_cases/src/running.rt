@@ -48,7 +48,7 @@ fn came_of<X: Threads + Wait + Sync>(
     };
     let sides = Sides::new();
     let mut output = record.output(step);
-    let status = answer(rt, alloc, &machine, &sides, &command.words, &mut output);
+    let (status, _kept) = answer(rt, alloc, &machine, &sides, &command.words, &mut output);
     Ok(Came {
         status,
         told: record.told(),

@@ -38,7 +38,7 @@ fn ended<X: Threads + Wait + Sync>(
     let host = Host::new(rt, &progress);
     let words = words_of(alloc, folder, line)?;
     let mut output = Vec::new(alloc);
-    let status = answer(threads, alloc, &host, &Unobserved, &words, &mut output);
+    let (status, _kept) = answer(threads, alloc, &host, &Unobserved, &words, &mut output);
     Ok((status, output))
 }
 

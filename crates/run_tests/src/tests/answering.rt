@@ -31,7 +31,7 @@ fn help_that_cannot_be_printed_is_a_failed_write(rt: HostRuntime) -> Result<(), 
     };
     let words = words_of(alloc, "torchplan --help")?;
     let mut output = Vec::new(alloc);
-    let status = answer(&rt, alloc, &shelf, &Unobserved, &words, &mut output);
+    let (status, _kept) = answer(&rt, alloc, &shelf, &Unobserved, &words, &mut output);
     assert_eq!(rt; status, 6);
     assert_eq!(rt; [notes.explained.get(), notes.refused.get()], [1, 1]);
     assert!(rt; output.is_empty());
@@ -88,7 +88,7 @@ fn written<X: Abort + Threads + Wait + Sync>(
     };
     let words = words_of(alloc, line)?;
     let mut output = Vec::new(alloc);
-    let status = answer(rt, alloc, &shelf, &Unobserved, &words, &mut output);
+    let (status, _kept) = answer(rt, alloc, &shelf, &Unobserved, &words, &mut output);
     assert_eq!(rt; status, 0, "{line}");
     Ok(notes.kept())
 }

@@ -21,7 +21,15 @@ pub(crate) fn end_of<R: Abort + Threads + Wait + Sync, G: Observer>(
     gate: &G,
     turns: Option<u64>,
 ) -> Result<Report, PoolFault> {
-    plan_with::<BranchAndBound<Moves>, R, G>(rt, alloc, region, workers(rt, count), gate, turns)
+    plan_with::<BranchAndBound<Moves>, R, G>(
+        rt,
+        alloc,
+        region,
+        workers(rt, count),
+        gate,
+        turns,
+        None,
+    )
 }
 
 /// The report of so many workers, with all the turns.

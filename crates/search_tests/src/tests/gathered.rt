@@ -19,13 +19,13 @@ fn gathered(
     works: Vec<Work>,
     turns: Option<u64>,
 ) -> Result<Result<Gathered, PoolFault>, Fail> {
-    let begun = BranchAndBound::<Moves>::begin(alloc, region)?;
+    let begun = BranchAndBound::<Moves>::begin(alloc, region, None)?;
     Ok(gather::<BranchAndBound<Moves>>(alloc, region, begun.cover, begun.cell, works, turns))
 }
 
 /// The first of the root's kids on that cell, closed.
 fn first_kid(alloc: Global, region: &Arc<Region>) -> Result<Vec<Closed>, Fail> {
-    let cell = BranchAndBound::<Moves>::begin(alloc, region)?.cell;
+    let cell = BranchAndBound::<Moves>::begin(alloc, region, None)?.cell;
     let mut found = Vec::new(alloc);
     for kid in kids_on(alloc, region, cell)? {
         if found.is_empty() {

@@ -1,31 +1,35 @@
 use Rattle.std.specs.Prelude.{option_copied}
 use Rattle.std.proofs.lemmas.Result.{err_from_is_err_and}
 use Rattle.cave_model.specs.RuleOf.{rule_of}
-use Rattle.cave_runs.specs.Runs.{IsRefusedRun}
-use Rattle.cave_runs.proofs.RunLemmas.{widened}
-use Rattle.cave_runs.proofs.PlanRunLemmas.{no_plan_input, no_plan_refused}
+use Rattle.cave_runs.proofs.PlanRunLemmas.{plan_ended, plan_refused, plan_unread}
 use Rattle.cave_runs.proofs.plan.run_planner.Goals as goal
 
-pub returns-in_err-world-clause-fault : goal.returns-in_err-world-clause-fault
-returns-in_err-world-clause-fault g c =
-    let p = err_from_is_err_and c.from_residual-in_err-world.result c.from_residual-in_err-world.ensures.1 in
-    rw (p.1, p.2) (λ of_input thread. no_plan_input (g.R.Read.remaining c.args.reader.now) c.in_ok-bytes.bytes.items
-    (option_copied c.args.table) (rule_of c.args.rule) c.in_err-world.field-0.0
-    c.in_ok-bytes.ensures.all c.in_ok-bytes.ensures.within
-    (rw c.deref.ensures.value at (c.in_err-world.ensures.fault of_input.2 thread)))
+pub returns-in_err-bytes : goal.returns-in_err-bytes
+returns-in_err-bytes g c =
+    let p = err_from_is_err_and c.from_residual.result c.from_residual.ensures.1 in
+    rw (p.1, p.2) (plan_unread (g.R.Read.remaining c.args.reader.now) (g.R.Read.remaining c.read_all.new.reader)
+    (option_copied c.args.table) (rule_of c.args.rule) c.args.planner.now.allowance c.in_err-bytes.field-0.0
+    (g.W.Write.contents c.args.writer.now) (g.V.Write.contents c.args.proof.now)
+    c.in_err-bytes.ensures.kinds c.in_err-bytes.ensures.too_long c.in_err-bytes.ensures.before)
 
-pub returns-in_err-world-clause-refused : goal.returns-in_err-world-clause-refused
-returns-in_err-world-clause-refused g c =
+pub returns-in_err-world : goal.returns-in_err-world
+returns-in_err-world g c =
     let p = err_from_is_err_and c.from_residual-in_err-world.result c.from_residual-in_err-world.ensures.1 in
-    no_plan_refused (g.R.Read.remaining c.args.reader.now) c.in_ok-bytes.bytes.items (option_copied c.args.table)
-    (rule_of c.args.rule) (IsRefusedRun c.from_residual-in_err-world.result)
-    c.in_ok-bytes.ensures.all c.in_ok-bytes.ensures.within
-    (λ due fault. widened c.from_residual-in_err-world.result p.0 due p.1
-    (rw p.2 ((rw c.deref.ensures.value at c.in_err-world.ensures.refused) due fault)))
+    rw (p.1, p.2) (plan_refused (g.R.Read.remaining c.args.reader.now) (g.R.Read.remaining c.read_all.new.reader)
+    (option_copied c.args.table) (rule_of c.args.rule) c.args.planner.now.allowance c.in_ok-bytes.bytes.items
+    c.in_ok-bytes.ensures.all c.in_ok-bytes.ensures.within c.in_ok-bytes.ensures.ended c.in_err-world.field-0.0
+    (g.W.Write.contents c.args.writer.now) (g.V.Write.contents c.args.proof.now)
+    (rw c.deref.ensures.value at c.in_err-world.ensures.fault) c.in_err-world.ensures.threads
+    (rw c.deref.ensures.value at c.in_err-world.ensures.refused))
 
-pub returns-clause-refused : goal.returns-clause-refused
-returns-clause-refused g c =
-    no_plan_refused (g.R.Read.remaining c.args.reader.now) c.in_ok-bytes.bytes.items (option_copied c.args.table)
-    (rule_of c.args.rule) (IsRefusedRun c.put_plan.result)
-    c.in_ok-bytes.ensures.all c.in_ok-bytes.ensures.within
-    (λ due fault. absurd ((rw c.deref.ensures.value at c.in_ok-world.ensures.refused) due fault))
+pub returns : goal.returns
+returns g c =
+    let found = rw c.deref.ensures.value at c.in_ok-world.ensures.found in
+    plan_ended (g.R.Read.remaining c.args.reader.now) (g.R.Read.remaining c.read_all.new.reader)
+    (option_copied c.args.table) (rule_of c.args.rule) c.args.planner.now.allowance c.in_ok-bytes.bytes.items
+    c.in_ok-bytes.ensures.all c.in_ok-bytes.ensures.within c.in_ok-bytes.ensures.ended
+    c.in_ok-world.world c.put_plan.result
+    (g.W.Write.contents c.args.writer.now) (g.W.Write.contents c.put_plan.new.writer)
+    (g.V.Write.contents c.args.proof.now) (g.V.Write.contents c.put_plan.new.proof)
+    found.0 (rw c.deref.ensures.value at c.in_ok-world.ensures.refused)
+    c.put_plan.ensures.done c.put_plan.ensures.left

@@ -13,7 +13,7 @@ held_as (Some v) = refl
 
 pub returns-clause-does : goal.returns-clause-does
 returns-clause-does g c =
-    let run = c.answer_kept-status in let known = sources_of c.args.files.now c.args.input.now in
+    let run = c.answer-status in let known = sources_of c.args.files.now c.args.input.now in
     let words = map (λ word. string_bytes word) c.args.words.now in
     answered_in_memory c.args.files.now c.args.input.now words run.result.0 run.new.output.items
     (option_map (λ v. v.items) run.result.1)

@@ -8,7 +8,7 @@ use Rattle.torch_plan.proofs.runs.answer_dark.Goals as goal
 
 pub returns-then-eq : goal.returns-then-eq
 returns-then-eq g c =
-    let sources = g.S.System.sources c.args.system.now in let file = c.args.file.now in
+    let sources = g.S.System.sources c.args.environment.now.system.now in let file = c.args.file.now in
     let rows = c.as_deref-table in let run = c.run_dark in
     let told = told_as (table_in sources (option_copied c.args.table)) (option_copied rows.result) _
     (sym (copied rows.result) ∙ rows.ensures.value) c.in_ok-table.ensures.known in
@@ -21,7 +21,7 @@ returns-then-eq g c =
 
 pub returns-in-Some : goal.returns-in-Some
 returns-in-Some g c =
-    let sources = g.S.System.sources c.args.system.now in let file = c.args.file.now in
+    let sources = g.S.System.sources c.args.environment.now.system.now in let file = c.args.file.now in
     let rows = c.as_deref-table in let run = c.run_dark-in-Some in
     let told = told_as (table_in sources (option_copied c.args.table)) (option_copied rows.result) _
     (sym (copied rows.result) ∙ rows.ensures.value) c.in_ok-table.ensures.known in

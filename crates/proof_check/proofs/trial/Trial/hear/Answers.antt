@@ -18,11 +18,13 @@ pub overflow_add-self : goal.overflow_add-self
 overflow_add-self c = (let s = behind_sum c.args.world.now c.args.self.now c.args.kind c.requires c.if-self.false in
     let e = ap (torches_on c.args.kind) c.numbers-numbers.ensures in omega (arith, c.torch_count.ensures))
 
-pub line-requires-clause-torches : goal.line-requires-clause-torches
-line-requires-clause-torches c = behind_torches c.args.world.now c.args.self.now c.args.kind c.requires c.if-self.false
+pub judge_line-requires-clause-torches : goal.judge_line-requires-clause-torches
+judge_line-requires-clause-torches c = behind_torches c.args.world.now c.args.self.now c.args.kind c.requires
+    c.if-self.false
 
-pub line-requires-clause-regions : goal.line-requires-clause-regions
-line-requires-clause-regions c = behind_regions c.args.world.now c.args.self.now c.args.kind c.requires c.if-self.false
+pub judge_line-requires-clause-regions : goal.judge_line-requires-clause-regions
+judge_line-requires-clause-regions c = behind_regions c.args.world.now c.args.self.now c.args.kind c.requires
+    c.if-self.false
 
 pub returns-clause-catches : goal.returns-clause-catches
 returns-clause-catches c = catches_line c.args.world.now c.args.kind c.taken.result c.args.self.now _
@@ -31,5 +33,5 @@ returns-clause-catches c = catches_line c.args.world.now c.args.kind c.taken.res
     (ap (λ (n : ℕ). c.args.self.now.torches + n)
     (c.torch_count.ensures ∙ ap (torches_on c.args.kind) c.numbers-numbers.ensures))
     c.taken.ensures
-    (subst (λ (ns : List ℕ). Hears c.args.kind ns c.taken.result c.args.self.now.judge c.line.new.self)
-    c.numbers-numbers.ensures c.in_ok-line.ensures)
+    (subst (λ (ns : List ℕ). Hears c.args.kind ns c.taken.result c.args.self.now.judge c.judge_line.new.self)
+    c.numbers-numbers.ensures c.in_ok-judge_line.ensures)
