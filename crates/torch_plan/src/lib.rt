@@ -5,6 +5,7 @@ mod advance;
 mod answering;
 mod crew;
 mod environment;
+mod halls;
 mod memory;
 mod planner;
 mod runs;
