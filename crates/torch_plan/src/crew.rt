@@ -69,7 +69,11 @@ impl<'e, X: Threads + Wait + Sync, S: Strategy + Send + Sync, O: Observer> Crew<
         if region.places().len() <= FEW {
             return self.plan_by_many(alloc, region, turns, None);
         }
-        let alone = if is_hall(region.as_ref()) { ALONE_IN_HALL } else { ALONE };
+        let alone = if is_hall(region.as_ref()) {
+            ALONE_IN_HALL
+        } else {
+            ALONE
+        };
         let first = first_of(turns, alone);
         match plan_by_one::<S, O>(alloc, region, Some(first), self.observer) {
             Ok(plan) => Ok(plan),
