@@ -1,30 +1,36 @@
-//! Why a cave has no plan.
-ghost use Rattle.std.specs.Prelude.{◌≡◌};
+//! Why a cave has no plan: specs/Faults.antt.
+ghost use Rattle.std.specs.Prelude.{◌≡◌, ◌≢◌};
 ghost use Rattle.cave_plan.specs.Faults.{of_cover};
+ghost use Rattle.cover_rows.specs.Coverage.{IsUnlightableFault};
+ghost use Rattle.cover_rows.specs.declared.fault.CoverFault.{CoverFault};
 ghost use Rattle.cave_plan.specs.declared.fault.PlanFault.TheVariants.{OutOfMemory};
 
-use cave_base::Cell;
+use cave_base::coordinates;
+use cave_model::World;
 use cover_rows::CoverFault;
 use std::alloc::{AllocError, AllocFailed};
 
 /// Why a cave has no plan.
 #[derive(Clone, Copy, Debug, PartialEq, Eq)]
 pub enum PlanFault {
-    /// A dark cell that no place lights.
-    Unlightable { cell: Cell },
+    /// The least dark cell that no place lights, by its coordinates.
+    Unlightable { x: u32, y: u32, z: u32 },
     /// No worker could be started.
     NoThread,
     OutOfMemory,
 }
 
-impl From<CoverFault> for PlanFault {
-    ghost from_gives = { λ e r. r ≡ of_cover e };
-
-    fn from(fault: CoverFault) -> PlanFault {
-        match fault {
-            CoverFault::Unlightable { cell } => PlanFault::Unlightable { cell },
-            CoverFault::OutOfMemory => PlanFault::OutOfMemory,
+/// Why a world has no coverage, as why it has no plan.
+pub(crate) fn plan_fault(world: &World, fault: CoverFault) -> PlanFault
+    requires { fault ≢ CoverFault.OutOfMemory → IsUnlightableFault world.now fault }
+    ensures { result ≡ of_cover world.now.size fault }
+{
+    match fault {
+        CoverFault::Unlightable { cell } => {
+            let [x, y, z] = coordinates(world.size(), cell);
+            PlanFault::Unlightable { x, y, z }
         }
+        CoverFault::OutOfMemory => PlanFault::OutOfMemory,
     }
 }
 

@@ -10,7 +10,7 @@ ghost use Rattle.search_traits.specs.Planning.{PlansRegions};
 
 use crate::course::{Course, in_order, plan_regions};
 use crate::drawing::plan_text;
-use crate::fault::PlanFault;
+use crate::fault::{PlanFault, plan_fault};
 use cave_model::{Rule, World};
 use cave_regions::split;
 use certificate_text::Planned;
@@ -86,7 +86,10 @@ fn regions_of(alloc: Global, world: &World) -> Result<(Vec<Region>, usize), Plan
     ensures threads { IfErr result (λ e. e ≢ PlanFault.NoThread) }
     ensures refused { (e : PlanFault) → NamesUnlightable world.now e → IsRefusedPlan result e }
 {
-    let problem = Problem::new(alloc, world)?;
+    let problem = match Problem::new(alloc, world) {
+        Ok(problem) => problem,
+        Err(fault) => return Err(plan_fault(world, fault)),
+    };
     let dark = problem.dark().len();
     let regions = split(alloc, &problem)?;
     Ok((regions, dark))
@@ -108,7 +111,7 @@ pub fn plan_cave<F: Fn(&Arc<Region>) -> RegionPlan, O: Observer>(
     // Best torches, or, where turns were limited, safe ones and a number that none are fewer than. No region took more
     // turns than the limit.
     ensures found { IfOk result (IsOutlineOf world.now planner.now.allowance) }
-    // A fault but want of threads names the least dark cell that no place lights.
+    // A fault but want of threads names the least dark cell that no place lights, by its coordinates.
     ensures fault { IfErr result (λ e. e ≢ PlanFault.OutOfMemory → e ≢ PlanFault.NoThread
         → NamesUnlightable world.now e) }
     // Threads are asked for only where more workers than one are.

@@ -6,7 +6,7 @@ use Rattle.std.specs.Io.KnownBytes.{Appends}
 use Rattle.std.specs.List.Sorted.{IsStrictlyIncreasing}
 use Rattle.std.proofs.KnownBytes.{Keeps-refl}
 use Rattle.std.proofs.lemmas.List.{append-nil}
-use Rattle.cave_base.specs.Box.{Point, point, coordinates}
+use Rattle.cave_base.specs.Box.{coordinates}
 use Rattle.cave_reading.specs.Bytes as caves
 use Rattle.cave_reading.specs.Bytes.{IsCaveOfBytes}
 use Rattle.cave_model.specs.Cave.{Cave}
@@ -23,13 +23,13 @@ use Rattle.certificate_text.proofs.WritingLemmas.{none_taken}
 use Rattle.cave_plan.proofs.AcceptedLemmas.{accepted, best_are_bounded, part_of, section_leasts, section_torches}
 use Rattle.cave_plan.proofs.PartLemmas.{same_number}
 use Rattle.cave_plan.proofs.VersionLemmas.{in_least_version}
-use Rattle.cave_plan.specs.Faults.{NamesUnlightable}
+use Rattle.cave_plan.specs.Faults.{NamesUnlightable, unlightable_at}
 use Rattle.cave_plan.specs.Outline.{IsPlanned, IsStoppedAt, Prints}
 use Rattle.cave_plan.specs.declared.fault.PlanFault.{PlanFault}
 use Rattle.cave_plan.specs.declared.fault.PlanFault.TheVariants as plan
 use Rattle.proof_check.specs.Reading.{GivesAtMost}
 use Rattle.search_traits.specs.declared.planner.Allowance.{Allowance}
-use Rattle.cave_runs.specs.Faults.{run_fault_of, of_write}
+use Rattle.cave_runs.specs.Faults.{run_fault_of, of_plan, of_write}
 use Rattle.cave_runs.specs.Limits.{structure_limit}
 use Rattle.cave_runs.specs.PlanRuns.{WritesBest, EndsIn, Plans, BeginsTexts, BeginsPlan, Leaves}
 use Rattle.cave_runs.specs.PlanRuns.{LeavesIn, LeavesProved, NamesUnlit, IsNoPlan, IsNoPlanOfInput}
@@ -203,45 +203,41 @@ no_plan_refused (Some b) bytes table rule Met same within met =
     (subst (λ (x : List ℕ). IsNoPlanOfInput x table rule due) (sym same) fault))
 
 -- a dark cell that no place lights, as it is told by a run
-pub unlit_named : (cave : Cave) (cell : ℕ) (size result : List ℕ) → point size ≡ cave.size
-    → point result ≡ coordinates (point size) cell
-    → NamesUnlightable cave (plan.Unlightable cell)
-    → NamesUnlit cave (faults.Unlightable (point result).x (point result).y (point result).z)
-unlit_named cave cell size result sized at (other, is, least, same) =
-    let e : cell ≡ other = inside same in
-    record {
-      cell = other;
-      unlightable = is;
-      least = least;
-      named = ap (λ (p : Point). faults.Unlightable p.x p.y p.z)
-          (at ∙ ap (λ (s : Point). coordinates s cell) sized ∙ ap (coordinates cave.size) e);
-    }
-  where
-    inside : {a b : ℕ} → plan.Unlightable a ≡ plan.Unlightable b → a ≡ b
-    inside e = cc
+pub unlit_named : (cave : Cave) (e : PlanFault) → NamesUnlightable cave e → NamesUnlit cave (of_plan e)
+unlit_named cave e u = record {
+  cell = u.cell;
+  unlightable = u.unlightable;
+  least = u.least;
+  named = ap of_plan u.named;
+}
 
--- the least such cell is one
+-- and as it is told by a plan
 pub unlit_fault : (cave : Cave) (due : RunFault) → (u : NamesUnlit cave due)
-    → NamesUnlightable cave (plan.Unlightable u.cell)
-unlit_fault cave due u = (u.cell, u.unlightable, u.least, refl)
+    → NamesUnlightable cave (unlightable_at (coordinates cave.size u.cell))
+unlit_fault cave due u = record {
+  cell = u.cell;
+  unlightable = u.unlightable;
+  least = u.least;
+  named = refl;
+}
 
-pub unlit_same : (cave : Cave) (cell : ℕ) (size result : List ℕ) (due : RunFault) → point size ≡ cave.size
-    → point result ≡ coordinates (point size) cell → (u : NamesUnlit cave due) → cell ≡ u.cell
-    → faults.Unlightable (point result).x (point result).y (point result).z ≡ due
-unlit_same cave cell size result due sized at u e =
-    ap (λ (p : Point). faults.Unlightable p.x p.y p.z)
-    (at ∙ ap (λ (s : Point). coordinates s cell) sized ∙ ap (coordinates cave.size) e) ∙ sym u.named
+-- where such a fault of the plan is answered, so is that of the run
+pub unlit_refused : (cave : Cave) (f : PlanFault)
+    → ((e : PlanFault) → NamesUnlightable cave e → (f ≡ e) ⊎ (f ≡ plan.OutOfMemory))
+    → (due : RunFault) → NamesUnlit cave due → (of_plan f ≡ due) ⊎ (of_plan f ≡ faults.OutOfMemory)
+unlit_refused cave f refused due u =
+    told (refused (unlightable_at (coordinates cave.size u.cell)) (unlit_fault cave due u))
+  where
+    told : (f ≡ unlightable_at (coordinates cave.size u.cell)) ⊎ (f ≡ plan.OutOfMemory)
+        → (of_plan f ≡ due) ⊎ (of_plan f ≡ faults.OutOfMemory)
+    told (inl same) = inl (ap of_plan same ∙ sym u.named)
+    told (inr same) = inr (ap of_plan same)
 
-pub same_cell : (fault : PlanFault) (a b : ℕ) → fault ≡ plan.Unlightable a → (fault ≡ plan.Unlightable b)
-    ⊎ (fault ≡ plan.OutOfMemory) → a ≡ b
-same_cell fault a b is (inl e) = (let both : plan.Unlightable a ≡ plan.Unlightable b = sym is ∙ e in cc)
-same_cell fault a b is (inr e) = (let both : plan.Unlightable a ≡ plan.OutOfMemory = sym is ∙ e in cc)
-
--- no worker is asked for where a cell can't be lit
-pub no_thread_unlit : (fault : PlanFault) (cell : ℕ) → fault ≡ plan.NoThread → (fault ≡ plan.Unlightable cell)
-    ⊎ (fault ≡ plan.OutOfMemory) → ⊥
-no_thread_unlit fault cell is (inl e) = (let both : plan.NoThread ≡ plan.Unlightable cell = sym is ∙ e in cc)
-no_thread_unlit fault cell is (inr e) = (let both : plan.NoThread ≡ plan.OutOfMemory = sym is ∙ e in cc)
+-- want of threads is told as such alone
+pub threads_told : (e : PlanFault) → of_plan e ≡ faults.NoThread → e ≡ plan.NoThread
+threads_told (plan.Unlightable x y z) same = cc
+threads_told plan.NoThread same = refl
+threads_told plan.OutOfMemory same = cc
 
 -- where the cave is refused, a plan is too
 pub cave_unplanned : (bytes : List ℕ) (table : Option (List ℕ)) (rule : Rule) (e : CaveFault)

@@ -1,9 +1,10 @@
 //! Why a run was refused, and its fault line: specs/Faults.antt and specs/Texts.antt.
 ghost use Rattle.std.specs.Prelude.{◌≡◌};
-ghost use Rattle.cave_runs.specs.Faults.{run_fault_of, of_check, of_write};
+ghost use Rattle.cave_runs.specs.Faults.{run_fault_of, of_check, of_plan, of_write};
 ghost use Rattle.cave_runs.specs.declared.fault.RunFault.TheVariants.{OutOfMemory};
 
 use block_rows::RowsFault;
+use cave_plan::PlanFault;
 use cave_reading::{BuildFault, CaveFault};
 use certificate_text::WriteFault;
 use proof_check::CheckFault;
@@ -66,6 +67,18 @@ impl From<CaveFault> for RunFault {
             CaveFault::Table(fault) => RunFault::Table(fault),
             CaveFault::Build(fault) => RunFault::Build(fault),
             CaveFault::OutOfMemory => RunFault::OutOfMemory,
+        }
+    }
+}
+
+impl From<PlanFault> for RunFault {
+    ghost from_gives = { λ e r. r ≡ of_plan e };
+
+    fn from(fault: PlanFault) -> RunFault {
+        match fault {
+            PlanFault::Unlightable { x, y, z } => RunFault::Unlightable { x, y, z },
+            PlanFault::NoThread => RunFault::NoThread,
+            PlanFault::OutOfMemory => RunFault::OutOfMemory,
         }
     }
 }

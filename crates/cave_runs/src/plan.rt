@@ -4,8 +4,7 @@ ghost use Rattle.std.specs.Prelude.{◌≡◌, ◌≢◌, ◌<◌, IfOk, IfErr, 
 ghost use Rattle.cave_base.specs.Answer.{IsRefusal};
 ghost use Rattle.cave_model.specs.RuleOf.{rule_of};
 ghost use Rattle.cave_plan.specs.Outline.{IsOutlineOf, IsPlanned};
-ghost use Rattle.cave_runs.specs.PlanRuns.{EndsIn, IsNoPlan, LeavesIn, LeavesProved, NamesUnlit, TellsPlans};
-ghost use Rattle.cave_runs.specs.PlanRuns.{WritesBest};
+ghost use Rattle.cave_runs.specs.PlanRuns.{EndsIn, IsNoPlan, LeavesIn, LeavesProved, TellsPlans, WritesBest};
 ghost use Rattle.cave_runs.specs.RunOfPlan.{IsRunOfPlan};
 ghost use Rattle.cave_runs.specs.declared.fault.RunFault.{RunFault};
 ghost use Rattle.certificate_text.specs.PlanOf.{plans_of};
@@ -16,9 +15,8 @@ use crate::limits::STRUCTURE_LIMIT;
 use crate::reading::read_all;
 use crate::watcher::{Watcher, tell_sides};
 use crate::writing::put_all;
-use cave_base::coordinates;
 use cave_model::{Rule, World};
-use cave_plan::{Allowance, Outline, PlanFault, Planner, RegionPlan, plan_cave};
+use cave_plan::{Allowance, Outline, Planner, RegionPlan, plan_cave};
 use cave_reading::read_cave;
 use certificate_text::write_certificate;
 use instance_regions::Region;
@@ -33,32 +31,6 @@ pub enum Outcome {
     Done { turns: u64 },
     /// The turns of a region were spent before, and the most turns that were granted to a region.
     Stopped { turns: u64 },
-}
-
-/// The plan of a world; a dark cell that no place lights is told by its coordinates.
-fn outline_world<F: Fn(&Arc<Region>) -> RegionPlan, O: Watcher>(
-    alloc: Global,
-    world: &World,
-    planner: &Planner<F>,
-    observer: &O,
-) -> Result<Outline, RunFault>
-    requires callable { F.IsAlwaysCallable planner.now.plan }
-    requires plans { PlansRegions (λ region. arc_value region.now) planner.now.allowance
-        (F.post planner.now.plan) }
-    ensures found { IfOk result (IsOutlineOf world.now planner.now.allowance) }
-    ensures fault { IfErr result (λ e. e ≢ RunFault.OutOfMemory → e ≢ RunFault.NoThread → NamesUnlit world.now e) }
-    ensures threads { IfErr result (λ e. e ≡ RunFault.NoThread → 1 < planner.now.allowance.workers) }
-    ensures refused { (e : RunFault) → NamesUnlit world.now e → IsRefusal RunFault.OutOfMemory result e }
-{
-    match plan_cave(alloc, world, planner, observer) {
-        Ok(outline) => Ok(outline),
-        Err(PlanFault::NoThread) => Err(RunFault::NoThread),
-        Err(PlanFault::OutOfMemory) => Err(RunFault::OutOfMemory),
-        Err(PlanFault::Unlightable { cell }) => {
-            let [x, y, z] = coordinates(world.size(), cell);
-            Err(RunFault::Unlightable { x, y, z })
-        }
-    }
 }
 
 /// The cave that the bytes tell, with its plan.
@@ -83,7 +55,7 @@ fn plan_bytes<F: Fn(&Arc<Region>) -> RegionPlan, O: Watcher>(
 {
     let world = read_cave(alloc, bytes, table, rule)?;
     tell_sides(&world, observer);
-    let outline = outline_world(alloc, &world, planner, observer)?;
+    let outline = plan_cave(alloc, &world, planner, observer)?;
     Ok((world, outline))
 }
 

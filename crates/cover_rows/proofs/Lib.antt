@@ -3,7 +3,7 @@ pub mod LightingLemmas
 pub mod FillLemmas
 pub mod InstanceLemmas
 pub mod CoverLemmas
-pub mod RegionLemmas
+pub mod NumberedLemmas
 pub mod SideLemmas
 pub mod ReachLemmas
 pub mod WordLemmas

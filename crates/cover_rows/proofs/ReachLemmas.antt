@@ -14,7 +14,7 @@ use Rattle.cave_model.proofs.NeighbourLemmas.{listed_shares, listed_at, index_of
 use Rattle.set_cover.specs.Bits.{Has}
 use Rattle.set_cover.proofs.BitLemmas.{one_if, has_at}
 use Rattle.cover_rows.specs.Blocks.{Reaches, IsSet}
-use Rattle.cover_rows.specs.Region.{AreLinked, AreSides, IsNumberOf}
+use Rattle.cover_rows.specs.Reach.{AreLinked, AreSides, IsNumberOf}
 
 -- ---- bits of words
 
@@ -86,33 +86,33 @@ set_bit words cell bit lt = (
 
 -- ---- sides
 
-module _ (cave : Cave) (sides region near : List ℕ) (count : ℕ) (s : AreSides cave (cell_count cave.size) sides)
-    (links : AreLinked sides region near count) where
+module _ (cave : Cave) (sides reach near : List ℕ) (count : ℕ) (s : AreSides cave (cell_count cave.size) sides)
+    (links : AreLinked sides reach near count) where
   -- a side of a cell is the cell itself or a neighbour
-  pub side_leads : (number face : ℕ) → number < count → face < 6 → slice_index region number < cell_count cave.size
-      → (slice_index region (slice_index near (6 * number + face)) ≡ slice_index region number)
-      ⊎ AreNeighbours cave.size (slice_index region number)
-      (slice_index region (slice_index near (6 * number + face)))
+  pub side_leads : (number face : ℕ) → number < count → face < 6 → slice_index reach number < cell_count cave.size
+      → (slice_index reach (slice_index near (6 * number + face)) ≡ slice_index reach number)
+      ⊎ AreNeighbours cave.size (slice_index reach number)
+      (slice_index reach (slice_index near (6 * number + face)))
   side_leads number face lt small inside =
       let is = links.each number face lt small in
-      let side = s.each (slice_index region number) face inside small in
+      let side = s.each (slice_index reach number) face inside small in
       elim side.leads [
         | inl self ↦ inl (is.there ∙ self)
-        | inr beyond ↦ inr (subst (AreNeighbours cave.size (slice_index region number)) (sym is.there)
-            (listed_shares cave.size (slice_index region number) face
-            (slice_index sides (6 * slice_index region number + face)) inside beyond))
+        | inr beyond ↦ inr (subst (AreNeighbours cave.size (slice_index reach number)) (sym is.there)
+            (listed_shares cave.size (slice_index reach number) face
+            (slice_index sides (6 * slice_index reach number + face)) inside beyond))
       ]
 
   -- each neighbour that light can enter is a side
-  pub side_to : (number to : ℕ) → number < count → slice_index region number < cell_count cave.size
-      → AreNeighbours cave.size (slice_index region number) to → entering_cost cave to < 15
-      → (face : ℕ) × (face < 6) × IsNumberOf region to (slice_index near (6 * number + face))
+  pub side_to : (number to : ℕ) → number < count → slice_index reach number < cell_count cave.size
+      → AreNeighbours cave.size (slice_index reach number) to → entering_cost cave to < 15
+      → (face : ℕ) × (face < 6) × IsNumberOf reach to (slice_index near (6 * number + face))
   side_to number to lt inside n passes =
       let face = index_of n.face in
-      let side = s.each (slice_index region number) face inside (index_below n.face) in
-      let at = side.opens to (listed_at cave.size (slice_index region number) n.face ∙ n.there) passes in (
+      let side = s.each (slice_index reach number) face inside (index_below n.face) in
+      let at = side.opens to (listed_at cave.size (slice_index reach number) n.face ∙ n.there) passes in (
         face,
         index_below n.face,
-        subst (λ (c : ℕ). IsNumberOf region c (slice_index near (6 * number + face))) at
+        subst (λ (c : ℕ). IsNumberOf reach c (slice_index near (6 * number + face))) at
             (links.each number face lt (index_below n.face)),
       )

@@ -7,7 +7,7 @@ use Rattle.cave_base.specs.Box.{Point, cell_count}
 use Rattle.cave_model.specs.Cells.{neighbours_of}
 use Rattle.cave_model.specs.Cave.{Cave}
 use Rattle.cave_model.proofs.NeighbourLemmas.{listed_inside}
-use Rattle.cover_rows.specs.Region.{AreInside, AreSides, AreSidesOf, IsSide}
+use Rattle.cover_rows.specs.Reach.{AreInside, AreSides, AreSidesOf, IsSide}
 
 -- what lies beyond a face lies in the box
 pub beyond_inside : (size : Point) (cell face : ℕ) (beyond : Option ℕ) → cell < cell_count size

@@ -1,4 +1,4 @@
--- The words of a block go into the rows, one cell of the region after another.
+-- The words of a block go into the rows, one cell of the reach after another.
 use Rattle.std.proofs.Common.{◌≡◌, ◌≢◌, ◌⊎◌, ℕ, ◌+◌, ◌*◌, ◌<◌, ◌≤◌, List, length, take, set}
 use Rattle.std.proofs.Common.{slice_index, Contains, All, refl, sym, ap, subst, ◌∙◌, arith, inl, inr}
 use Rattle.std.proofs.Common.{get_or-set_same, get_or-set_other, length-set, mul-le-mul_left}
@@ -10,7 +10,7 @@ use Rattle.std.proofs.lemmas.List.Elements.{Contains-push_cases}
 use Rattle.std.proofs.lemmas.Grind.{get_or_default_zero}
 use Rattle.std.specs.List.Sorted.{IsStrictlyIncreasing}
 use Rattle.cave_base.specs.Box.{cell_count}
-use Rattle.cover_rows.specs.Region.{AreOnce}
+use Rattle.cover_rows.specs.Reach.{AreOnce}
 use Rattle.cave_model.specs.Cave.{Cave}
 use Rattle.cover_rows.specs.Filling.{AreIndices}
 use Rattle.cover_rows.specs.Blocks.{Reaches, IsSet, IsWordAt, IsComplete}
@@ -42,11 +42,11 @@ block_once cells sources block is up i j h g e = elim (cases_lt i j) [
 
 -- ---- storing
 
--- so many of the region's cells have their words in the rows
-pub record Storing (cave : Cave) (sources region places : List ℕ) (width block count : ℕ) (old new : List ℕ) (all : ℕ)
+-- so many of the reach's cells have their words in the rows
+pub record Storing (cave : Cave) (sources reach places : List ℕ) (width block count : ℕ) (old new : List ℕ) (all : ℕ)
     : Type 0 where
   pub whole : length new ≡ length old
-  pub done : (place : ℕ) → place < length places → Contains (take count region) (slice_index places place)
+  pub done : (place : ℕ) → place < length places → Contains (take count reach) (slice_index places place)
       → IsWordAt cave sources cave.rule.need (slice_index places place) (slice_index new (place * width + block))
   pub others : (place : ℕ) → place < length places
       → (slice_index new (place * width + block) ≡ slice_index old (place * width + block))
@@ -55,7 +55,7 @@ pub record Storing (cave : Cave) (sources region places : List ℕ) (width block
       → slice_index new (place * width + column) ≡ slice_index old (place * width + column)
   pub found : (bit : ℕ) → bit < 64 → IsSet all bit → IsLitBy cave sources places bit
   pub lit : (bit : ℕ) (by : IsLitBy cave sources places bit) → bit < 64
-      → Contains (take count region) (slice_index places by.place) → IsSet all bit
+      → Contains (take count reach) (slice_index places by.place) → IsSet all bit
 
 -- two words of rows at one place are of one row and one column
 pub same_word : (width p q c d : ℕ) → c < width → d < width → p * width + c ≡ q * width + d → (p ≡ q) × (c ≡ d)
@@ -74,11 +74,11 @@ pub word_room : (count width index block : ℕ) → index < count → block < wi
 word_room count width index block lt in_row =
     (let more : width * (index + 1) ≤ width * count = mul-le-mul_left width (omega arith) in omega arith)
 
-module _ (cave : Cave) (sources region places indices : List ℕ) (width block : ℕ) (narrow : block < width)
+module _ (cave : Cave) (sources reach places indices : List ℕ) (width block : ℕ) (narrow : block < width)
     (indexed : AreIndices (cell_count cave.size) places indices)
-    (inside : All (λ cell. cell < cell_count cave.size) region) where
+    (inside : All (λ cell. cell < cell_count cave.size) reach) where
   -- before the first cell
-  pub storing_none : (old : List ℕ) → Storing cave sources region places width block 0 old old 0
+  pub storing_none : (old : List ℕ) → Storing cave sources reach places width block 0 old old 0
   storing_none old = record {
     whole = refl;
     done = λ place h c. absurd (none_taken c);
@@ -88,26 +88,26 @@ module _ (cave : Cave) (sources region places indices : List ℕ) (width block :
     lit = λ bit by lt c. absurd (none_taken c);
   }
     where
-      none_taken : {x : ℕ} → Contains (take 0 region) x → ⊥
+      none_taken : {x : ℕ} → Contains (take 0 reach) x → ⊥
       none_taken c = absurd (omega (arith, c.1))
 
   -- of the first so many and one more
-  in_more : {A : Type 0} (k cell : ℕ) → k < length region → Contains (take (k + 1) region) cell
-      → (Contains (take k region) cell → A) → (slice_index region k ≡ cell → A) → A
-  in_more k cell h c before last = elim (Contains-push_cases (take k region) (slice_index region k) cell
-      (subst (λ (l : List ℕ). Contains l cell) (take_more region k 0 h) c)) [
+  in_more : {A : Type 0} (k cell : ℕ) → k < length reach → Contains (take (k + 1) reach) cell
+      → (Contains (take k reach) cell → A) → (slice_index reach k ≡ cell → A) → A
+  in_more k cell h c before last = elim (Contains-push_cases (take k reach) (slice_index reach k) cell
+      (subst (λ (l : List ℕ). Contains l cell) (take_more reach k 0 h) c)) [
         | inl b ↦ before b
         | inr e ↦ last e
       ]
 
-  module _ (k : ℕ) (h : k < length region) where
+  module _ (k : ℕ) (h : k < length reach) where
     abbrev pub here : ℕ
-    here = slice_index region k
+    here = slice_index reach k
 
     -- the cell is no place
     pub storing_pass : (old new : List ℕ) (all : ℕ) → length places ≤ slice_index indices here
-        → Storing cave sources region places width block k old new all
-        → Storing cave sources region places width block (k + 1) old new all
+        → Storing cave sources reach places width block k old new all
+        → Storing cave sources reach places width block (k + 1) old new all
     storing_pass old new all past s = record {
       whole = s.whole;
       done = λ place lt c. in_more k (slice_index places place) h c (s.done place lt) (λ e. absurd (none place lt e));
@@ -125,8 +125,8 @@ module _ (cave : Cave) (sources region places indices : List ℕ) (width block :
     -- the cell is a place
     pub storing_next : (old new : List ℕ) (all word : ℕ) → slice_index indices here < length places
         → length new ≡ length places * width → IsWordAt cave sources cave.rule.need here word
-        → Storing cave sources region places width block k old new all
-        → Storing cave sources region places width block (k + 1) old
+        → Storing cave sources reach places width block k old new all
+        → Storing cave sources reach places width block (k + 1) old
         (set new (slice_index indices here * width + block) word) (bit_or all word)
     storing_next old new all word lt long is s = record {
       whole = length-set new at word ∙ s.whole;
@@ -197,9 +197,9 @@ module _ (cave : Cave) (sources region places indices : List ℕ) (width block :
             )))) is))
 
   -- after the last cell the rows have the block's words
-  pub storing_all : (old new : List ℕ) (all k count : ℕ) → count ≤ k → count ≤ length region
-      → IsComplete cave sources region count cave.rule.need → HaveNone places width block old
-      → Storing cave sources region places width block k old new all
+  pub storing_all : (old new : List ℕ) (all k count : ℕ) → count ≤ k → count ≤ length reach
+      → IsComplete cave sources reach count cave.rule.need → HaveNone places width block old
+      → Storing cave sources reach places width block k old new all
       → IsStored cave sources places width block old new all
   storing_all old new all k count last within complete none s = record {
     whole = s.whole;
@@ -221,8 +221,8 @@ module _ (cave : Cave) (sources region places indices : List ℕ) (width block :
     );
   }
     where
-      taken : (cell : ℕ) → (number : ℕ) × (number < count) × (slice_index region number ≡ cell)
-          → Contains (take k region) cell
-      taken cell by = element_of (take k region) cell by.0
-          (omega (arith, length-take k region, by.1, last, within))
-          (get_or-take k region by.0 0 (omega (arith, by.1, last)) ∙ by.2)
+      taken : (cell : ℕ) → (number : ℕ) × (number < count) × (slice_index reach number ≡ cell)
+          → Contains (take k reach) cell
+      taken cell by = element_of (take k reach) cell by.0
+          (omega (arith, length-take k reach, by.1, last, within))
+          (get_or-take k reach by.0 0 (omega (arith, by.1, last)) ∙ by.2)

@@ -1,11 +1,11 @@
 -- Which cells of a block bring a level of light to a cell: words with a bit for each of the block's cells, by its
--- index. A cell's words stand by its number in the region. This is this project's own.
+-- index. A cell's words stand by its number in the reach. This is this project's own.
 use Rattle.std.specs.Prelude.{◌≡◌, ◌<◌, ◌≤◌, ◌↔◌, ℕ, ◌+◌, ◌*◌, ◌^◌, List, length, slice_index, All}
 use Rattle.std.specs.Int.{bit_at}
 use Rattle.cave_base.specs.Box.{cell_count}
 use Rattle.cave_model.specs.Cave.{Cave}
 use Rattle.cave_model.specs.Light.{BringsFrom, entering_cost}
-use Rattle.cover_rows.specs.Region.{AreLinked, AreOnce, AreSides, BeginsWith}
+use Rattle.cover_rows.specs.Reach.{AreLinked, AreOnce, AreSides, BeginsWith}
 
 -- light of 15 at the source, less what entering the source costs, brings at least this level to the cell
 abbrev pub Reaches : Cave → ℕ → ℕ → ℕ → Type 0
@@ -33,17 +33,17 @@ pub record AreInRoom (near levels : List ℕ) (number : ℕ) : Type 0 where
   pub sides : 6 * number + 6 ≤ length near
   pub words : (face : ℕ) → face < 6 → 16 * slice_index near (6 * number + face) + 16 ≤ length levels
 
--- the same for the first so many numbers of a region of that length, whose words are there too
+-- the same for the first so many numbers of a reach of that length, whose words are there too
 pub record AreSized (long : ℕ) (near levels : List ℕ) (count : ℕ) : Type 0 where
   pub few : count ≤ long
   pub here : 16 * long ≤ length levels
   pub each : (number : ℕ) → number < count → AreInRoom near levels number
 
--- a region in the box, of which the first so many cells are linked, with at most 64 sources
-pub record HasRoom (cave : Cave) (region near levels : List ℕ) (sources count : ℕ) : Type 0 where
-  pub inside : All (λ cell. cell < cell_count cave.size) region
-  pub sized : AreSized (length region) near levels count
-  pub small : length region < 2 ^ 32
+-- a reach in the box, of which the first so many cells are linked, with at most 64 sources
+pub record HasRoom (cave : Cave) (reach near levels : List ℕ) (sources count : ℕ) : Type 0 where
+  pub inside : All (λ cell. cell < cell_count cave.size) reach
+  pub sized : AreSized (length reach) near levels count
+  pub small : length reach < 2 ^ 32
   pub few : sources ≤ 64
 
 -- the word has just the bits that one of the first so many sides has at the level
@@ -51,35 +51,35 @@ pub record IsUnion (near levels : List ℕ) (number level count word : ℕ) : Ty
   pub exact : (bit : ℕ) → IsSet word bit
       ↔ ((face : ℕ) × (face < count) × IsSet (word_at levels (slice_index near (6 * number + face)) level) bit)
 
--- the words of the region at the levels from this one up are there
-pub record AreExact (cave : Cave) (sources region : List ℕ) (least : ℕ) (levels : List ℕ) : Type 0 where
-  pub exact : (number level : ℕ) → number < length region → least ≤ level → level < 16
-      → IsWordAt cave sources level (slice_index region number) (word_at levels number level)
+-- the words of the reach at the levels from this one up are there
+pub record AreExact (cave : Cave) (sources reach : List ℕ) (least : ℕ) (levels : List ℕ) : Type 0 where
+  pub exact : (number level : ℕ) → number < length reach → least ≤ level → level < 16
+      → IsWordAt cave sources level (slice_index reach number) (word_at levels number level)
 
--- a region that begins with the sources, with the links of its first so many cells
-pub record IsLinked (cave : Cave) (sources region near : List ℕ) (count : ℕ) : Type 0 where
-  pub begins : BeginsWith sources region
-  pub once : AreOnce region
-  pub links : (sides : List ℕ) × AreSides cave (cell_count cave.size) sides × AreLinked sides region near count
+-- a reach that begins with the sources, with the links of its first so many cells
+pub record IsLinked (cave : Cave) (sources reach near : List ℕ) (count : ℕ) : Type 0 where
+  pub begins : BeginsWith sources reach
+  pub once : AreOnce reach
+  pub links : (sides : List ℕ) × AreSides cave (cell_count cave.size) sides × AreLinked sides reach near count
 
 -- the word is that of the number at the level, for whichever sources the words above it are
-pub record IsWordBy (cave : Cave) (region near levels : List ℕ) (sources number level word : ℕ) : Type 0 where
-  pub exact : (cells : List ℕ) → length cells ≡ sources → IsLinked cave cells region near (number + 1)
-      → AreExact cave cells region (level + 1) levels → IsWordAt cave cells level (slice_index region number) word
+pub record IsWordBy (cave : Cave) (reach near levels : List ℕ) (sources number level word : ℕ) : Type 0 where
+  pub exact : (cells : List ℕ) → length cells ≡ sources → IsLinked cave cells reach near (number + 1)
+      → AreExact cave cells reach (level + 1) levels → IsWordAt cave cells level (slice_index reach number) word
 
 -- each cell to which one of the sources brings the level is one of the first so many
-pub record IsComplete (cave : Cave) (sources region : List ℕ) (count level : ℕ) : Type 0 where
+pub record IsComplete (cave : Cave) (sources reach : List ℕ) (count level : ℕ) : Type 0 where
   pub each : (bit cell : ℕ) → bit < length sources → Reaches cave (slice_index sources bit) level cell
-      → (number : ℕ) × (number < count) × (slice_index region number ≡ cell)
+      → (number : ℕ) × (number < count) × (slice_index reach number ≡ cell)
 
 -- the words at the levels from this one up are there, and there are no others
-pub record AreLevels (cave : Cave) (sources region : List ℕ) (least : ℕ) (levels : List ℕ) : Type 0 where
-  pub there : AreExact cave sources region least levels
+pub record AreLevels (cave : Cave) (sources reach : List ℕ) (least : ℕ) (levels : List ℕ) : Type 0 where
+  pub there : AreExact cave sources reach least levels
   pub none : (number level : ℕ) → level < least → level < 16 → word_at levels number level ≡ 0
-  pub others : AreBlank levels (length region)
+  pub others : AreBlank levels (length reach)
 
 -- the words at one level more are there, for whichever sources those above it are
-pub record Settles (cave : Cave) (region near : List ℕ) (sources count level : ℕ) (old new : List ℕ) : Type 0 where
-  pub settled : (cells : List ℕ) → length cells ≡ sources → IsLinked cave cells region near count
-      → IsComplete cave cells region count level
-      → AreLevels cave cells region (level + 1) old → AreLevels cave cells region level new
+pub record Settles (cave : Cave) (reach near : List ℕ) (sources count level : ℕ) (old new : List ℕ) : Type 0 where
+  pub settled : (cells : List ℕ) → length cells ≡ sources → IsLinked cave cells reach near count
+      → IsComplete cave cells reach count level
+      → AreLevels cave cells reach (level + 1) old → AreLevels cave cells reach level new

@@ -5,6 +5,6 @@ pub mod Texts
 pub mod Blocks
 pub mod Filling
 pub mod BlockFlood
-pub mod Region
+pub mod Reach
 pub mod Storing
 pub mod Unlit

@@ -31,10 +31,10 @@ pub record IsStored (cave : Cave) (sources places : List ℕ) (width block : ℕ
       → slice_index new (place * width + column) ≡ slice_index old (place * width + column)
   pub lit : (bit : ℕ) → bit < 64 → IsSet all bit ↔ IsLitBy cave sources places bit
 
--- for whichever sources the words at the levels are, and where the region has the cells that get what is needed
-pub record Stores (cave : Cave) (region near levels places : List ℕ) (sources count width block : ℕ) (old new : List ℕ)
+-- for whichever sources the words at the levels are, and where the reach has the cells that get what is needed
+pub record Stores (cave : Cave) (reach near levels places : List ℕ) (sources count width block : ℕ) (old new : List ℕ)
     (all : ℕ) : Type 0 where
-  pub stored : (cells : List ℕ) → length cells ≡ sources → IsLinked cave cells region near count
-      → AreExact cave cells region (cave.rule.need + 1) levels
-      → IsComplete cave cells region count cave.rule.need → HaveNone places width block old
+  pub stored : (cells : List ℕ) → length cells ≡ sources → IsLinked cave cells reach near count
+      → AreExact cave cells reach (cave.rule.need + 1) levels
+      → IsComplete cave cells reach count cave.rule.need → HaveNone places width block old
       → IsStored cave cells places width block old new all

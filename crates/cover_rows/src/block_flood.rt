@@ -5,20 +5,20 @@
 ghost use Rattle.std.specs.Prelude.{◌≤◌, length, IfOk};
 ghost use Rattle.cave_base.specs.Box.{cell_count};
 ghost use Rattle.cover_rows.specs.BlockFlood.{HasSpread, IsLeft, IsReady};
-ghost use Rattle.cover_rows.specs.Region.{AreSides, AreSources};
+ghost use Rattle.cover_rows.specs.Reach.{AreSides, AreSources};
 
 use crate::levels::{blank, settle};
-use crate::region::{Linked, NONE, begin, forget, grow};
+use crate::reach::{Linked, NONE, begin, forget, grow};
 use cave_base::Cell;
 use cave_model::World;
 use std::alloc::{AllocError, Global};
 
 /// The memory of a flood, for a box: made once, and lent to each block. Each cell of the box has its number in the
-/// region, and each number of the region a cell, six numbers of sides and 16 words.
+/// reach, and each number of the reach a cell, six numbers of sides and 16 words.
 #[derive(Drop)]
 pub struct BlockFlood {
     pub local: Vec<u32>,
-    pub region: Vec<Cell>,
+    pub reach: Vec<Cell>,
     pub near: Vec<u32>,
     pub levels: Vec<u64>,
 }
@@ -31,14 +31,14 @@ impl BlockFlood {
     {
         Ok(BlockFlood {
             local: vec![in alloc; NONE; count as usize]?,
-            region: Vec::new(alloc),
+            reach: Vec::new(alloc),
             near: vec![in alloc; 0u32; 6 * count as usize]?,
             levels: vec![in alloc; 0u64; 16 * count as usize]?,
         })
     }
 
     /// Floods from the sources. The words at the levels above the one that is needed are filled. How many of the
-    /// region's cells are linked: among them is each to which a source brings what is needed.
+    /// reach's cells are linked: among them is each to which a source brings what is needed.
     pub fn spread(
         &mut self,
         world: &World,
@@ -53,14 +53,14 @@ impl BlockFlood {
         let local = self.local.as_mut_slice();
         let near = self.near.as_mut_slice();
         let levels = self.levels.as_mut_slice();
-        let region = &mut self.region;
-        begin(local, region, sources)?;
+        let reach = &mut self.reach;
+        begin(local, reach, sources)?;
         let mut from = 0;
         for level in (world.need() + 1..15).rev() {
-            let count = region.len();
-            grow(sides, local, region, near, from)?;
+            let count = reach.len();
+            grow(sides, local, reach, near, from)?;
             let linked = Linked {
-                region: region.as_slice(),
+                reach: reach.as_slice(),
                 near,
                 sources: sources.len(),
                 count,
@@ -68,8 +68,8 @@ impl BlockFlood {
             settle(world, &linked, levels, level);
             from = count;
         }
-        let count = region.len();
-        grow(sides, local, region, near, from)?;
+        let count = reach.len();
+        grow(sides, local, reach, near, from)?;
         Ok(count)
     }
 
@@ -78,8 +78,8 @@ impl BlockFlood {
         requires { IsLeft (length self.old.local.items) self.old }
         ensures { IsReady (length self.old.local.items) self.new }
     {
-        forget(self.local.as_mut_slice(), self.region.as_slice());
-        blank(self.levels.as_mut_slice(), self.region.len());
-        self.region.clear();
+        forget(self.local.as_mut_slice(), self.reach.as_slice());
+        blank(self.levels.as_mut_slice(), self.reach.len());
+        self.reach.clear();
     }
 }

@@ -6,7 +6,7 @@ ghost use Rattle.cover_rows.specs.Filling.{AreIndices};
 ghost use Rattle.cover_rows.specs.Storing.{IsBlock, Stores};
 
 use crate::levels::word_of;
-use crate::region::Linked;
+use crate::reach::Linked;
 use cave_base::Cell;
 use cave_model::World;
 
@@ -39,18 +39,18 @@ pub fn store(
     column: &Column<'_>,
     words: &mut [u64],
 ) -> u64
-    requires room { HasRoom world.now linked.now.region.now linked.now.near.now levels.now
+    requires room { HasRoom world.now linked.now.reach.now linked.now.near.now levels.now
         linked.now.sources linked.now.count }
     requires indices { AreIndices (cell_count world.now.size) column.now.places.now column.now.indices.now }
     requires whole { length words.old ≡ length column.now.places.now * column.now.width }
     requires small { length words.old < 2 ^ 58 }
     requires block { column.now.block < column.now.width }
-    ensures { Stores world.now linked.now.region.now linked.now.near.now levels.now column.now.places.now
+    ensures { Stores world.now linked.now.reach.now linked.now.near.now levels.now column.now.places.now
         linked.now.sources linked.now.count column.now.width column.now.block words.old words.new result }
 {
     let mut all = 0;
     for number in 0..linked.count {
-        let index = column.indices[linked.region[number] as usize] as usize;
+        let index = column.indices[linked.reach[number] as usize] as usize;
         if index < column.places.len() {
             let word = word_of(world, linked, levels, number, world.need());
             words[index * column.width + column.block] = word;

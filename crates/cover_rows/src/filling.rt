@@ -8,7 +8,7 @@ ghost use Rattle.set_cover.specs.Instance.{words_for};
 use crate::block_flood::BlockFlood;
 use crate::blocks::{Column, block_of, store};
 use crate::indexing::indices_of;
-use crate::region::Linked;
+use crate::reach::Linked;
 use crate::sides::sides_of;
 use cave_base::Cell;
 use cave_model::{OutOfMemory, World};
@@ -70,11 +70,11 @@ fn fill(
     for block in 0..width {
         let sources = block_of(cells, block);
         let count = flood.spread(world, &sides, sources)?;
-        let region = flood.region.as_slice();
+        let reach = flood.reach.as_slice();
         let near = flood.near.as_slice();
         let levels = flood.levels.as_slice();
         let linked = Linked {
-            region,
+            reach,
             near,
             sources: sources.len(),
             count,

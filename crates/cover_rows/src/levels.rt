@@ -4,7 +4,7 @@
 ghost use Rattle.std.specs.Prelude.{◌<◌, ◌≤◌, ◌*◌, ◌^◌, length};
 ghost use Rattle.cover_rows.specs.Blocks.{AreBlank, AreInRoom, HasRoom, IsUnion, IsWordBy, Settles};
 
-use crate::region::Linked;
+use crate::reach::Linked;
 use cave_model::World;
 
 /// The bits that the sides of the cell with this number have at a level.
@@ -21,16 +21,16 @@ fn gathered(near: &[u32], levels: &[u64], number: usize, level: usize) -> u64
     word
 }
 
-/// The word of the region's cell with this number at a level, where the words at the levels above are there.
+/// The word of the reach's cell with this number at a level, where the words at the levels above are there.
 pub fn word_of(world: &World, linked: &Linked<'_>, levels: &[u64], number: usize, level: u8) -> u64
-    requires room { HasRoom world.now linked.now.region.now linked.now.near.now levels.now
+    requires room { HasRoom world.now linked.now.reach.now linked.now.near.now levels.now
         linked.now.sources linked.now.count }
     requires number { number < linked.now.count }
     requires level { (1 ≤ level) × (level < 16) }
-    ensures { IsWordBy world.now linked.now.region.now linked.now.near.now levels.now linked.now.sources number level
+    ensures { IsWordBy world.now linked.now.reach.now linked.now.near.now levels.now linked.now.sources number level
         result }
 {
-    let above = level as usize + u8::max(1, world.class_of(linked.region[number]).opacity) as usize;
+    let above = level as usize + u8::max(1, world.class_of(linked.reach[number]).opacity) as usize;
     if above >= 16 {
         return 0;
     }
@@ -44,10 +44,10 @@ pub fn word_of(world: &World, linked: &Linked<'_>, levels: &[u64], number: usize
 
 /// Fills the words of the linked cells at a level, where the words at the levels above are there.
 pub fn settle(world: &World, linked: &Linked<'_>, levels: &mut [u64], level: u8)
-    requires room { HasRoom world.now linked.now.region.now linked.now.near.now levels.old
+    requires room { HasRoom world.now linked.now.reach.now linked.now.near.now levels.old
         linked.now.sources linked.now.count }
     requires level { (1 ≤ level) × (level < 16) }
-    ensures { Settles world.now linked.now.region.now linked.now.near.now linked.now.sources linked.now.count level
+    ensures { Settles world.now linked.now.reach.now linked.now.near.now linked.now.sources linked.now.count level
         levels.old levels.new }
 {
     for number in 0..linked.count {

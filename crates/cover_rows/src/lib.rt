@@ -13,7 +13,7 @@ pub mod laws;
 mod levels;
 mod places;
 mod problem;
-mod region;
+mod reach;
 mod search;
 mod sides;
 

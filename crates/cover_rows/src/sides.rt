@@ -1,7 +1,7 @@
 //! The sides of all cells: for each the six cells to which light can go on from there.
 ghost use Rattle.std.specs.Prelude.{◌<◌, ◌≡◌, ◌*◌, length, IfOk, IfSome};
 ghost use Rattle.cave_base.specs.Box.{cell_count};
-ghost use Rattle.cover_rows.specs.Region.{AreSides, AreSidesOf, IsSide};
+ghost use Rattle.cover_rows.specs.Reach.{AreSides, AreSidesOf, IsSide};
 
 use cave_base::Cell;
 use cave_model::World;

@@ -8,6 +8,7 @@ use Rattle.std.proofs.lemmas.List.Elements.{All-nil, All-cons, All-append, Conta
 use Rattle.proof_rules.specs.Text.{ended}
 use Rattle.cave_model.specs.Cave.{Cave}
 use Rattle.cave_model.specs.Regions.{all_cells}
+use Rattle.certificate_lines.specs.Held as held
 use Rattle.certificate_lines.specs.Held.{HeldText, Holds, TakesLine, EndsPiece}
 use Rattle.certificate_lines.specs.Kinds.{word_of}
 use Rattle.certificate_lines.specs.Numbers.{numbers_text}
@@ -282,6 +283,15 @@ hears_to cave piece after k old mid new e f g takes same catches = record {
       };
 }
 
+-- where there is room for bytes, the pieces have it too
+pub held_room : (cave : Cave) (t : Trial) (more : ℕ) → HasRoom cave t more → held.HasRoom t.pieces more
+held_room cave t more r = record {
+  bytes = r.bytes;
+  all = r.tried.all;
+  holds = r.tried.holds;
+  room = r.room;
+}
+
 -- ---- a whole piece
 
 -- the front of a piece was heard
@@ -307,4 +317,13 @@ hearing_more cave piece old now new rest after h to = record {
   parts = h.parts ∙ ap (λ (l : List ℕ). h.front ++ l) to.parts ∙ sym (append_assoc h.front to.front after);
   each = λ bytes t. subst (λ (b : List ℕ). Tried cave b new) (append_assoc bytes h.front to.front)
       (to.each (bytes ++ h.front) (h.each bytes t));
+}
+
+-- and so was the whole piece, where no line ends in its rest
+pub hearing_all : (cave : Cave) (piece : List ℕ) (old now new : Trial) (rest : List ℕ)
+    → Hearing cave piece old now rest → HearsAll cave rest now new → HearsAll cave piece old new
+hearing_all cave piece old now new rest h all = record {
+  each = λ bytes t. subst (λ (b : List ℕ). Tried cave b new)
+      (append_assoc bytes h.front rest ∙ ap (λ (l : List ℕ). bytes ++ l) (sym h.parts))
+      (all.each (bytes ++ h.front) (h.each bytes t));
 }

@@ -43,7 +43,8 @@ impl Trial {
         ensures { OnOk result (HearsAll world.now piece.now self.old self.new) }
     {
         let mut rest = piece;
-        while let Some(after) = self.next_line(world, rest)? {
+        while let Some((kind, after)) = self.pieces.line(rest)? {
+            self.hear(world, kind)?;
             rest = after;
         }
         Ok(())
@@ -66,23 +67,6 @@ impl Trial {
                 torches: self.torches,
             }),
         }
-    }
-
-    /// The next line that ends in the piece, and what comes after it.
-    fn next_line<'a>(
-        &mut self,
-        world: &World,
-        piece: &'a [u8],
-    ) -> Result<Option<&'a [u8]>, AllocError>
-        requires { HasRoom world.now self.old (length piece.now) }
-        ensures { IfOk result (λ r. MatchOption r (HearsAll world.now piece.now self.old self.new)
-            (λ after. HearsTo world.now piece.now after.now self.old self.new)) }
-    {
-        let Some((kind, after)) = self.pieces.line(piece)? else {
-            return Ok(None);
-        };
-        self.hear(world, kind)?;
-        Ok(Some(after))
     }
 
     /// Judges the line that was taken last.

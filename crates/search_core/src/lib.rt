@@ -15,5 +15,6 @@ mod steps;
 mod told;
 
 pub use carrying::{carried_cover, carried_plan, core_region, cover_in_core};
-pub use one_worker::{AloneFault, plan_alone, plan_by_one};
+pub use core_rounds::{goes_on_by_picks, plan_by_picks};
+pub use one_worker::{AloneFault, BY_CELLS, plan_alone, plan_by_one};
 pub use pieces::BranchAndBound;

@@ -27,10 +27,8 @@ use worker_results::{Joined, Naming, close_up};
 /// The longest that names of pieces are.
 const DEEPEST: usize = 3;
 
-/// How many pieces a worker should find, and how many are enough for any number of workers.
+/// How many pieces a worker should find.
 const PIECES: usize = 2;
-
-const MANY: usize = 8;
 
 /// A region of no more places makes few pieces.
 const FEW: usize = 128;
@@ -61,7 +59,7 @@ pub(crate) struct Ran {
 /// again: an opened piece has a kid for each place that lights its cell, where a search leaves out those that another
 /// outdoes by then (this project's own).
 fn deepest_for(region: &Region, kids: usize, workers: u32) -> usize {
-    let wanted = (workers as usize).saturating_mul(PIECES).min(MANY);
+    let wanted = (workers as usize).saturating_mul(PIECES);
     if region.places().len() <= FEW {
         return DEEPEST;
     }

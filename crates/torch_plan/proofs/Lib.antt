@@ -1,2 +1,3 @@
 pub mod MemoryLemmas
 pub mod RunLemmas
+pub mod StatusLemmas

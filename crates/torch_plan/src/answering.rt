@@ -2,10 +2,10 @@
 ghost use Rattle.std.specs.Io.KnownBytes.{Keeps};
 ghost use Rattle.std.specs.Prelude.{◌≡◌, ◌⊎◌, IsFalse, IsTrue, map, option_copied, string_bytes};
 ghost use Rattle.clap.specs.Words.{kind_of};
-ghost use Rattle.torch_plan.specs.Answers.{Answers, Does};
+ghost use Rattle.torch_plan.specs.Answers.{Answers, check_status, dark_status, plan_status};
 ghost use Rattle.torch_plan.specs.Kept.{held_by};
 ghost use Rattle.torch_plan.specs.Sources.{MayOverwrite, MayStandApart};
-ghost use Rattle.torch_plan.specs.Status.{IsRefused, end_status, judged, status};
+ghost use Rattle.torch_plan.specs.Status.{IsRefused, status};
 ghost use Rattle.torch_plan.specs.Usage.{explained_status};
 
 use crate::environment::Environment;
@@ -21,6 +21,9 @@ use std::io::Write;
 use std::sync::Wait;
 use std::thread::Threads;
 
+/// The mistake of a file for the proof that is read too, or is the output.
+const OVERWRITING: &str = "--proof would write over a file that is read, or over the output";
+
 /// Prints the fault line, and answers its status.
 fn refused<S: System>(system: &S, fault: &RunFault) -> u8
     ensures { result ≡ status fault.now }
@@ -29,23 +32,35 @@ fn refused<S: System>(system: &S, fault: &RunFault) -> u8
     status_of(fault)
 }
 
-/// The status of a plan: 5 where it was stopped.
-fn status_of_plan(outcome: Outcome) -> u8
-    ensures { result ≡ end_status outcome }
+/// The status of dark cells: 0, or that of the fault, whose line is printed.
+fn status_of_dark<S: System>(system: &S, ended: Result<(), RunFault>) -> u8
+    ensures { result ≡ dark_status ended }
 {
-    match outcome {
-        Outcome::Done { .. } => 0,
-        Outcome::Stopped { .. } => 5,
+    match ended {
+        Ok(()) => 0,
+        Err(fault) => refused(system, &fault),
     }
 }
 
-/// The status of a check: 4 where the certificate is rejected.
-fn status_of_check(verdict: Verdict) -> u8
-    ensures { result ≡ judged verdict }
+/// The status of a plan: 0, or 5 where it was stopped, or that of the fault, whose line is printed.
+fn status_of_plan<S: System>(system: &S, ended: Result<Outcome, RunFault>) -> u8
+    ensures { result ≡ plan_status ended }
 {
-    match verdict {
-        Verdict::Accepted { .. } => 0,
-        Verdict::Rejected(_) => 4,
+    match ended {
+        Ok(Outcome::Done { .. }) => 0,
+        Ok(Outcome::Stopped { .. }) => 5,
+        Err(fault) => refused(system, &fault),
+    }
+}
+
+/// The status of a check: 0, or 4 where the certificate is rejected, or that of the fault, whose line is printed.
+fn status_of_check<S: System>(system: &S, ended: Result<Verdict, RunFault>) -> u8
+    ensures { result ≡ check_status ended }
+{
+    match ended {
+        Ok(Verdict::Accepted { .. }) => 0,
+        Ok(Verdict::Rejected(_)) => 4,
+        Err(fault) => refused(system, &fault),
     }
 }
 
@@ -90,62 +105,6 @@ fn is_overwriting<S: System>(
     }
 }
 
-/// Does what was asked for, and hands back the file for a proof, where one was made.
-fn answered<X: Threads + Wait + Sync, S: System, O: Watcher, W: Write>(
-    environment: &Environment<'_, X, S, O>,
-    request: &Request<'_>,
-    output: &mut W,
-) -> (u8, Option<S::Kept>)
-    ensures does { Does (S.sources environment.now.system.now) request.now
-        (W.contents output.old) (W.contents output.new) (held_by S.Kept.contents result.1) result.0 }
-    ensures silent { IsRefused result.0 → Keeps (W.contents output.old) (W.contents output.new) }
-{
-    let system = environment.system;
-    match *request {
-        Request::Dark {
-            file,
-            table,
-            rule,
-            progress,
-        } => {
-            system.watch(progress);
-            match answer_dark(environment, file, table, rule, output) {
-                Ok(()) => (0, None),
-                Err(fault) => (refused(system, &fault), None),
-            }
-        }
-        Request::Plan {
-            file,
-            table,
-            opts,
-            proof,
-            progress,
-        } => {
-            if is_overwriting(system, proof, file, table) {
-                system.print_mistake(
-                    "--proof would write over a file that is read, or over the output",
-                );
-                return (2, None);
-            }
-            system.watch(progress);
-            let (result, kept) = answer_plan(environment, file, table, &opts, proof, output);
-            match result {
-                Ok(outcome) => (status_of_plan(outcome), kept),
-                Err(fault) => (refused(system, &fault), kept),
-            }
-        }
-        Request::Check {
-            file,
-            proof,
-            table,
-            rule,
-        } => match answer_check(environment.alloc, system, file, proof, table, rule, output) {
-            Ok(verdict) => (status_of_check(verdict), None),
-            Err(fault) => (refused(system, &fault), None),
-        },
-    }
-}
-
 /// Does what the words of a command line ask for, of which the first is the program's name, and answers the exit
 /// status: 0 done, or help that was asked for; 1 refused input; 2 a mistake in usage; 3 a cell that no torch lights;
 /// 4 a certificate that is rejected; 5 a plan whose turns were spent; 6 reading or writing failed; 7 memory or threads
@@ -173,8 +132,44 @@ pub fn answer<X: Threads + Wait + Sync, S: System, O: Watcher, W: Write>(
         system,
         observer,
     };
-    match request_of(alloc, words) {
-        Ok(request) => answered(&environment, &request, output),
-        Err(error) => (explained(system, &error), None),
+    let request = match request_of(alloc, words) {
+        Ok(request) => request,
+        Err(error) => return (explained(system, &error), None),
+    };
+    match request {
+        Request::Dark {
+            file,
+            table,
+            rule,
+            progress,
+        } => {
+            system.watch(progress);
+            let ended = answer_dark(&environment, file, table, rule, output);
+            (status_of_dark(system, ended), None)
+        }
+        Request::Plan {
+            file,
+            table,
+            opts,
+            proof,
+            progress,
+        } => {
+            if is_overwriting(system, proof, file, table) {
+                system.print_mistake(OVERWRITING);
+                return (2, None);
+            }
+            system.watch(progress);
+            let (ended, kept) = answer_plan(&environment, file, table, &opts, proof, output);
+            (status_of_plan(system, ended), kept)
+        }
+        Request::Check {
+            file,
+            proof,
+            table,
+            rule,
+        } => {
+            let ended = answer_check(alloc, system, file, proof, table, rule, output);
+            (status_of_check(system, ended), None)
+        }
     }
 }

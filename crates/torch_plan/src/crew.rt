@@ -7,11 +7,12 @@ ghost use Rattle.search_traits.specs.Planning.{IsRegionPlan};
 ghost use Rattle.search_traits.specs.Turns.{IsWithin};
 ghost use Rattle.torch_plan.specs.Crew.{of_pool};
 
-use crate::halls::is_hall;
+use crate::slow_nodes::has_slow_nodes;
 use instance_regions::{Cover, Region};
 use plan_options::Workers;
 use search_core::{
-    BranchAndBound, carried_cover, carried_plan, core_region, cover_in_core, plan_by_one,
+    BY_CELLS, BranchAndBound, carried_cover, carried_plan, core_region, cover_in_core,
+    goes_on_by_picks, plan_by_one, plan_by_picks,
 };
 use search_pool::{PoolFault, Report, plan_with};
 use search_traits::{
@@ -26,11 +27,9 @@ use std::thread::Threads;
 /// A region of no more places is planned by many workers as it is: it makes few pieces.
 const FEW: usize = 128;
 
-/// So many turns of a larger region are one worker's alone, before it is shared: what so many close one closes soonest.
-/// In a hall they are fewer, since each takes long.
-const ALONE: u64 = 512;
-
-const ALONE_IN_HALL: u64 = 64;
+/// So many turns of a larger region are one worker's alone where each takes long; else as many as are worked on before
+/// places are picked. What so many close one closes soonest.
+const SLOW_ALONE: u64 = 64;
 
 /// More workers than one, with their strategy, the handles for their threads, and an observer, who may hold them back.
 #[derive(Drop)]
@@ -57,7 +56,8 @@ impl<'e, X: Threads + Wait + Sync, S: Strategy + Send + Sync, O: Observer> Crew<
     }
 
     /// The fewest places that light every cell of the region, and a tree that proves it. One turn is one node worked
-    /// on. A large region is planned by one worker first, and with the turns that are left by many.
+    /// on. A large region is planned by one worker first, and with the turns that are left by many, or where that goes
+    /// on by picks by one: pieces are shared out by cells, which suit such a region far less.
     pub(crate) fn plan_region(
         &self,
         alloc: Global,
@@ -69,17 +69,49 @@ impl<'e, X: Threads + Wait + Sync, S: Strategy + Send + Sync, O: Observer> Crew<
         if region.places().len() <= FEW {
             return self.plan_by_many(alloc, region, turns, None);
         }
-        let alone = if is_hall(region.as_ref()) {
-            ALONE_IN_HALL
+        let alone = if has_slow_nodes(region.as_ref()) {
+            SLOW_ALONE
         } else {
-            ALONE
+            BY_CELLS
         };
         let first = first_of(turns, alone);
         match plan_by_one::<S, O>(alloc, region, Some(first), self.observer) {
             Ok(plan) => Ok(plan),
             Err(RegionFault::Stopped { cover, floor, .. }) => {
+                if goes_on_by_picks::<S>(alloc, region.as_ref())? {
+                    return self.plan_picking(alloc, region, turns, first, cover, floor);
+                }
                 self.plan_further(alloc, region, turns, first, cover, floor)
             }
+            Err(fault) => Err(fault),
+        }
+    }
+
+    /// One worker's plan by picks, where so many turns were granted before and this cover and floor came of them.
+    fn plan_picking(
+        &self,
+        alloc: Global,
+        region: &Arc<Region>,
+        turns: Option<u64>,
+        granted: u64,
+        cover: Cover,
+        floor: u64,
+    ) -> RegionPlan
+        requires within { IsWithin turns granted }
+        requires cover { cover.region ≡ arc_value region.now }
+        requires floor { IsFloor (arc_value region.now) floor }
+        ensures { IsRegionPlan self.now.workers.number turns (arc_value region.now) result }
+    {
+        let observer = self.observer;
+        match plan_by_picks::<S, O>(alloc, region, turns, granted, cover, floor, observer) {
+            Ok(plan) => Ok(plan),
+            Err(
+                RegionFault::Stopped {
+                    cover,
+                    floor,
+                    turns: granted,
+                },
+            ) => self.plan_further(alloc, region, turns, granted, cover, floor),
             Err(fault) => Err(fault),
         }
     }
@@ -164,7 +196,7 @@ impl<'e, X: Threads + Wait + Sync, S: Strategy + Send + Sync, O: Observer> Crew<
             turns,
             first,
         ) {
-            Ok(report) => self.plan_carried(alloc, region, turns, plan_of(report)),
+            Ok(report) => self.plan_carried(alloc, region, turns, known, plan_of(report)),
             Err(
                 PoolFault::Stopped {
                     cover,
@@ -183,14 +215,17 @@ impl<'e, X: Threads + Wait + Sync, S: Strategy + Send + Sync, O: Observer> Crew<
         }
     }
 
-    /// The plan of the core as one of the region, if it is one, or a plan of the region with the turns that are left.
+    /// The plan of the core as one of the region, if it is one, or a plan of the region from the known cover on, with
+    /// the turns that are left.
     fn plan_carried(
         &self,
         alloc: Global,
         region: &Arc<Region>,
         turns: Option<u64>,
+        known: &Cover,
         plan: BestPlan,
     ) -> RegionPlan
+        requires cover { known.now.region ≡ arc_value region.now }
         requires within { IsWithin turns plan.turns }
         ensures { IsRegionPlan self.now.workers.number turns (arc_value region.now) result }
     {
@@ -206,7 +241,8 @@ impl<'e, X: Threads + Wait + Sync, S: Strategy + Send + Sync, O: Observer> Crew<
                 turns: granted,
             });
         }
-        let plan = self.plan_by_many(alloc, region, rest_of(turns, granted), None);
+        let known = known.try_clone()?;
+        let plan = self.plan_by_many(alloc, region, rest_of(turns, granted), Some(known));
         with_earlier(region, self.workers.number, turns, granted, plan)
     }
 }

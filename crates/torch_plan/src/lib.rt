@@ -5,10 +5,10 @@ mod advance;
 mod answering;
 mod crew;
 mod environment;
-mod halls;
 mod memory;
 mod planner;
 mod runs;
+mod slow_nodes;
 mod status;
 mod system;
 

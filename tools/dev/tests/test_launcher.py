@@ -6,6 +6,7 @@ import shutil
 import subprocess
 import tempfile
 import threading
+import time
 import unittest
 import unittest.mock
 
@@ -182,6 +183,14 @@ class Launcher(unittest.TestCase):
         with Checkout() as here:
             here.start("plan")
             change_byte(here.path("crates/low/src/lib.rt"), 0)
+            self.assert_builds(here)
+
+    def test_a_source_that_changes_within_a_step_of_the_clock_builds(self):
+        with Checkout() as here:
+            started = time.time()
+            here.start("plan")
+            change_byte(here.path("crates/low/src/lib.rt"), 0)
+            os.utime(here.path("crates/low/src/lib.rt"), (started, started))
             self.assert_builds(here)
 
     def test_what_was_built_is_run_before_dist(self):

@@ -1,9 +1,12 @@
 //! Regions without the places that others dominate, and their plans carried back.
 use super::rings::{region, ring};
 use proof_tree::Proof;
-use search_core::{carried_cover, carried_plan, core_region, plan_alone};
+use search_core::{
+    AloneFault, carried_cover, carried_plan, core_region, goes_on_by_picks, plan_alone,
+    plan_by_picks,
+};
 use search_moves::Moves;
-use search_traits::BestPlan;
+use search_traits::{BestPlan, Unobserved};
 use std::alloc::AllocError;
 use std::sync::Arc;
 use std::test::Fail;
@@ -67,5 +70,36 @@ fn what_lights_another_region_is_not_carried(rt: HostRuntime) -> Result<(), Fail
     let large = ring(rt.alloc(), 9)?;
     assert!(rt; carried_cover::<Moves>(rt.alloc(), &large, &cover)?.is_none());
     assert!(rt; carried_plan::<Moves>(rt.alloc(), &large, &cover, proof)?.is_none());
+    Ok(())
+}
+
+#[test]
+fn a_stopped_search_goes_on_by_picks(rt: HostRuntime) -> Result<(), Fail> {
+    let ring = ring(rt.alloc(), 9)?;
+    // Picks are for larger regions; asked for, they close this one too.
+    assert!(rt; !goes_on_by_picks::<Moves>(rt.alloc(), ring.as_ref())?);
+    let (cover, floor, turns) = match plan_alone::<Moves>(rt.alloc(), &ring, Some(2)) {
+        Err(
+            AloneFault::Stopped {
+                cover,
+                floor,
+                turns,
+            },
+        ) => (cover, floor, turns),
+        _ => return Err(AllocError.into()),
+    };
+    let plan = plan_by_picks::<Moves, Unobserved>(
+        rt.alloc(),
+        &ring,
+        None,
+        turns,
+        cover,
+        floor,
+        &Unobserved,
+    );
+    match plan {
+        Ok(BestPlan { cover, .. }) => assert_eq!(rt; cover.size(), 5),
+        Err(_) => return Err(AllocError.into()),
+    }
     Ok(())
 }

@@ -37,10 +37,10 @@ loop-block-init c = (let before = (goal.at.loop-block-init c).After-as_mut_slice
 pub store-requires-clause-room : goal.store-requires-clause-room
 store-requires-clause-room c =
     subst (λ (l : List ℕ). HasRoom c.args.world.now l c.as_slice-near.result.now c.as_slice-levels.result.now
-    (length c.block_of-sources.result.now) c.in_ok-count.count) (sym c.as_slice-region.ensures.value)
-    (subst (λ (l : List ℕ). HasRoom c.args.world.now c.spread.new.self.region.items l c.as_slice-levels.result.now
+    (length c.block_of-sources.result.now) c.in_ok-count.count) (sym c.as_slice-reach.ensures.value)
+    (subst (λ (l : List ℕ). HasRoom c.args.world.now c.spread.new.self.reach.items l c.as_slice-levels.result.now
     (length c.block_of-sources.result.now) c.in_ok-count.count) (sym c.as_slice-near.ensures.value)
-    (subst (λ (l : List ℕ). HasRoom c.args.world.now c.spread.new.self.region.items c.spread.new.self.near.items l
+    (subst (λ (l : List ℕ). HasRoom c.args.world.now c.spread.new.self.reach.items c.spread.new.self.near.items l
     (length c.block_of-sources.result.now) c.in_ok-count.count) (sym c.as_slice-levels.ensures.value)
     (spread_room c.args.world.now c.block_of-sources.result.now c.spread.new.self c.in_ok-count.count
     c.block_of-sources.ensures.few c.in_ok-count.ensures)))
@@ -49,21 +49,21 @@ stored : (c : After-store) → IsStored c.args.world.now c.block_of-sources.resu
     (length c.as_mut_slice-covered.result.now) c.loop-block.block c.loop-block.words c.store.new.words c.store.result
 stored c =
     let spread = c.in_ok-count.ensures in
-    let stores : Stores c.args.world.now c.spread.new.self.region.items c.spread.new.self.near.items
+    let stores : Stores c.args.world.now c.spread.new.self.reach.items c.spread.new.self.near.items
     c.spread.new.self.levels.items c.args.places.now (length c.block_of-sources.result.now) c.in_ok-count.count
     (length c.as_mut_slice-covered.result.now) c.loop-block.block c.loop-block.words c.store.new.words c.store.result =
-    subst (λ (l : List ℕ). Stores c.args.world.now c.spread.new.self.region.items c.spread.new.self.near.items l
+    subst (λ (l : List ℕ). Stores c.args.world.now c.spread.new.self.reach.items c.spread.new.self.near.items l
     c.args.places.now (length c.block_of-sources.result.now) c.in_ok-count.count
     (length c.as_mut_slice-covered.result.now) c.loop-block.block c.loop-block.words c.store.new.words c.store.result)
     c.as_slice-levels.ensures.value
-    (subst (λ (l : List ℕ). Stores c.args.world.now c.spread.new.self.region.items l c.as_slice-levels.result.now
+    (subst (λ (l : List ℕ). Stores c.args.world.now c.spread.new.self.reach.items l c.as_slice-levels.result.now
     c.args.places.now (length c.block_of-sources.result.now) c.in_ok-count.count
     (length c.as_mut_slice-covered.result.now) c.loop-block.block c.loop-block.words c.store.new.words c.store.result)
     c.as_slice-near.ensures.value
     (subst (λ (l : List ℕ). Stores c.args.world.now l c.as_slice-near.result.now c.as_slice-levels.result.now
     c.args.places.now (length c.block_of-sources.result.now) c.in_ok-count.count
     (length c.as_mut_slice-covered.result.now) c.loop-block.block c.loop-block.words c.store.new.words c.store.result)
-    c.as_slice-region.ensures.value c.store.ensures)) in
+    c.as_slice-reach.ensures.value c.store.ensures)) in
     stores.stored c.block_of-sources.result.now refl spread.linked spread.there spread.complete
     (none_before c.args.world.now c.args.cells.now c.args.places.now c.block_of-sources.result.now
     (length c.as_mut_slice-covered.result.now) c.loop-block.block c.cell_count-box_size.ensures.sound c.requires.legal

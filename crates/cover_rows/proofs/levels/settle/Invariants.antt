@@ -5,6 +5,6 @@ use Rattle.cover_rows.proofs.levels.settle.Given as goal
 
 abbrev pub invariant-loop-number : goal.invariant-loop-number
 invariant-loop-number l = (cells : List ℕ) → length cells ≡ l.linked.sources → IsLinked l.world cells
-    l.linked.region.now l.linked.near.now l.linked.count
-    → AreLevels l.world cells l.linked.region.now (l.level + 1) l.initial.levels
-    → Settling l.world cells l.linked.region.now l.level l.number l.levels
+    l.linked.reach.now l.linked.near.now l.linked.count
+    → AreLevels l.world cells l.linked.reach.now (l.level + 1) l.initial.levels
+    → Settling l.world cells l.linked.reach.now l.level l.number l.levels

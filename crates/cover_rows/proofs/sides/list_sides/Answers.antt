@@ -1,5 +1,5 @@
 use Rattle.std.proofs.Common.{List, Option, None, ℕ, get_or, ap, sym, subst, arith}
-use Rattle.cover_rows.specs.Region.{IsSide}
+use Rattle.cover_rows.specs.Reach.{IsSide}
 use Rattle.cover_rows.proofs.SideLemmas.{beyond_inside, sides_next}
 use Rattle.cover_rows.proofs.sides.list_sides.Goals as goal
 

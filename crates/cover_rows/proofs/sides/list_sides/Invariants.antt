@@ -1,4 +1,4 @@
-use Rattle.cover_rows.specs.Region.{AreSidesOf}
+use Rattle.cover_rows.specs.Reach.{AreSidesOf}
 use Rattle.cover_rows.proofs.sides.list_sides.Given as goal
 
 abbrev pub invariant-loop-face : goal.invariant-loop-face

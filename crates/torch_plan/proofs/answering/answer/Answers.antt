@@ -1,11 +1,13 @@
-use Rattle.std.proofs.Common.{◌≡◌, ◌⊎◌, ℕ, List, inl, inr, map}
+use Rattle.std.proofs.Common.{◌≡◌, ◌⊎◌, ℕ, List, inl, inr, map, refl, subst}
 use Rattle.std.proofs.KnownBytes.{Keeps-refl}
 use Rattle.std.specs.Prelude.{string_bytes}
 use Rattle.clap.specs.Words.{Text, kind_of}
 use Rattle.clap.specs.declared.error.kind.ErrorKind.{ErrorKind}
 use Rattle.clap.specs.declared.error.kind.ErrorKind.TheVariants.{OutOfMemory}
 use Rattle.command_words.specs.Mistakes.{AreExplainedBy}
+use Rattle.torch_plan.specs.Status.{IsRefused}
 use Rattle.torch_plan.specs.Usage.{IsExplained, explained_status}
+use Rattle.torch_plan.proofs.StatusLemmas.{check_silent, dark_silent, plan_silent}
 use Rattle.torch_plan.proofs.answering.answer.Goals as goal
 
 -- the status of words that were explained
@@ -17,13 +19,63 @@ is_explained words kind code memory (inl seven) (inr why) = inl seven
 is_explained words kind code memory (inr (inl six)) (inr why) = inr (kind, why, inr six)
 is_explained words kind code memory (inr (inr usual)) (inr why) = inr (kind, why, inl usual)
 
-pub returns-in-Ok-clause-does : goal.returns-in-Ok-clause-does
-returns-in-Ok-clause-does g c =
-    inl (c.in-Ok.ensures.formed, c.in-Ok.request, c.in-Ok.ensures.asked, c.answered.ensures.does)
-
 pub returns-in-Err-clause-does : goal.returns-in-Err-clause-does
 returns-in-Err-clause-does g c = inr (
   Keeps-refl (g.W.Write.contents c.args.output.now),
   is_explained (map (λ word. string_bytes word) c.args.words.now) (kind_of c.in-Err.error) c.explained.result
       c.explained.ensures.memory c.explained.ensures.status c.in-Err.ensures.refused,
 )
+
+pub returns-in-Dark-clause-does : goal.returns-in-Dark-clause-does
+returns-in-Dark-clause-does g c = inl (
+  c.in-Ok.ensures.formed,
+  c.in-Ok.request,
+  c.in-Ok.ensures.asked,
+  rw c.in-Dark.is (c.answer_dark-ended.result, c.status_of_dark.ensures, c.answer_dark-ended.ensures),
+)
+
+pub returns-in-Dark-clause-silent : goal.returns-in-Dark-clause-silent
+returns-in-Dark-clause-silent g c = λ refused. dark_silent (g.W.Write.contents c.args.output.now)
+    (g.W.Write.contents c.answer_dark-ended.new.output) c.answer_dark-ended.result c.answer_dark-ended.ensures.left
+    (subst IsRefused c.status_of_dark.ensures refused)
+
+pub returns-then-is_overwriting-clause-does : goal.returns-then-is_overwriting-clause-does
+returns-then-is_overwriting-clause-does g c = inl (
+  c.in-Ok.ensures.formed,
+  c.in-Ok.request,
+  c.in-Ok.ensures.asked,
+  rw c.in-Plan.is (inl (
+    c.is_overwriting.ensures.over c.if-is_overwriting.true,
+    refl,
+    Keeps-refl (g.W.Write.contents c.args.output.now),
+  )),
+)
+
+pub returns-else-is_overwriting-clause-does : goal.returns-else-is_overwriting-clause-does
+returns-else-is_overwriting-clause-does g c = inl (
+  c.in-Ok.ensures.formed,
+  c.in-Ok.request,
+  c.in-Ok.ensures.asked,
+  rw c.in-Plan.is (inr (
+    c.is_overwriting.ensures.apart c.if-is_overwriting.false,
+    (c.answer_plan-ended.result.0, c.status_of_plan.ensures, c.answer_plan-ended.ensures),
+  )),
+)
+
+pub returns-else-is_overwriting-clause-silent : goal.returns-else-is_overwriting-clause-silent
+returns-else-is_overwriting-clause-silent g c = λ refused. plan_silent (g.W.Write.contents c.args.output.now)
+    (g.W.Write.contents c.answer_plan-ended.new.output) c.answer_plan-ended.result.0 c.answer_plan-ended.ensures.left
+    (subst IsRefused c.status_of_plan.ensures refused)
+
+pub returns-in-Check-clause-does : goal.returns-in-Check-clause-does
+returns-in-Check-clause-does g c = inl (
+  c.in-Ok.ensures.formed,
+  c.in-Ok.request,
+  c.in-Ok.ensures.asked,
+  rw c.in-Check.is (c.answer_check-ended.result, c.status_of_check.ensures, c.answer_check-ended.ensures),
+)
+
+pub returns-in-Check-clause-silent : goal.returns-in-Check-clause-silent
+returns-in-Check-clause-silent g c = λ refused. check_silent (g.W.Write.contents c.args.output.now)
+    (g.W.Write.contents c.answer_check-ended.new.output) c.answer_check-ended.result c.answer_check-ended.ensures.left
+    (subst IsRefused c.status_of_check.ensures refused)

@@ -3,20 +3,20 @@ use Rattle.std.proofs.Common.{subst}
 use Rattle.cave_base.specs.Box.{cell_count}
 use Rattle.cover_rows.specs.Blocks.{AreLevels, AreSized, HasRoom, Settles}
 use Rattle.cover_rows.specs.BlockFlood.{AreWide}
-use Rattle.cover_rows.specs.Region.{AreInside}
-use Rattle.cover_rows.proofs.RegionLemmas.{region_few}
+use Rattle.cover_rows.specs.Reach.{AreInside}
+use Rattle.cover_rows.proofs.NumberedLemmas.{reach_few}
 use Rattle.cover_rows.proofs.SideLemmas.{sides_within}
 use Rattle.cover_rows.proofs.FloodLemmas.{IsSpread, Spreading, spreading_none, spreading_next, spreading_all}
-use Rattle.cover_rows.proofs.FloodLemmas.{blank_ready, spread_same, region_sized}
+use Rattle.cover_rows.proofs.FloodLemmas.{blank_ready, spread_same, reach_sized}
 use Rattle.cover_rows.proofs.FloodLemmas.{grown_linked, grown_complete, grown_levels}
 use Rattle.cover_rows.proofs.block_flood.BlockFlood.spread.Goals.{After-as_slice}
 use Rattle.cover_rows.proofs.block_flood.BlockFlood.spread.Goals as goal
 
 pub loop-level-init : goal.loop-level-init
 loop-level-init c = spreading_none c.args.world.now c.args.sources.now c.args.sides.now c.begin.new.local
-    c.begin.new.region.items c.as_mut_slice-near.result.now c.as_mut_slice-levels.result.now
-    c.in_ok-begin.ensures.same c.in_ok-begin.ensures.region
-    (blank_ready c.args.self.now.region.items c.args.self.now.levels.items c.as_mut_slice-levels.result.now
+    c.begin.new.reach.items c.as_mut_slice-near.result.now c.as_mut_slice-levels.result.now
+    c.in_ok-begin.ensures.same c.in_ok-begin.ensures.reach
+    (blank_ready c.args.self.now.reach.items c.args.self.now.levels.items c.as_mut_slice-levels.result.now
     c.as_mut_slice-levels.ensures.value c.requires.ready.none c.requires.ready.left.others)
 
 pub grow-requires-clause-sides : goal.grow-requires-clause-sides
@@ -92,25 +92,25 @@ wide c = record {
   );
 }
 
-count : (c : After-as_slice) → length c.loop-level.region.items ≡ c.len-count.result
+count : (c : After-as_slice) → length c.loop-level.reach.items ≡ c.len-count.result
 count c = omega (arith, c.len-count.ensures)
 
-sized : (c : After-as_slice) → AreSized (length c.grow.new.region.items) c.grow.new.near c.loop-level.levels
-    (length c.loop-level.region.items)
-sized c = region_sized c.args.sides.now c.grow.new.local c.grow.new.region.items c.grow.new.near c.loop-level.levels
-    (length c.loop-level.region.items) (cell_count c.args.world.now.size) c.in_ok-grow.ensures.region.found (wide c)
-    c.in_ok-grow.ensures.region.linked c.in_ok-grow.ensures.kept.longer
+sized : (c : After-as_slice) → AreSized (length c.grow.new.reach.items) c.grow.new.near c.loop-level.levels
+    (length c.loop-level.reach.items)
+sized c = reach_sized c.args.sides.now c.grow.new.local c.grow.new.reach.items c.grow.new.near c.loop-level.levels
+    (length c.loop-level.reach.items) (cell_count c.args.world.now.size) c.in_ok-grow.ensures.reach.found (wide c)
+    c.in_ok-grow.ensures.reach.linked c.in_ok-grow.ensures.kept.longer
 
 pub settle-requires-clause-room : goal.settle-requires-clause-room
 settle-requires-clause-room c =
     let after = (goal.at.settle-requires-clause-room c).After-as_slice in
-    let few = region_few c.grow.new.local c.grow.new.region.items c.in_ok-grow.ensures.region.found in
+    let few = reach_few c.grow.new.local c.grow.new.reach.items c.in_ok-grow.ensures.reach.found in
     let boxed = (wide after).numbers in
     subst (λ (n : ℕ). HasRoom c.args.world.now c.as_slice.result.now c.grow.new.near c.loop-level.levels
     (length c.args.sources.now) n) (count after)
     (subst (λ (l : List ℕ). HasRoom c.args.world.now l c.grow.new.near c.loop-level.levels
-    (length c.args.sources.now) (length c.loop-level.region.items)) (sym c.as_slice.ensures.value) (record {
-      inside = λ k d h. omega (arith, c.in_ok-grow.ensures.region.found.inside k d h, boxed);
+    (length c.args.sources.now) (length c.loop-level.reach.items)) (sym c.as_slice.ensures.value) (record {
+      inside = λ k d h. omega (arith, c.in_ok-grow.ensures.reach.found.inside k d h, boxed);
       sized = sized after;
       small = omega (arith, few, boxed, c.requires.ready.left.wide.small);
       few = c.requires.sources.few;
@@ -120,38 +120,38 @@ pub loop-level-preserved : goal.loop-level-preserved
 loop-level-preserved c =
     let after = (goal.at.loop-level-preserved c).After-as_slice in
     let boxed = (wide after).numbers in
-    let settles : Settles c.args.world.now c.grow.new.region.items c.grow.new.near (length c.args.sources.now)
-    (length c.loop-level.region.items) (c.loop-level.level - 1) c.loop-level.levels c.settle.new.levels =
-    subst (λ (n : ℕ). Settles c.args.world.now c.grow.new.region.items c.grow.new.near (length c.args.sources.now) n
+    let settles : Settles c.args.world.now c.grow.new.reach.items c.grow.new.near (length c.args.sources.now)
+    (length c.loop-level.reach.items) (c.loop-level.level - 1) c.loop-level.levels c.settle.new.levels =
+    subst (λ (n : ℕ). Settles c.args.world.now c.grow.new.reach.items c.grow.new.near (length c.args.sources.now) n
     (c.loop-level.level - 1) c.loop-level.levels c.settle.new.levels) (sym (count after))
     (subst (λ (l : List ℕ). Settles c.args.world.now l c.grow.new.near (length c.args.sources.now) c.len-count.result
     (c.loop-level.level - 1) c.loop-level.levels c.settle.new.levels) c.as_slice.ensures.value c.settle.ensures) in
     let up : c.loop-level.level ≡ c.loop-level.level - 1 + 1 = omega arith in
     let linked = grown_linked c.args.world.now c.args.sources.now c.args.sides.now c.loop-level.local
-    c.loop-level.region.items c.loop-level.near c.loop-level.levels c.loop-level.from c.loop-level.level
-    c.loop-level.invariant c.requires.sides c.grow.new.local c.grow.new.region.items c.grow.new.near
-    c.in_ok-grow.ensures.region.found boxed c.in_ok-grow.ensures.kept c.in_ok-grow.ensures.region.linked in
+    c.loop-level.reach.items c.loop-level.near c.loop-level.levels c.loop-level.from c.loop-level.level
+    c.loop-level.invariant c.requires.sides c.grow.new.local c.grow.new.reach.items c.grow.new.near
+    c.in_ok-grow.ensures.reach.found boxed c.in_ok-grow.ensures.kept c.in_ok-grow.ensures.reach.linked in
     let complete = grown_complete c.args.world.now c.args.sources.now c.args.sides.now c.loop-level.local
-    c.loop-level.region.items c.loop-level.near c.loop-level.levels c.loop-level.from c.loop-level.level
-    c.loop-level.invariant c.requires.sides c.grow.new.local c.grow.new.region.items c.grow.new.near
-    c.in_ok-grow.ensures.region.found boxed c.in_ok-grow.ensures.kept c.in_ok-grow.ensures.region.linked in
+    c.loop-level.reach.items c.loop-level.near c.loop-level.levels c.loop-level.from c.loop-level.level
+    c.loop-level.invariant c.requires.sides c.grow.new.local c.grow.new.reach.items c.grow.new.near
+    c.in_ok-grow.ensures.reach.found boxed c.in_ok-grow.ensures.kept c.in_ok-grow.ensures.reach.linked in
     let levels = grown_levels c.args.world.now c.args.sources.now c.args.sides.now c.loop-level.local
-    c.loop-level.region.items c.loop-level.near c.loop-level.levels c.loop-level.from c.loop-level.level
-    c.loop-level.invariant c.requires.sides c.grow.new.local c.grow.new.region.items c.grow.new.near
-    c.in_ok-grow.ensures.region.found boxed c.in_ok-grow.ensures.kept c.in_ok-grow.ensures.region.linked in
+    c.loop-level.reach.items c.loop-level.near c.loop-level.levels c.loop-level.from c.loop-level.level
+    c.loop-level.invariant c.requires.sides c.grow.new.local c.grow.new.reach.items c.grow.new.near
+    c.in_ok-grow.ensures.reach.found boxed c.in_ok-grow.ensures.kept c.in_ok-grow.ensures.reach.linked in
     subst (λ (n : ℕ). Spreading c.args.world.now c.args.sources.now c.args.sides.now c.grow.new.local
-    c.grow.new.region.items c.grow.new.near c.settle.new.levels n (c.loop-level.level - 1)) (count after)
+    c.grow.new.reach.items c.grow.new.near c.settle.new.levels n (c.loop-level.level - 1)) (count after)
     (spreading_next c.args.world.now c.args.sources.now c.args.sides.now c.loop-level.local
-    c.loop-level.region.items c.loop-level.near c.loop-level.levels c.loop-level.from c.loop-level.level
-    c.loop-level.invariant c.requires.sides c.grow.new.local c.grow.new.region.items c.grow.new.near
-    c.in_ok-grow.ensures.region.found boxed c.in_ok-grow.ensures.kept c.in_ok-grow.ensures.region.linked
+    c.loop-level.reach.items c.loop-level.near c.loop-level.levels c.loop-level.from c.loop-level.level
+    c.loop-level.invariant c.requires.sides c.grow.new.local c.grow.new.reach.items c.grow.new.near
+    c.in_ok-grow.ensures.reach.found boxed c.in_ok-grow.ensures.kept c.in_ok-grow.ensures.reach.linked
     c.settle.new.levels (omega arith) (settles.settled c.args.sources.now refl linked complete
-    (subst (λ (n : ℕ). AreLevels c.args.world.now c.args.sources.now c.grow.new.region.items n c.loop-level.levels)
+    (subst (λ (n : ℕ). AreLevels c.args.world.now c.args.sources.now c.grow.new.reach.items n c.loop-level.levels)
     up levels)))
 
 pub returns : goal.returns
 returns c =
-    let count : length c.loop-level.region.items ≡ c.len-count-2.result = omega (arith, c.len-count-2.ensures) in
+    let count : length c.loop-level.reach.items ≡ c.len-count-2.result = omega (arith, c.len-count-2.ensures) in
     let boxed : length c.grow-2.new.local ≡ cell_count c.args.world.now.size =
     omega (
       arith,
@@ -161,7 +161,7 @@ returns c =
       c.loop-level.auto.local,
       c.grow-2.auto.local,
     ) in
-    let all = spread_same c.args.world.now c.args.sources.now c.grow-2.new.local c.grow-2.new.region.items
+    let all = spread_same c.args.world.now c.args.sources.now c.grow-2.new.local c.grow-2.new.reach.items
     c.grow-2.new.near c.loop-level.levels _ _ _ c.len-count-2.result
     (sym (take_at c.grow-2.new.local (drop (length c.grow-2.new.local) c.args.self.now.local.items)
     c.args.self.now.local.len (omega (
@@ -180,12 +180,12 @@ returns c =
     ))))
     (sym (take_at c.loop-level.levels (drop (length c.loop-level.levels) c.args.self.now.levels.items)
     c.args.self.now.levels.len (omega (arith, c.as_mut_slice-levels.ensures.len, c.loop-level.auto.levels))))
-    (subst (λ (n : ℕ). IsSpread c.args.world.now c.args.sources.now c.grow-2.new.local c.grow-2.new.region.items
+    (subst (λ (n : ℕ). IsSpread c.args.world.now c.args.sources.now c.grow-2.new.local c.grow-2.new.reach.items
     c.grow-2.new.near c.loop-level.levels (cell_count c.args.world.now.size) n) count
     (spreading_all c.args.world.now c.args.sources.now c.args.sides.now c.loop-level.local
-    c.loop-level.region.items c.loop-level.near c.loop-level.levels c.loop-level.from c.loop-level.level
-    c.loop-level.invariant c.requires.sides c.grow-2.new.local c.grow-2.new.region.items c.grow-2.new.near
-    c.in_ok-grow-2.ensures.region.found boxed c.in_ok-grow-2.ensures.kept c.in_ok-grow-2.ensures.region.linked
+    c.loop-level.reach.items c.loop-level.near c.loop-level.levels c.loop-level.from c.loop-level.level
+    c.loop-level.invariant c.requires.sides c.grow-2.new.local c.grow-2.new.reach.items c.grow-2.new.near
+    c.in_ok-grow-2.ensures.reach.found boxed c.in_ok-grow-2.ensures.kept c.in_ok-grow-2.ensures.reach.linked
     (cell_count c.args.world.now.size) (record {
       small = c.requires.ready.left.wide.small;
       numbers = boxed;

@@ -30,16 +30,16 @@ abbrev pub no_number : ℕ
 no_number = 2 ^ 32 - 1
 
 -- the cell with the number
-pub record IsNumberOf (region : List ℕ) (cell number : ℕ) : Type 0 where
-  pub inside : number < length region
-  pub there : slice_index region number ≡ cell
+pub record IsNumberOf (reach : List ℕ) (cell number : ℕ) : Type 0 where
+  pub inside : number < length reach
+  pub there : slice_index reach number ≡ cell
 
 -- cells of the box, each once, with their numbers
-pub record IsRegion (local region : List ℕ) : Type 0 where
-  pub inside : All (λ cell. cell < length local) region
-  pub numbered : (number : ℕ) → number < length region → slice_index local (slice_index region number) ≡ number
+pub record IsReach (local reach : List ℕ) : Type 0 where
+  pub inside : All (λ cell. cell < length local) reach
+  pub numbered : (number : ℕ) → number < length reach → slice_index local (slice_index reach number) ≡ number
   pub others : (cell : ℕ) → cell < length local
-      → (slice_index local cell ≡ no_number) ⊎ IsNumberOf region cell (slice_index local cell)
+      → (slice_index local cell ≡ no_number) ⊎ IsNumberOf reach cell (slice_index local cell)
 
 -- no cell stands there twice
 abbrev pub AreOnce : List ℕ → Type 0
@@ -57,9 +57,9 @@ pub record BeginsWith (old new : List ℕ) : Type 0 where
   pub same : (k : ℕ) → k < length old → slice_index new k ≡ slice_index old k
 
 -- the numbers of the sides of the first so many cells
-pub record AreLinked (sides region near : List ℕ) (count : ℕ) : Type 0 where
+pub record AreLinked (sides reach near : List ℕ) (count : ℕ) : Type 0 where
   pub each : (number face : ℕ) → number < count → face < 6
-      → IsNumberOf region (slice_index sides (6 * slice_index region number + face))
+      → IsNumberOf reach (slice_index sides (6 * slice_index reach number + face))
       (slice_index near (6 * number + face))
 
 -- six sides for each of so many cells, which lie below that number
@@ -73,7 +73,7 @@ pub record HaveRoom (sides local near : List ℕ) : Type 0 where
   pub inside : AreInside (length local) sides
   pub room : length near ≡ 6 * length local
 
--- a region whose first so many cells are linked
-pub record IsLinkedRegion (sides local region near : List ℕ) (count : ℕ) : Type 0 where
-  pub found : IsRegion local region
-  pub linked : AreLinked sides region near count
+-- a reach whose first so many cells are linked
+pub record IsLinkedReach (sides local reach near : List ℕ) (count : ℕ) : Type 0 where
+  pub found : IsReach local reach
+  pub linked : AreLinked sides reach near count
