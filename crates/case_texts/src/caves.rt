@@ -105,23 +105,37 @@ fn entry_of(cave: &Cave<'_>, words: &[&str]) -> Result<Entry, Fail> {
     })
 }
 
+/// Adds the states of these words to the palette.
+fn add_states<'a>(alloc: Global, cave: &mut Cave<'a>, words: &[&'a str]) -> Result<(), Fail> {
+    for word in words {
+        cave.palette.push(state_of(alloc, word)?)?;
+    }
+    Ok(())
+}
+
+/// Adds the fill of these words.
+fn add_fill(cave: &mut Cave<'_>, words: &[&str]) -> Result<(), Fail> {
+    let fill = fill_of(cave, words)?;
+    cave.fills.push(fill)?;
+    Ok(())
+}
+
+/// Adds the entry of these words.
+fn add_entry(cave: &mut Cave<'_>, words: &[&str]) -> Result<(), Fail> {
+    let entry = entry_of(cave, words)?;
+    cave.more.push(entry)?;
+    Ok(())
+}
+
 /// What one line adds to a cave.
 fn add<'a>(alloc: Global, cave: &mut Cave<'a>, field: &Field<'a>) -> Result<(), Fail> {
     let words: Vec<&'a str> = field.rest.split(' ').collect(alloc)?;
-    if field.key == "box" {
-        cave.size = three_at(&words, 0)?;
-    } else if field.key == "palette" {
-        for word in &words {
-            cave.palette.push(state_of(alloc, word)?)?;
-        }
-    } else if field.key == "fill" {
-        let fill = fill_of(cave, &words)?;
-        cave.fills.push(fill)?;
-    } else if field.key == "entry" {
-        let entry = entry_of(cave, &words)?;
-        cave.more.push(entry)?;
-    } else {
-        return Err(unknown(field.line));
+    match field.key {
+        "box" => cave.size = three_at(&words, 0)?,
+        "palette" => add_states(alloc, cave, &words)?,
+        "fill" => add_fill(cave, &words)?,
+        "entry" => add_entry(cave, &words)?,
+        _ => return Err(unknown(field.line)),
     }
     Ok(())
 }

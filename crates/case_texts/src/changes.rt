@@ -52,13 +52,10 @@ pub fn put_changed(
         return Err(unknown(words));
     };
     let (number, other) = change_of(what)?;
-    let now = match own.get(name) {
-        Some(bytes) => changed(alloc, str::from_utf8(bytes)?, number, other)?,
-        None => match common.get(name) {
-            Some(bytes) => changed(alloc, str::from_utf8(bytes)?, number, other)?,
-            None => return Err(unknown(words)),
-        },
+    let Some(bytes) = own.get(name).or(common.get(name)) else {
+        return Err(unknown(words));
     };
+    let now = changed(alloc, str::from_utf8(bytes)?, number, other)?;
     own.put(alloc, name, now)?;
     Ok(())
 }

@@ -100,14 +100,14 @@ impl<'a> Due<'a> {
     /// Takes what a line says of the output. False where it says nothing of it.
     fn take_output(&mut self, alloc: Global, field: &Field<'a>) -> Result<bool, Fail> {
         let text = match field.key {
-            "out" => text_of(alloc, field, Way::Whole)?,
-            "out-begins" => text_of(alloc, field, Way::Begins)?,
-            "out-something" => text_of(alloc, field, Way::Something)?,
-            "out-first" => first_words(alloc, field.rest)?,
-            "out-cells" => dark_text(alloc, field.rest)?,
+            "out" => text_of(alloc, field, Way::Whole),
+            "out-begins" => text_of(alloc, field, Way::Begins),
+            "out-something" => text_of(alloc, field, Way::Something),
+            "out-first" => first_words(alloc, field.rest),
+            "out-cells" => dark_text(alloc, field.rest),
             _ => return Ok(false),
         };
-        self.out.push(text)?;
+        self.out.push(text?)?;
         Ok(true)
     }
 

@@ -23,32 +23,43 @@ fn bytes_of(alloc: Global, words: &str) -> Result<Vec<u8>, Fail> {
     Ok(bytes)
 }
 
-/// The file of a line: `text NAME` or `text NAME after OTHER` with its lines below, behind those of the other file; or
-/// `bytes NAME 10 0`. None where the line tells of no file.
+/// The file of a line `bytes NAME 10 0`.
+fn file_of_bytes<'a>(alloc: Global, words: &'a str) -> Result<(&'a str, Vec<u8>), Fail> {
+    match words.split_once(' ') {
+        Some((name, numbers)) => Ok((name, bytes_of(alloc, numbers)?)),
+        None => Ok((words, Vec::new(alloc))),
+    }
+}
+
+/// The file of a line `text NAME` or `text NAME after OTHER`: its lines below, behind those of the other file.
+fn file_of_lines<'a>(
+    alloc: Global,
+    before: &Shelf,
+    field: &Field<'a>,
+) -> Result<(&'a str, Vec<u8>), Fail> {
+    let (name, front) = match field.rest.split_once(" after ") {
+        Some((name, other)) => (name, before.get(other)),
+        None => (field.rest, Some([].as_slice())),
+    };
+    let Some(front) = front else {
+        return Err(unknown(field.line));
+    };
+    let mut text = front.to_vec(alloc)?;
+    push_lines(&mut text, &field.below)?;
+    Ok((name, text))
+}
+
+/// The file of a line, by its bytes or its lines. None where the line tells of no file.
 pub fn file_of<'a>(
     alloc: Global,
     before: &Shelf,
     field: &Field<'a>,
 ) -> Result<Option<(&'a str, Vec<u8>)>, Fail> {
-    if field.key == "bytes" {
-        return match field.rest.split_once(' ') {
-            Some((name, words)) => Ok(Some((name, bytes_of(alloc, words)?))),
-            None => Ok(Some((field.rest, Vec::new(alloc)))),
-        };
+    match field.key {
+        "bytes" => Ok(Some(file_of_bytes(alloc, field.rest)?)),
+        "text" => Ok(Some(file_of_lines(alloc, before, field)?)),
+        _ => Ok(None),
     }
-    if field.key != "text" {
-        return Ok(None);
-    }
-    let mut text = Vec::new(alloc);
-    let (name, front) = field.rest.split_once(" after ").unwrap_or((field.rest, ""));
-    if front != "" {
-        match before.get(front) {
-            Some(bytes) => text.extend_from_slice(bytes)?,
-            None => return Err(unknown(field.line)),
-        }
-    }
-    push_lines(&mut text, &field.below)?;
-    Ok(Some((name, text)))
 }
 
 /// Puts each file of the text onto the shelf.

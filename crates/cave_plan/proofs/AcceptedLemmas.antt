@@ -21,7 +21,7 @@ use Rattle.cave_model.specs.Listing.{ListsAll}
 use Rattle.cave_model.specs.Regions.{all_cells, AreRegions}
 use Rattle.proof_check.proofs.FewestLemmas.{length-cells}
 use Rattle.cave_model.proofs.TorchLemmas.{spawnable_inside}
-use Rattle.cover_rows.proofs.CoverLemmas.{cells_hung}
+use Rattle.cave_problem.proofs.CoverLemmas.{cells_hung}
 use Rattle.set_cover.specs.Instance.{of_instance}
 use Rattle.instance_regions.specs.Splitting.{least_cell}
 use Rattle.proof_rules.specs.Tree.{Tree, Forest, leaf, weighted, branch, bar, omit, pick, none, more}

@@ -2,9 +2,9 @@
 use Rattle.std.proofs.Common.{◌≡◌, ◌≢◌, ◌⊎◌, ◌∙◌, ℕ, List, refl, sym, ap, inl, inr}
 use Rattle.cave_base.specs.Box.{Point, coordinates, point}
 use Rattle.cave_model.specs.Cave.{Cave}
-use Rattle.cover_rows.specs.Coverage.{IsUnlightableFault}
-use Rattle.cover_rows.specs.declared.fault.CoverFault.{CoverFault}
-use Rattle.cover_rows.specs.declared.fault.CoverFault.TheVariants as cover
+use Rattle.cave_problem.specs.Coverage.{IsUnlightableFault}
+use Rattle.cave_problem.specs.declared.fault.CoverFault.{CoverFault}
+use Rattle.cave_problem.specs.declared.fault.CoverFault.TheVariants as cover
 use Rattle.cave_plan.specs.Faults.{NamesUnlightable, of_cover, unlightable_at}
 use Rattle.cave_plan.specs.declared.fault.PlanFault.{PlanFault}
 use Rattle.cave_plan.specs.declared.fault.PlanFault.TheVariants as plan

@@ -9,7 +9,7 @@ use Rattle.cave_base.specs.Box.{cell_count}
 use Rattle.cave_model.specs.Cave.{Cave, IsSound, IsWorld}
 use Rattle.cave_model.specs.Plan.{Torch, IsSafe}
 use Rattle.cave_model.proofs.TorchLemmas.{safe_covers}
-use Rattle.cover_rows.specs.Coverage.{IsUnlightable}
+use Rattle.cave_problem.specs.Coverage.{IsUnlightable}
 use Rattle.cave_model.specs.Coverage.{of_cave, Agrees}
 use Rattle.cave_model.specs.Listing.{ListsAll}
 use Rattle.cave_model.specs.Regions.{AreRegions}

@@ -15,7 +15,7 @@ use Rattle.cave_model.specs.Regions.{all_cells}
 use Rattle.cave_model.specs.Spawn.{IsDark}
 use Rattle.cave_model.proofs.PlaceLemmas.{legal_hang}
 use Rattle.cave_model.proofs.TorchLemmas.{safe_covers, cover_is_safe}
-use Rattle.cover_rows.proofs.CoverLemmas.{cells_hung}
+use Rattle.cave_problem.proofs.CoverLemmas.{cells_hung}
 use Rattle.set_cover.specs.Instance.{of_instance}
 use Rattle.proof_rules.proofs.ListLemmas.{no_member, cons_cases, all_members, at_member, distinct_nil}
 use Rattle.proof_rules.proofs.ListLemmas.{distinct_append, no_more}
@@ -37,10 +37,10 @@ abbrev pub cells_in : List Bounded → List ℕ
 cells_in parts = all_cells (map (λ part. part.region.cells) parts)
 
 -- no place lights a cell of one and a cell of those after it
-abbrev pub AreApart : Cave → List Bounded → Type 0
-AreApart cave [] = Unit {0}
-AreApart cave (p ∷ ps) = ((place a b : ℕ) → IsPlace cave place → Lights cave place a → Lights cave place b
-    → Contains p.region.cells a → ¬ Contains (cells_in ps) b) × AreApart cave ps
+abbrev pub ArePartsApart : Cave → List Bounded → Type 0
+ArePartsApart cave [] = Unit {0}
+ArePartsApart cave (p ∷ ps) = ((place a b : ℕ) → IsPlace cave place → Lights cave place a → Lights cave place b
+    → Contains p.region.cells a → ¬ Contains (cells_in ps) b) × ArePartsApart cave ps
 
 -- a cell of some lists stands in one of them
 which : (regions : List (List ℕ)) (cell : ℕ) → Contains (all_cells regions) cell
@@ -57,7 +57,7 @@ IsApartBy cave regions = (place a b i j : ℕ) → IsPlace cave place → Lights
 
 -- regions of which no place lights two are apart from each other
 pub are_apart : (cave : Cave) (parts : List Bounded) → IsApartBy cave (map (λ part. part.region.cells) parts)
-    → AreApart cave parts
+    → ArePartsApart cave parts
 are_apart cave [] h = tt
 are_apart cave (s ∷ ss) h = (
   (λ p a b l x y ha hb. (let w = which (map (λ (part : Bounded). part.region.cells) ss) b hb in
@@ -83,7 +83,7 @@ pub record AreTorches (cave : Cave) (parts : List Bounded) : Type 0 where
   pub covers : (cell : ℕ) → Contains (cells_in parts) cell → IsLitBy (of_cave cave) (all_torches parts) cell
 
 -- the covers of regions that are apart are torches of the cave
-pub torches_are : (cave : Cave) (parts : List Bounded) → All (IsBoundedIn cave) parts → AreApart cave parts
+pub torches_are : (cave : Cave) (parts : List Bounded) → All (IsBoundedIn cave) parts → ArePartsApart cave parts
     → AreTorches cave parts
 torches_are cave [] all apart =
     record {
@@ -128,7 +128,7 @@ pub record PicksAll (cave : Cave) (places : List ℕ) (parts : List Bounded) (pi
 -- of places that light all regions, distinct ones can be picked, at least as many as the floors together
 pub pick_all : (cave : Cave) (places : List ℕ) (parts : List Bounded) → ((p : ℕ) → Contains places p → IsPlace cave p)
     → ((cell : ℕ) → Contains (cells_in parts) cell → IsLitBy (of_cave cave) places cell)
-    → AreApart cave parts → All (IsBoundedIn cave) parts
+    → ArePartsApart cave parts → All (IsBoundedIn cave) parts
     → (picked : List ℕ) × PicksAll cave places parts picked
 pick_all cave places [] legal lit apart all = (
   [],

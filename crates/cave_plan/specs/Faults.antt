@@ -2,9 +2,9 @@
 use Rattle.std.specs.Prelude.{◌≡◌, ◌⊎◌, ◌≤◌, ℕ, Result, MatchResult}
 use Rattle.cave_base.specs.Box.{Point, coordinates}
 use Rattle.cave_model.specs.Cave.{Cave}
-use Rattle.cover_rows.specs.Coverage.{IsUnlightable}
-use Rattle.cover_rows.specs.declared.fault.CoverFault.{CoverFault}
-use Rattle.cover_rows.specs.declared.fault.CoverFault.TheVariants as cover
+use Rattle.cave_problem.specs.Coverage.{IsUnlightable}
+use Rattle.cave_problem.specs.declared.fault.CoverFault.{CoverFault}
+use Rattle.cave_problem.specs.declared.fault.CoverFault.TheVariants as cover
 use Rattle.cave_plan.specs.declared.fault.PlanFault.{PlanFault}
 use Rattle.cave_plan.specs.declared.fault.PlanFault.TheVariants as plan
 

@@ -1,13 +1,13 @@
 //! Why a cave has no plan: specs/Faults.antt.
 ghost use Rattle.std.specs.Prelude.{◌≡◌, ◌≢◌};
 ghost use Rattle.cave_plan.specs.Faults.{of_cover};
-ghost use Rattle.cover_rows.specs.Coverage.{IsUnlightableFault};
-ghost use Rattle.cover_rows.specs.declared.fault.CoverFault.{CoverFault};
+ghost use Rattle.cave_problem.specs.Coverage.{IsUnlightableFault};
+ghost use Rattle.cave_problem.specs.declared.fault.CoverFault.{CoverFault};
 ghost use Rattle.cave_plan.specs.declared.fault.PlanFault.TheVariants.{OutOfMemory};
 
 use cave_base::coordinates;
 use cave_model::World;
-use cover_rows::CoverFault;
+use cave_problem::CoverFault;
 use std::alloc::{AllocError, AllocFailed};
 
 /// Why a cave has no plan.

@@ -6,7 +6,7 @@ ghost use Rattle.cave_model.specs.Plan.{IsSafe, Torch};
 ghost use Rattle.cave_plan.specs.Best.{AreTorchesOf, IsInLeastVersion};
 ghost use Rattle.cave_plan.specs.Bounded.{AreBoundedIn, AreInOrder, Bounded, IsPlanWithin, all_torches, total_floor};
 ghost use Rattle.certificate_text.specs.Planned.{AreBestOf, Plan, certificate_of, certificate_text};
-ghost use Rattle.cover_rows.specs.Coverage.{IsUnlightable};
+ghost use Rattle.cave_problem.specs.Coverage.{IsUnlightable};
 ghost use Rattle.proof_check.specs.Accepted.{Accepts, IsBestPlan};
 ghost use Rattle.proof_rules.specs.Certificate.{Certificate};
 ghost use Rattle.proof_rules.specs.Good.{Good};

@@ -3,24 +3,26 @@ use Rattle.std.proofs.Common.{ℕ, List, get_or, slice_index, All, Contains, ref
 use Rattle.cave_model.specs.Cave.{Cave}
 use Rattle.cave_model.specs.Coverage.{Agrees, of_cave}
 use Rattle.cave_model.specs.Regions.{AreRegions}
-use Rattle.cover_rows.specs.Coverage.{IsProblemOf}
+use Rattle.cave_problem.specs.Coverage.{IsProblemOf}
 use Rattle.set_cover.specs.Instance.{Instance, LightsIn, of_instance}
+use Rattle.set_cover.specs.Sparse.{Sparse, ListsIn}
 use Rattle.set_cover.proofs.OrderLemmas.{element_at, element_of}
 use Rattle.instance_regions.specs.Region.{IsRegion}
 use Rattle.instance_regions.specs.Splitting.{AreRegionsOf, IsPartOf, cells_of_each}
 use Rattle.instance_regions.proofs.FlatLemmas.{in_all}
 
 -- the number of a place that lights something is one of the places
-pub place_of : (instance : Instance) (place cell : ℕ) → LightsIn instance place cell → Contains instance.places place
-place_of instance place cell by =
-    element_of instance.places place by.place_index by.place_there.inside by.place_there.there
+pub place_of : (problem : Sparse) (place cell : ℕ) → ListsIn problem place cell → Contains problem.places place
+place_of problem place cell by =
+    element_of problem.places place by.place_index by.place_there.inside by.place_there.there
 
--- a cell that a place of the instance lights is one of the instance
-pub cell_of : (instance : Instance) (place cell : ℕ) → LightsIn instance place cell → Contains instance.cells cell
-cell_of instance place cell by = element_of instance.cells cell by.cell_index by.cell_there.inside by.cell_there.there
+-- and so it is in a region
+place_in : (region : Instance) (place cell : ℕ) → LightsIn region place cell → Contains region.places place
+place_in region place cell by =
+    element_of region.places place by.place_index by.place_there.inside by.place_there.there
 
 -- the regions of a cave's problem are regions of the cave
-pub regions_are : (cave : Cave) (problem : Instance) (regions : List Instance) → IsProblemOf cave problem
+pub regions_are : (cave : Cave) (problem : Sparse) (regions : List Instance) → IsProblemOf cave problem
     → AreRegionsOf problem regions → AreRegions cave (cells_of_each regions)
 regions_are cave problem regions is split = record {
   filled = split.parts.filled;
@@ -53,7 +55,7 @@ lights_some region kept place has =
     )
 
 -- a part of the problem has of the cave's light what falls on its cells
-agrees : (cave : Cave) (problem region : Instance) → IsProblemOf cave problem → IsPartOf problem region
+agrees : (cave : Cave) (problem : Sparse) (region : Instance) → IsProblemOf cave problem → IsPartOf problem region
     → Agrees (of_instance region) (of_cave cave) region.cells
 agrees cave problem region is part = record {
   wider = λ place has. (let lit = lights_some region part.kept place has in
@@ -62,10 +64,10 @@ agrees cave problem region is part = record {
   back = λ place cell in_cells legal lights.
       (let dark = (is.dark.exact cell).0 (part.of_it cell in_cells) in
       let lit = (part.exact place cell).1 (in_cells, (is.lit place cell).1 (legal, dark, lights)) in
-      (place_of region place cell lit, lit));
+      (place_in region place cell lit, lit));
 }
 
 -- and each agrees with the cave on which places light its cells
-pub regions_agree : (cave : Cave) (problem : Instance) (regions : List Instance) → IsProblemOf cave problem
+pub regions_agree : (cave : Cave) (problem : Sparse) (regions : List Instance) → IsProblemOf cave problem
     → AreRegionsOf problem regions → All (λ region. Agrees (of_instance region) (of_cave cave) region.cells) regions
 regions_agree cave problem regions is split = λ k d h. agrees cave problem (get_or regions k d) is (split.each k d h)

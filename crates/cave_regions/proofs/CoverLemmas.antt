@@ -10,9 +10,10 @@ use Rattle.std.proofs.lemmas.Map.Made.{IsDistinct-from_AllPairs, AllPairs-from_I
 use Rattle.cave_model.specs.Cave.{Cave, IsSound}
 use Rattle.cave_model.specs.Plan.{AreDistinct, IsSafe, hung}
 use Rattle.cave_model.specs.Regions.{all_cells}
-use Rattle.cover_rows.specs.Coverage.{IsProblemOf}
-use Rattle.cover_rows.proofs.CoverLemmas as problems
-use Rattle.set_cover.specs.Instance.{Instance, LightsIn}
+use Rattle.cave_problem.specs.Coverage.{IsProblemOf}
+use Rattle.cave_problem.proofs.CoverLemmas as problems
+use Rattle.set_cover.specs.Instance.{LightsIn}
+use Rattle.set_cover.specs.Sparse.{Sparse, ListsIn}
 use Rattle.set_cover.proofs.ListLemmas.{none_in}
 use Rattle.instance_regions.specs.Cover.{Covering, IsCover, places_of, regions_in}
 use Rattle.instance_regions.specs.Splitting.{AreRegionsOf, IsPartOf, cells_of_each}
@@ -29,7 +30,7 @@ flat_places [] = refl
 flat_places (c ∷ cs) = ap (λ (l : List ℕ). c.places ++ l) (flat_places cs)
 
 -- a cover with this index
-record CoverAt (problem : Instance) (covers : List Covering) (k : ℕ) : Type 0 where
+record CoverAt (problem : Sparse) (covers : List Covering) (k : ℕ) : Type 0 where
   pub cover : Covering
   pub covers_it : IsCover cover
   pub part : IsPartOf problem cover.region
@@ -37,7 +38,7 @@ record CoverAt (problem : Instance) (covers : List Covering) (k : ℕ) : Type 0 
   pub places : slice_index_or (places_of_each covers) k [] ≡ cover.places
 
 -- each of the covers covers its region
-cover_at : (problem : Instance) (covers : List Covering) (k : ℕ) → k < length covers → All IsCover covers
+cover_at : (problem : Sparse) (covers : List Covering) (k : ℕ) → k < length covers → All IsCover covers
     → All (IsPartOf problem) (regions_in covers) → CoverAt problem covers k
 cover_at problem [] k h covering parts = absurd (omega arith)
 cover_at problem (c ∷ cs) zero h covering parts = record {
@@ -81,7 +82,7 @@ distinct_moved : (xs ys : List ℕ) → IsPermutation xs ys → AreDistinct xs �
 distinct_moved xs ys moved once = AllPairs-from_IsDistinct unsigned_Decides ys
     (IsDistinct-IsPermutation _ flips xs ys moved (IsDistinct-from_AllPairs unsigned_Decides xs once))
 
-module _ (cave : Cave) (problem : Instance) (covers : List Covering) (is : IsProblemOf cave problem)
+module _ (cave : Cave) (problem : Sparse) (covers : List Covering) (is : IsProblemOf cave problem)
     (split : AreRegionsOf problem (regions_in covers)) (covering : All IsCover covers) where
   at : (k : ℕ) → k < length covers → CoverAt problem covers k
   at k h = cover_at problem covers k h covering split.each
@@ -89,7 +90,7 @@ module _ (cave : Cave) (problem : Instance) (covers : List Covering) (is : IsPro
   -- a place of a cover lights a cell of its region
   lights_one : (k place : ℕ) → Contains (slice_index_or (places_of_each covers) k []) place
       → (cell : ℕ) × Contains (slice_index_or (cells_of_each (regions_in covers)) k []) cell
-      × LightsIn problem place cell
+      × ListsIn problem place cell
   lights_one k place has =
       let c = at k (inside_places covers k place has) in
       let lit = All-contains (λ p. Contains c.cover.region.places p × (cell : ℕ) × Contains c.cover.region.cells cell
@@ -119,7 +120,7 @@ module _ (cave : Cave) (problem : Instance) (covers : List Covering) (is : IsPro
   legal place has = (let k = flat place has in let lit = lights_one k.0 place k.1 in place_of problem place lit.0 lit.2)
 
   covered : (cell : ℕ) → Contains problem.cells cell
-      → (place : ℕ) × Contains (places_of covers) place × LightsIn problem place cell
+      → (place : ℕ) × Contains (places_of covers) place × ListsIn problem place cell
   covered cell has =
       let k = in_one (cells_of_each (regions_in covers)) cell ((split.parts.exact cell).1 has) in
       let c = at k.0 (inside_cells covers k.0 cell k.1) in
@@ -132,7 +133,7 @@ module _ (cave : Cave) (problem : Instance) (covers : List Covering) (is : IsPro
       )
 
 -- torches hung at covers of all regions are safe
-pub covers_are_safe : (cave : Cave) (problem : Instance) (covers : List Covering) (places : List ℕ) → IsSound cave
+pub covers_are_safe : (cave : Cave) (problem : Sparse) (covers : List Covering) (places : List ℕ) → IsSound cave
     → IsProblemOf cave problem → AreRegionsOf problem (regions_in covers) → All IsCover covers
     → IsPermutation (places_of covers) places → IsSafe cave (hung cave places)
 covers_are_safe cave problem covers places sound is split covering moved =

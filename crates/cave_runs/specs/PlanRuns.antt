@@ -7,7 +7,7 @@ use Rattle.cave_reading.specs.Bytes.{IsCaveOfBytes}
 use Rattle.cave_model.specs.Cave.{Cave}
 use Rattle.cave_model.specs.Plan.{hung, IsSafe}
 use Rattle.cave_model.specs.Rule.{Rule}
-use Rattle.cover_rows.specs.Coverage.{IsUnlightable}
+use Rattle.cave_problem.specs.Coverage.{IsUnlightable}
 use Rattle.proof_rules.specs.Certificate.{Certificate, torches_of}
 use Rattle.certificate_text.specs.Planned.{Plan, certificate_text}
 use Rattle.certificate_text.specs.Writing.{AppendsFront, AppendsPart}

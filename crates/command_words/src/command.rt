@@ -9,13 +9,30 @@ use std::alloc::{AllocError, Global};
 /// The version, and the toolchain that it was proved with.
 const VERSION: &str = "0.10.1 (proved with rattle-kit-13f)";
 
+/// An argument that has to be there.
+fn placed<'a>(alloc: Global, name: &'a str, help: &'a str) -> Arg<'a>
+    ensures { IsArg (options.placed name.now) result }
+{
+    Arg::new(alloc, name)
+        .required(true)
+        .action(ArgAction::Set)
+        .help(help)
+}
+
 fn file<'a>(alloc: Global) -> Arg<'a>
     ensures { IsArg (options.placed (codes "FILE")) result }
 {
-    Arg::new(alloc, "FILE")
-        .required(true)
-        .action(ArgAction::Set)
-        .help("The structure file, unpacked (NBT), or - for standard input")
+    placed(
+        alloc,
+        "FILE",
+        "The structure file, unpacked (NBT), or - for standard input",
+    )
+}
+
+fn certificate<'a>(alloc: Global) -> Arg<'a>
+    ensures { IsArg (options.placed (codes "PROOF")) result }
+{
+    placed(alloc, "PROOF", "The proof that `plan --proof` wrote")
 }
 
 fn progress<'a>(alloc: Global) -> Arg<'a>
@@ -110,17 +127,13 @@ fn plan_command<'a>(alloc: Global) -> Result<Command<'a>, AllocError>
 fn check_command<'a>(alloc: Global) -> Result<Command<'a>, AllocError>
     ensures { IfOk result (IsCommand options.check) }
 {
-    let certificate = Arg::new(alloc, "PROOF")
-        .required(true)
-        .action(ArgAction::Set)
-        .help("The proof that `plan --proof` wrote");
     let command = Command::new(alloc, "check")
         .about("Say whether a proof shows that its torches are the fewest for the structure")
         .after_help(
             "Example: torchplan check cave.nbt cave.proof\nIt prints `accepted 2`, or `rejected: ` and why.",
         )
         .arg(file(alloc))?
-        .arg(certificate)?;
+        .arg(certificate(alloc))?;
     ruled(alloc, command)
 }
 

@@ -8,11 +8,11 @@ use Rattle.proof_tree.specs.declared.proof.Proof.{Proof}
 use Rattle.event_core.specs.Shape.{Shapes, parted, shape_count}
 use Rattle.event_core.specs.Finished.{is_done, are_done, assembled, all_assembled, IsWhole, AreWhole}
 use Rattle.event_core.specs.NodeShape.{shape_of, shapes_of}
-use Rattle.event_core.specs.declared.node.Node.{Node}
-use Rattle.event_core.specs.declared.node.Node.TheVariants.{Opened}
+use Rattle.event_core.specs.declared.node.PieceNode.{PieceNode}
+use Rattle.event_core.specs.declared.node.PieceNode.TheVariants.{Opened}
 use Rattle.event_core.proofs.NodeLemmas.{count_nodes}
 
-abbrev pub trees_of : List Node → List Tree
+abbrev pub trees_of : List PieceNode → List Tree
 trees_of ns = map (λ n. assembled (shape_of n)) ns
 
 abbrev pub forest : List Tree → Forest
@@ -25,20 +25,20 @@ forest_trees [] = refl
 forest_trees (p ∷ ps) = ap (more (tree_of p)) (forest_trees ps)
 
 -- the trees of nodes are what their shapes assemble to
-pub forest_nodes : (ns : List Node) → forest (trees_of ns) ≡ all_assembled (shapes_of ns)
+pub forest_nodes : (ns : List PieceNode) → forest (trees_of ns) ≡ all_assembled (shapes_of ns)
 forest_nodes [] = refl
 forest_nodes (n ∷ ns) = ap (more (assembled (shape_of n))) (forest_nodes ns)
 
 -- ---- an opened piece that is done
 
-pub record IsReady (ns : List Node) (room : ℕ) : Type 0 where
+pub record IsReady (ns : List PieceNode) (room : ℕ) : Type 0 where
   pub done : are_done (shapes_of ns) ≡ true
   pub whole : AreWhole (shapes_of ns)
   pub room_is : length ns ≡ room
 
 -- an opened node that is done has done kids and room for their trees
-pub opened_ready : (node : Node) (cell : ℕ) (places : List ℕ) (kids : Shapes) (room : Vec Proof Global)
-    (ns rest : List Node) → node ≡ Opened cell places kids room → shapes_of ns ≡ kids → rest ≡ ns
+pub opened_ready : (node : PieceNode) (cell : ℕ) (places : List ℕ) (kids : Shapes) (room : Vec Proof Global)
+    (ns rest : List PieceNode) → node ≡ Opened cell places kids room → shapes_of ns ≡ kids → rest ≡ ns
     → is_done (shape_of node) ≡ true → IsWhole (shape_of node) → IsReady rest (length room.items)
 opened_ready node cell places kids room ns rest is kids_are same done whole =
     let shape : shape_of node ≡ parted cell places (length room.items) kids = ap shape_of is in
@@ -52,23 +52,23 @@ opened_ready node cell places kids room ns rest is kids_are same done whole =
     }
 
 -- nodes of which there are none are no nodes
-no_nodes : (ns : List Node) → length ns ≡ 0 → ns ≡ []
+no_nodes : (ns : List PieceNode) → length ns ≡ 0 → ns ≡ []
 no_nodes [] e = refl
 no_nodes (n ∷ ns) e = absurd (omega arith)
 
 -- with the trees of all kids made, the branch is what the node assembles to
-pub all_there : (node : Node) (cell : ℕ) (places : List ℕ) (kids : Shapes) (had room : Vec Proof Global) (index : ℕ)
-    (ns first rest : List Node) (made : Forest) → node ≡ Opened cell places kids had → shapes_of ns ≡ kids → first ≡ ns
-    → length rest ≡ 0
+pub all_there : (node : PieceNode) (cell : ℕ) (places : List ℕ) (kids : Shapes) (had room : Vec Proof Global)
+    (index : ℕ) (ns first rest : List PieceNode) (made : Forest) → node ≡ Opened cell places kids had
+    → shapes_of ns ≡ kids → first ≡ ns → length rest ≡ 0
     → index + length rest ≡ length room.items → map tree_of (take index room.items) ++ trees_of rest ≡ trees_of first
     → made ≡ forest_of room.items → branch cell made ≡ assembled (shape_of node)
 all_there node cell places kids had room index ns first rest made is kids_are same none_left full trees made_is =
     let all : take index room.items ≡ room.items = take_all index room.items (omega arith) in
     let front : map tree_of (take index room.items) ++ [] ≡ trees_of first =
-    ap (λ (l : List Node). map tree_of (take index room.items) ++ trees_of l)
+    ap (λ (l : List PieceNode). map tree_of (take index room.items) ++ trees_of l)
     (sym (no_nodes rest none_left)) ∙ trees in
     let whole : map tree_of room.items ≡ trees_of ns = ap (λ (l : List Proof). map tree_of l) (sym all)
     ∙ sym (append-nil (map tree_of (take index room.items))) ∙ front ∙ ap trees_of same in
     ap (branch cell) (made_is ∙ sym (forest_trees room.items) ∙ ap forest whole ∙ forest_nodes ns
     ∙ ap all_assembled kids_are)
-    ∙ sym (ap (λ (n : Node). assembled (shape_of n)) is)
+    ∙ sym (ap (λ (n : PieceNode). assembled (shape_of n)) is)

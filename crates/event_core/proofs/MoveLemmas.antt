@@ -17,7 +17,7 @@ use Rattle.event_core.specs.Tracing.{IsTracedTo, IsStanding, StandsAs}
 use Rattle.event_core.specs.Opening.{IsOpening}
 use Rattle.event_core.specs.Moving.{IsMade}
 use Rattle.event_core.specs.NodeShape.{shape_of}
-use Rattle.event_core.specs.declared.node.Node.{Node}
+use Rattle.event_core.specs.declared.node.PieceNode.{PieceNode}
 use Rattle.event_core.specs.declared.tracing.Standing.{Standing}
 use Rattle.event_core.specs.declared.tracing.Standing.TheVariants.{Waiting, Held, Past}
 use Rattle.event_core.specs.declared.tracing.Traced.{Traced}
@@ -193,7 +193,7 @@ module _ (kept : Kept) (name : List ℕ) (cell : ℕ) (places c b : List ℕ) (w
   }
 
 -- a piece put as newly opened is opened, with waiting kids
-pub opens : (kept : Kept) (name : List ℕ) (cell : ℕ) (node : Node) → MayOpen (state_of kept) name cell
+pub opens : (kept : Kept) (name : List ℕ) (cell : ℕ) (node : PieceNode) → MayOpen (state_of kept) name cell
     → ((c b : List ℕ) (was : Status) → HasPart (state_of kept) name c b was → IsOpening kept.region b cell node)
     → Opens (state_of kept) name cell (state_of (put_kept kept name (shape_of node)))
 opens kept name cell node may made =
@@ -202,7 +202,7 @@ opens kept name cell node may made =
     (opens_here kept name cell o.places may.chosen may.barred may.status may.there may.left o.all)
 
 -- and it is whole
-pub opened_whole : (kept : Kept) (name : List ℕ) (cell : ℕ) (node : Node) → MayOpen (state_of kept) name cell
+pub opened_whole : (kept : Kept) (name : List ℕ) (cell : ℕ) (node : PieceNode) → MayOpen (state_of kept) name cell
     → ((c b : List ℕ) (was : Status) → HasPart (state_of kept) name c b was → IsOpening kept.region b cell node)
     → IsWhole (shape_of node)
 opened_whole kept name cell node may made =
@@ -216,7 +216,7 @@ left_where Waiting status e ne = subst IsLeft (sym e) tt
 left_where (Held w) status e ne = subst IsLeft (sym e) tt
 left_where Past status e ne = absurd (ne refl)
 
-module _ (kept : Kept) (name : List ℕ) (cell : ℕ) (t : Traced) (node : Node) (not_past : ¬ (t.standing ≡ Past))
+module _ (kept : Kept) (name : List ℕ) (cell : ℕ) (t : Traced) (node : PieceNode) (not_past : ¬ (t.standing ≡ Past))
     (unlit : IsUnlit (of_instance kept.region) kept.region.cells t.chosen.items cell)
     (opening : IsOpening kept.region t.barred.items cell node) where
   made_at : (p : Part) → part_in [] [] kept.root name ≡ Some p → p.chosen ≡ t.chosen.items → p.barred ≡ t.barred.items

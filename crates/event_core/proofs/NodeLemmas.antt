@@ -6,10 +6,10 @@ use Rattle.event_core.specs.Shape.{Shape, Shapes, at_rest, no_shape, one_shape, 
 use Rattle.event_core.specs.Shape.{put_below, shape_size, shapes_size, shape_count}
 use Rattle.event_core.specs.Finished.{all_at_rest}
 use Rattle.event_core.specs.NodeShape.{shape_of, shapes_of}
-use Rattle.event_core.specs.declared.node.Node.{Node}
+use Rattle.event_core.specs.declared.node.PieceNode.{PieceNode}
 
 -- the part below a kid's number is that of the kid
-pub kid_here : (c b places : List ℕ) (ns : List Node) (k : ℕ) (d : Node) (ks : List ℕ) → k < length places
+pub kid_here : (c b places : List ℕ) (ns : List PieceNode) (k : ℕ) (d : PieceNode) (ks : List ℕ) → k < length places
     → k < length ns
     → part_below c b places (shapes_of ns) k ks ≡ part_in (c ++ slice_index places k ∷ []) (b ++ take k places)
     (shape_of (get_or ns k d)) ks
@@ -31,7 +31,7 @@ no_place c b (q ∷ qs) (one_shape s ss) zero ks le = absurd (omega arith)
 no_place c b (q ∷ qs) (one_shape s ss) (suc k) ks le = no_place c (b ++ q ∷ []) qs ss k ks (omega arith)
 
 -- past the last kid there is none
-pub no_node : (c b places : List ℕ) (ns : List Node) (k : ℕ) (ks : List ℕ) → length ns ≤ k
+pub no_node : (c b places : List ℕ) (ns : List PieceNode) (k : ℕ) (ks : List ℕ) → length ns ≤ k
     → part_below c b places (shapes_of ns) k ks ≡ None
 no_node c b [] ns k ks le = refl
 no_node c b (q ∷ qs) [] k ks le = refl
@@ -39,7 +39,7 @@ no_node c b (q ∷ qs) (n ∷ ns) zero ks le = absurd (omega arith)
 no_node c b (q ∷ qs) (n ∷ ns) (suc k) ks le = no_node c (b ++ q ∷ []) qs ns k ks (omega arith)
 
 -- a shape put below a kid's number is put in the kid
-pub put_kid : (ns : List Node) (k : ℕ) (ks : List ℕ) (new : Shape) (n d : Node) → k < length ns
+pub put_kid : (ns : List PieceNode) (k : ℕ) (ks : List ℕ) (new : Shape) (n d : PieceNode) → k < length ns
     → shape_of n ≡ put_in (shape_of (get_or ns k d)) ks new
     → shapes_of (set ns k n) ≡ put_below (shapes_of ns) k ks new
 put_kid [] k ks new n d lt e = absurd (omega arith)
@@ -47,27 +47,27 @@ put_kid (m ∷ ms) zero ks new n d lt e = ap (λ (s : Shape). one_shape s (shape
 put_kid (m ∷ ms) (suc k) ks new n d lt e = ap (one_shape (shape_of m)) (put_kid ms k ks new n d (omega arith) e)
 
 -- past the last kid nothing is put
-pub put_far : (ns : List Node) (k : ℕ) (ks : List ℕ) (new : Shape) → length ns ≤ k
+pub put_far : (ns : List PieceNode) (k : ℕ) (ks : List ℕ) (new : Shape) → length ns ≤ k
     → shapes_of ns ≡ put_below (shapes_of ns) k ks new
 put_far [] k ks new le = refl
 put_far (m ∷ ms) zero ks new le = absurd (omega arith)
 put_far (m ∷ ms) (suc k) ks new le = ap (one_shape (shape_of m)) (put_far ms k ks new (omega arith))
 
 -- what was put last at a place stands there
-pub set_twice : (ns : List Node) (k : ℕ) (a b : Node) → set (set ns k a) k b ≡ set ns k b
+pub set_twice : (ns : List PieceNode) (k : ℕ) (a b : PieceNode) → set (set ns k a) k b ≡ set ns k b
 set_twice [] k a b = refl
 set_twice (m ∷ ms) zero a b = refl
-set_twice (m ∷ ms) (suc k) a b = ap (λ (l : List Node). m ∷ l) (set_twice ms k a b)
+set_twice (m ∷ ms) (suc k) a b = ap (λ (l : List PieceNode). m ∷ l) (set_twice ms k a b)
 
 -- a kid is smaller than all kids together
-pub kid_smaller : (ns : List Node) (k : ℕ) (d : Node) → k < length ns
+pub kid_smaller : (ns : List PieceNode) (k : ℕ) (d : PieceNode) → k < length ns
     → shape_size (shape_of (get_or ns k d)) < shapes_size (shapes_of ns)
 kid_smaller [] k d lt = absurd (omega arith)
 kid_smaller (n ∷ ns) zero d lt = omega arith
 kid_smaller (n ∷ ns) (suc k) d lt = (let rest = kid_smaller ns k d (omega arith) in omega arith)
 
 -- as many shapes as nodes
-pub count_nodes : (ns : List Node) → shape_count (shapes_of ns) ≡ length ns
+pub count_nodes : (ns : List PieceNode) → shape_count (shapes_of ns) ≡ length ns
 count_nodes [] = refl
 count_nodes (n ∷ ns) = omega (arith, count_nodes ns)
 
@@ -78,7 +78,8 @@ added no_shape = one_shape at_rest no_shape
 added (one_shape s ss) = one_shape s (added ss)
 
 -- a node at rest more is a shape at rest more
-pub nodes_push : (ns : List Node) (n : Node) → shape_of n ≡ at_rest → shapes_of (ns ++ n ∷ []) ≡ added (shapes_of ns)
+pub nodes_push : (ns : List PieceNode) (n : PieceNode) → shape_of n ≡ at_rest
+    → shapes_of (ns ++ n ∷ []) ≡ added (shapes_of ns)
 nodes_push [] n e = ap (λ (s : Shape). one_shape s no_shape) e
 nodes_push (m ∷ ms) n e = ap (one_shape (shape_of m)) (nodes_push ms n e)
 

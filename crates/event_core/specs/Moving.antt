@@ -5,7 +5,7 @@ use Rattle.event_core.specs.State.{Status, HasPart}
 use Rattle.event_core.specs.Events.{MayOpen}
 use Rattle.event_core.specs.Kept.{Kept, state_of}
 use Rattle.event_core.specs.Opening.{IsOpening}
-use Rattle.event_core.specs.declared.node.Node.{Node}
+use Rattle.event_core.specs.declared.node.PieceNode.{PieceNode}
 use Rattle.event_core.specs.declared.tracing.Standing.TheVariants.{Held}
 use Rattle.event_core.specs.declared.tracing.Traced.{Traced}
 
@@ -16,7 +16,7 @@ pub record IsHeldAs (traced : Traced) (worker : ℕ) (piece : Subproblem) : Type
   pub barred : traced.barred.items ≡ piece.barred
 
 -- the piece of this name, opened on the cell; none where it may not be opened so
-abbrev pub IsMade : Kept → List ℕ → ℕ → Option Node → Type 0
+abbrev pub IsMade : Kept → List ℕ → ℕ → Option PieceNode → Type 0
 IsMade kept name cell None = ¬ MayOpen (state_of kept) name cell
 IsMade kept name cell (Some node) = MayOpen (state_of kept) name cell
     × ((chosen barred : List ℕ) (was : Status) → HasPart (state_of kept) name chosen barred was

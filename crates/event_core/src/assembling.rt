@@ -4,19 +4,19 @@ ghost use Rattle.event_core.specs.Finished.{assembled, is_done, are_done, IsWhol
 ghost use Rattle.event_core.specs.NodeShape.{shape_of, shapes_of};
 ghost use Rattle.proof_tree.specs.Shape.{tree_of};
 
-use crate::node::Node;
+use crate::node::PieceNode;
 use proof_tree::{Kids, Proof};
 
 /// Whether no piece waits or is held.
 #[cycle(done)]
-pub(crate) fn is_done(node: &Node) -> bool
+pub(crate) fn is_done(node: &PieceNode) -> bool
     ensures { result ≡ is_done (shape_of node.now) }
 {
     match node {
-        Node::Waiting => false,
-        Node::Held(_) => false,
-        Node::Closed { .. } => true,
-        Node::Opened {
+        PieceNode::Waiting => false,
+        PieceNode::Held(_) => false,
+        PieceNode::Closed { .. } => true,
+        PieceNode::Opened {
             cell: _,
             places: _,
             kids,
@@ -26,7 +26,7 @@ pub(crate) fn is_done(node: &Node) -> bool
 }
 
 #[cycle(done)]
-fn are_done(nodes: &[Node]) -> bool
+fn are_done(nodes: &[PieceNode]) -> bool
     ensures { result ≡ are_done (shapes_of nodes.now) }
 {
     for node in nodes {
@@ -38,14 +38,14 @@ fn are_done(nodes: &[Node]) -> bool
 }
 
 /// The tree of a node that is done. It takes no memory.
-pub(crate) fn assemble(node: Node) -> Proof
+pub(crate) fn assemble(node: PieceNode) -> Proof
     requires done { IsTrue (is_done (shape_of node)) }
     requires whole { IsWhole (shape_of node) }
     ensures { tree_of result ≡ assembled (shape_of node) }
 {
     match node {
-        Node::Closed { floor: _, proof } => proof,
-        Node::Opened {
+        PieceNode::Closed { floor: _, proof } => proof,
+        PieceNode::Opened {
             cell,
             places: _,
             kids,
@@ -63,7 +63,7 @@ pub(crate) fn assemble(node: Node) -> Proof
                 kids: Kids::of(room),
             }
         }
-        Node::Waiting => unreachable!(),
-        Node::Held(_) => unreachable!(),
+        PieceNode::Waiting => unreachable!(),
+        PieceNode::Held(_) => unreachable!(),
     }
 }

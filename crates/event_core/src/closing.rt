@@ -7,7 +7,7 @@ ghost use Rattle.event_core.specs.declared.event.Event.TheVariants.{Close};
 ghost use Rattle.event_core.specs.declared.tracing.Standing.TheVariants.{Held};
 
 use crate::event_state::Core;
-use crate::node::Node;
+use crate::node::PieceNode;
 use crate::tracing::{Standing, Traced};
 use proof_tree::{Closed, Piece, floor_of};
 use std::alloc::AllocError;
@@ -24,7 +24,7 @@ impl Core {
         }
         let name = Vec::from_slice(self.alloc(), closed.piece().name().as_slice())?;
         let floor = floor_of(&closed);
-        let node = Node::Closed {
+        let node = PieceNode::Closed {
             floor,
             proof: closed.into_proof(),
         };

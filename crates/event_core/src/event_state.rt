@@ -12,7 +12,7 @@ ghost use Rattle.instance_regions.specs.Cover.{IsCover};
 ghost use Rattle.proof_tree.specs.Shape.{tree_of};
 
 use crate::assembling::{assemble, is_done};
-use crate::node::Node;
+use crate::node::PieceNode;
 use crate::putting::put;
 use crate::tracing::{Traced, trace};
 use instance_regions::{Cover, Region};
@@ -30,7 +30,7 @@ pub struct Core {
     region: Arc<Region>,
     best: Cover,
     seen: Vec<u64>,
-    root: Node,
+    root: PieceNode,
 }
 
 impl Model for Core {
@@ -76,7 +76,7 @@ impl Core {
             region,
             best,
             seen,
-            root: Node::Waiting,
+            root: PieceNode::Waiting,
         })
     }
 
@@ -132,7 +132,7 @@ impl Core {
         &self.region
     }
 
-    pub(crate) fn root(&self) -> &Node
+    pub(crate) fn root(&self) -> &PieceNode
         ensures { shape_of result.now ≡ self.now.root }
     {
         &self.root
@@ -178,12 +178,12 @@ impl Core {
     }
 
     /// The new node stands at the name.
-    pub(crate) fn turn(&mut self, name: &[u32], node: Node)
+    pub(crate) fn turn(&mut self, name: &[u32], node: PieceNode)
         requires whole { IsWhole (shape_of node) }
         requires sound { IsSoundState (state_of (put_kept self.old name.now (shape_of node))) }
         ensures { self.new ≡ put_kept self.old name.now (shape_of node) }
     {
-        let root = mem::replace(&mut self.root, Node::Waiting);
+        let root = mem::replace(&mut self.root, PieceNode::Waiting);
         self.root = put(root, name, node);
     }
 }

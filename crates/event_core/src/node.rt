@@ -10,13 +10,13 @@ use std::marker::Model;
 #[cycle(node)]
 #[derive(Drop)]
 pub(crate) struct Siblings {
-    items: Vec<Node>,
+    items: Vec<PieceNode>,
 }
 
 /// A piece by what became of it. An opened one has the places of its kids, and room for their trees.
 #[cycle(node)]
 #[derive(Drop)]
-pub(crate) enum Node {
+pub(crate) enum PieceNode {
     Waiting,
     Held(u32),
     Closed {
@@ -53,20 +53,20 @@ impl Model for Siblings {
 
 impl Siblings {
     /// These nodes, with no new memory.
-    pub(crate) fn of(items: Vec<Node>) -> Siblings
+    pub(crate) fn of(items: Vec<PieceNode>) -> Siblings
         ensures { result ≡ shapes_of items.items }
     {
         Siblings { items }
     }
 
-    pub(crate) fn as_slice(&self) -> &[Node]
+    pub(crate) fn as_slice(&self) -> &[PieceNode]
         ensures { self.now ≡ shapes_of result.now }
     {
         self.items.as_slice()
     }
 
     /// The nodes alone, with no new memory.
-    pub(crate) fn into_items(self) -> Vec<Node>
+    pub(crate) fn into_items(self) -> Vec<PieceNode>
         ensures { shapes_of result.items ≡ self }
     {
         let Siblings { items } = self;

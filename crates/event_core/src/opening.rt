@@ -3,7 +3,7 @@ ghost use Rattle.std.specs.Prelude.{◌≡◌, IfOk, length};
 ghost use Rattle.event_core.specs.Finished.{all_at_rest};
 ghost use Rattle.event_core.specs.Opening.{IsOpening};
 
-use crate::node::{Node, Siblings};
+use crate::node::{PieceNode, Siblings};
 use cave_base::{Cell, Sequence};
 use instance_regions::Region;
 use proof_tree::{Proof, kid_places};
@@ -16,13 +16,13 @@ pub(crate) fn opened(
     region: &Region,
     barred: &[Cell],
     cell: Cell,
-) -> Result<Node, AllocError>
+) -> Result<PieceNode, AllocError>
     ensures { IfOk result (IsOpening region.now barred.now cell) }
 {
     let places = kid_places(alloc, region, barred, cell)?;
     let kids = waiting(alloc, &places)?;
     let room = room_for(alloc, places.len())?;
-    Ok(Node::Opened {
+    Ok(PieceNode::Opened {
         cell,
         places: Sequence::from_vec(places),
         kids,
@@ -36,7 +36,7 @@ fn waiting(alloc: Global, places: &[Cell]) -> Result<Siblings, AllocError>
 {
     let mut nodes = Vec::with_capacity(alloc, places.len())?;
     for index in 0..places.len() {
-        nodes.push(Node::Waiting)?;
+        nodes.push(PieceNode::Waiting)?;
     }
     Ok(Siblings::of(nodes))
 }

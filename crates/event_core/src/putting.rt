@@ -3,18 +3,18 @@ ghost use Rattle.std.specs.Prelude.{◌≡◌};
 ghost use Rattle.event_core.specs.NodeShape.{shape_of};
 ghost use Rattle.event_core.specs.Shape.{put_in};
 
-use crate::node::{Node, Siblings};
+use crate::node::{PieceNode, Siblings};
 use std::mem;
 
 /// The same with the new node at this name, where there is a piece of this name.
-pub(crate) fn put(node: Node, name: &[u32], new: Node) -> Node
+pub(crate) fn put(node: PieceNode, name: &[u32], new: PieceNode) -> PieceNode
     ensures { shape_of result ≡ put_in (shape_of node) name.now (shape_of new) }
 {
     let Some((first, rest)) = name.split_first() else {
         return new;
     };
     match node {
-        Node::Opened {
+        PieceNode::Opened {
             cell,
             places,
             kids,
@@ -23,16 +23,16 @@ pub(crate) fn put(node: Node, name: &[u32], new: Node) -> Node
             let number = *first as usize;
             let mut nodes = kids.into_items();
             if number >= nodes.len() {
-                return Node::Opened {
+                return PieceNode::Opened {
                     cell,
                     places,
                     kids: Siblings::of(nodes),
                     room,
                 };
             }
-            let kid = mem::replace(&mut nodes[number], Node::Waiting);
+            let kid = mem::replace(&mut nodes[number], PieceNode::Waiting);
             nodes[number] = put(kid, rest, new);
-            Node::Opened {
+            PieceNode::Opened {
                 cell,
                 places,
                 kids: Siblings::of(nodes),

@@ -7,7 +7,7 @@ ghost use Rattle.event_core.specs.declared.tracing.Standing.TheVariants.{Past};
 
 use crate::event::Event;
 use crate::event_state::Core;
-use crate::node::Node;
+use crate::node::PieceNode;
 use crate::opening::opened;
 use crate::tracing::Standing;
 use cave_base::Cell;
@@ -45,7 +45,7 @@ impl Core {
     }
 
     /// The piece of this name, opened on the cell, where it may be.
-    fn made(&self, name: &[u32], cell: Cell) -> Result<Option<Node>, AllocError>
+    fn made(&self, name: &[u32], cell: Cell) -> Result<Option<PieceNode>, AllocError>
         ensures made { IfOk result (IsMade self.now name.now cell) }
         ensures kept { IsKept self.now }
     {

@@ -6,7 +6,7 @@ ghost use Rattle.event_core.specs.Tracing.{IsStanding};
 ghost use Rattle.event_core.specs.declared.event.Event.TheVariants.{Leave, Take};
 
 use crate::event_state::Core;
-use crate::node::Node;
+use crate::node::PieceNode;
 use crate::tracing::Standing;
 use std::alloc::AllocError;
 
@@ -20,7 +20,7 @@ impl Core {
         if !may {
             return Ok(false);
         }
-        self.turn(name, Node::Held(worker));
+        self.turn(name, PieceNode::Held(worker));
         Ok(true)
     }
 
@@ -33,7 +33,7 @@ impl Core {
         if !may {
             return Ok(false);
         }
-        self.turn(name, Node::Waiting);
+        self.turn(name, PieceNode::Waiting);
         Ok(true)
     }
 

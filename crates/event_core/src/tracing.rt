@@ -4,7 +4,7 @@ ghost use Rattle.event_core.specs.NodeShape.{shape_of};
 ghost use Rattle.event_core.specs.Shape.{status_of};
 ghost use Rattle.event_core.specs.Tracing.{IsTraced, StandsAs};
 
-use crate::node::Node;
+use crate::node::PieceNode;
 use cave_base::Cell;
 use std::alloc::AllocError;
 
@@ -25,20 +25,20 @@ pub(crate) struct Traced {
     pub(crate) standing: Standing,
 }
 
-fn standing_of(node: &Node) -> Standing
+fn standing_of(node: &PieceNode) -> Standing
     ensures { StandsAs result (status_of (shape_of node.now)) }
 {
     match node {
-        Node::Waiting => Standing::Waiting,
-        Node::Held(worker) => Standing::Held(*worker),
-        Node::Closed { .. } => Standing::Past,
-        Node::Opened { .. } => Standing::Past,
+        PieceNode::Waiting => Standing::Waiting,
+        PieceNode::Held(worker) => Standing::Held(*worker),
+        PieceNode::Closed { .. } => Standing::Past,
+        PieceNode::Opened { .. } => Standing::Past,
     }
 }
 
 /// The piece of this name below a node in which these places are chosen and barred.
 pub(crate) fn trace(
-    node: &Node,
+    node: &PieceNode,
     name: &[u32],
     chosen: Vec<Cell>,
     barred: Vec<Cell>,
@@ -53,7 +53,7 @@ pub(crate) fn trace(
         }));
     };
     match node {
-        Node::Opened {
+        PieceNode::Opened {
             cell: _,
             places,
             kids,

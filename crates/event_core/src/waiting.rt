@@ -7,7 +7,7 @@ ghost use Rattle.event_core.specs.WaitingNames.{waiting_in, waiting_below};
 ghost use Rattle.event_core.specs.declared.tracing.Standing.TheVariants.{Waiting};
 
 use crate::event_state::Core;
-use crate::node::Node;
+use crate::node::PieceNode;
 use crate::tracing::{Standing, Traced};
 use proof_tree::{Name, Piece};
 use std::alloc::AllocError;
@@ -53,17 +53,17 @@ fn is_waiting(standing: Standing) -> bool
 
 /// The names with those of the waiting pieces from a node on, which has this name.
 #[cycle(waiting)]
-fn add_names(node: &Node, name: &Name, mut names: Vec<Name>) -> Result<Vec<Name>, AllocError>
+fn add_names(node: &PieceNode, name: &Name, mut names: Vec<Name>) -> Result<Vec<Name>, AllocError>
     ensures { IfOk result (λ all. all.items ≡ names.items ++ waiting_in name.now (shape_of node.now)) }
 {
     match node {
-        Node::Waiting => {
+        PieceNode::Waiting => {
             names.push(name.try_clone()?)?;
             Ok(names)
         }
-        Node::Held(_) => Ok(names),
-        Node::Closed { .. } => Ok(names),
-        Node::Opened {
+        PieceNode::Held(_) => Ok(names),
+        PieceNode::Closed { .. } => Ok(names),
+        PieceNode::Opened {
             cell: _,
             places: _,
             kids,
@@ -78,7 +78,7 @@ fn add_names(node: &Node, name: &Name, mut names: Vec<Name>) -> Result<Vec<Name>
 /// The names with those of the waiting pieces below a node, which has this name and these kids. A kid whose number
 /// takes more than 32 bits has no name, as if memory had been refused; there are fewer places.
 #[cycle(waiting)]
-fn add_below(kids: &[Node], name: &Name, names: Vec<Name>) -> Result<Vec<Name>, AllocError>
+fn add_below(kids: &[PieceNode], name: &Name, names: Vec<Name>) -> Result<Vec<Name>, AllocError>
     ensures { IfOk result (λ all. all.items ≡ names.items ++ waiting_below name.now 0 (shapes_of kids.now)) }
 {
     let mut all = names;

@@ -1,10 +1,10 @@
 -- Columns grow, place by place.
 use Rattle.std.proofs.Common.{◌≡◌, ℕ, ◌+◌, ◌-◌, ◌*◌, ◌<◌, List, length, drop, sym, subst, arith, inl, inr}
-use Rattle.std.specs.Prelude.{slice_range}
+use Rattle.std.specs.Prelude.{◌↔◌, ◌⊎◌, slice_range}
 use Rattle.std.proofs.lemmas.List.{length-take, length-drop}
 use Rattle.std.proofs.lemmas.Bool.{cases_lt}
-use Rattle.set_cover.specs.Bits.{Has}
-use Rattle.set_cover.specs.Instance.{Instance, LightsAt, row_of}
+use Rattle.set_cover.specs.Bits.{Has, IsNext, HasNoneFrom}
+use Rattle.set_cover.specs.Instance.{Instance, LightsAt}
 use Rattle.set_cover.proofs.RowLemmas.{row_has}
 use Rattle.instance_regions.specs.Columns.{height_of, AreColumns, IsColumn}
 use Rattle.instance_regions.specs.Restricting.{Moves}
@@ -28,9 +28,34 @@ pub place_within : (instance : Instance) (place : ℕ) → place < length instan
     → place < 64 * height_of instance
 place_within instance place inside = omega arith
 
+-- a bit of the row below a limit
+abbrev pub IsBefore : List ℕ → ℕ → ℕ → Type 0
+IsBefore row limit bit = (bit < limit) × Has row bit
+
+-- one more is the next
+pub before_next : (row : List ℕ) (from next bit : ℕ) → IsNext row from next
+    → IsBefore row (next + 1) bit ↔ (IsBefore row from bit ⊎ (bit ≡ next))
+before_next row from next bit is = (
+  λ b. (elim (cases_lt bit from) [
+    | inl lt ↦ inl (lt, b.1)
+    | inr le ↦ (let least = is.least bit le b.1 in inr (omega (arith, least, b.0)))
+  ]),
+  λ h. (elim h [
+    | inl b ↦ (omega (arith, b.0, is.later), b.1)
+    | inr e ↦ (omega (arith, e), subst (Has row) (sym e) is.there)
+  ]),
+)
+
+-- where none follows it is any of the row
+pub before_all : (row : List ℕ) (from bit : ℕ) → HasNoneFrom row from → IsBefore row from bit ↔ Has row bit
+before_all row from bit none = (
+  λ b. b.1,
+  λ has. (elim (cases_lt bit from) [ inl lt ↦ (lt, has) | inr le ↦ absurd (none bit le has) ]),
+)
+
 -- one place more
 pub columns_more : (instance : Instance) (old new : List ℕ) (place : ℕ) → place < length instance.places
-    → AreColumns instance place old → Moves old (row_of instance place) (to_column instance place) new
+    → AreColumns instance place old → Moves old (LightsAt instance place) (to_column instance place) new
     → AreColumns instance (place + 1) new
 columns_more instance old new place inside s m = record {
   whole = omega (arith, m.whole, s.whole);

@@ -1,70 +1,69 @@
--- Rows are copied, bit by bit and place by place.
-use Rattle.std.proofs.Common.{◌≡◌, ℕ, ◌+◌, ◌*◌, ◌<◌, ◌≤◌, List, length, slice_index, refl, sym, ap, subst, ◌∙◌, ◌⊎◌}
-use Rattle.std.proofs.Common.{arith, inl, inr, mul-le-mul_left}
+-- Rows are copied, cell by cell and place by place.
+use Rattle.std.proofs.Common.{◌≡◌, ℕ, ◌+◌, ◌*◌, ◌<◌, ◌≤◌, List, length, slice_index, Contains, refl, sym, ap, subst}
+use Rattle.std.proofs.Common.{◌∙◌, ◌⊎◌, arith, inl, inr, mul-le-mul_left}
 use Rattle.std.specs.Prelude.{◌↔◌}
 use Rattle.std.proofs.lemmas.Bool.{cases_lt}
-use Rattle.set_cover.specs.Bits.{Has, IsWith, IsNext, HasNoneFrom}
-use Rattle.set_cover.specs.Instance.{Instance, LightsAt, row_of, words_for}
+use Rattle.set_cover.specs.Bits.{IsWith}
+use Rattle.set_cover.specs.Buckets.{bucket}
+use Rattle.set_cover.specs.Instance.{words_for}
+use Rattle.set_cover.specs.Sparse.{Sparse, ListsAt}
 use Rattle.set_cover.proofs.OrderLemmas.{element_at, element_of}
 use Rattle.instance_regions.specs.Restricting.{IsSelfContained, Moves, Copies, HasRoom, AreCopied, AreRanks, AreEmpty}
 
 -- ---- one row
 
--- the bits of the row before this one are moved
-pub record MovedTo (old row : List ℕ) (moved : ℕ → ℕ) (from : ℕ) (new : List ℕ) : Type 0 where
-  pub whole : length new ≡ length old
-  pub exact : (bit : ℕ) → Has new bit ↔ (Has old bit ⊎ ((c : ℕ) × (c < from) × Has row c × (bit ≡ moved c)))
-
--- before the first bit nothing is moved
-pub moved_none : (old row : List ℕ) (moved : ℕ → ℕ) → MovedTo old row moved 0 old
-moved_none old row moved = record {
-  whole = refl;
-  exact = λ bit. (λ h. inl h, λ h. elim h [ inl was ↦ was | inr some ↦ absurd (omega (arith, some.1)) ]);
-}
-
--- the next bit of the row is moved
-pub moved_next : (old row : List ℕ) (moved : ℕ → ℕ) (new next : List ℕ) (from bit : ℕ) → IsNext row from bit
-    → IsWith new (moved bit) next → MovedTo old row moved from new → MovedTo old row moved (bit + 1) next
-moved_next old row moved new next from bit is more s = record {
+-- one number more is moved
+pub moves_more : (old : List ℕ) (Kind More : ℕ → Type 0) (moved : ℕ → ℕ) (new next : List ℕ) (added : ℕ)
+    → ((number : ℕ) → More number ↔ (Kind number ⊎ (number ≡ added))) → IsWith new (moved added) next
+    → Moves old Kind moved new → Moves old More moved next
+moves_more old Kind More moved new next added is more s = record {
   whole = more.whole ∙ s.whole;
-  exact = λ other. (
-    λ h. (elim ((more.exact other).0 h) [
-      | inl had ↦ (elim ((s.exact other).0 had) [
+  exact = λ bit. (
+    λ h. (elim ((more.exact bit).0 h) [
+      | inl had ↦ (elim ((s.exact bit).0 had) [
         | inl was ↦ inl was
-        | inr some ↦ inr (some.0, omega (arith, some.1, is.later), some.2, some.3)
+        | inr copy ↦ inr (record { from = copy.from; had = (is copy.from).1 (inl copy.had); there = copy.there })
       ])
-      | inr e ↦ inr (bit, omega arith, is.there, e)
+      | inr e ↦ inr (record { from = added; had = (is added).1 (inr refl); there = e })
     ]),
-    λ h. (more.exact other).1 (elim h [
-      | inl was ↦ inl ((s.exact other).1 (inl was))
-      | inr some ↦ (elim (cases_lt some.0 from) [
-        | inl lt ↦ inl ((s.exact other).1 (inr (some.0, lt, some.2, some.3)))
-        | inr le ↦ (let low = is.least some.0 le some.2 in
-            let same : some.0 ≡ bit = omega (arith, some.1) in inr (some.3 ∙ ap moved same))
+    λ h. (more.exact bit).1 (elim h [
+      | inl was ↦ inl ((s.exact bit).1 (inl was))
+      | inr copy ↦ (elim ((is copy.from).0 copy.had) [
+        | inl had ↦ inl ((s.exact bit).1 (inr (record { from = copy.from; had = had; there = copy.there })))
+        | inr same ↦ inr (copy.there ∙ ap moved same)
       ])
     ]),
   );
 }
 
--- after the last the whole row is moved
-pub moved_all : (old row : List ℕ) (moved : ℕ → ℕ) (new : List ℕ) (from : ℕ) → HasNoneFrom row from
-    → MovedTo old row moved from new → Moves old row moved new
-moved_all old row moved new from none s = record {
+-- numbers of a kind are those of a kind that says no more and no less
+pub moves_as : (old : List ℕ) (Kind Other : ℕ → Type 0) (moved : ℕ → ℕ) (new : List ℕ)
+    → ((number : ℕ) → Kind number ↔ Other number) → Moves old Kind moved new → Moves old Other moved new
+moves_as old Kind Other moved new is s = record {
   whole = s.whole;
   exact = λ bit. (
     λ h. (elim ((s.exact bit).0 h) [
       | inl was ↦ inl was
-      | inr some ↦ inr (record { from = some.0; had = some.2; there = some.3 })
+      | inr copy ↦ inr (record { from = copy.from; had = (is copy.from).0 copy.had; there = copy.there })
     ]),
     λ h. (s.exact bit).1 (elim h [
       | inl was ↦ inl was
-      | inr copy ↦ (elim (cases_lt copy.from from) [
-        | inl lt ↦ inr (copy.from, lt, copy.had, copy.there)
-        | inr le ↦ absurd (none copy.from le copy.had)
-      ])
+      | inr copy ↦ inr (record { from = copy.from; had = (is copy.from).1 copy.had; there = copy.there })
     ]),
   );
 }
+
+-- one of the first so many in a list
+abbrev pub IsEarly : List ℕ → ℕ → ℕ → Type 0
+IsEarly items count item = (k : ℕ) × (k < count) × (slice_index items k ≡ item)
+
+-- after the last it is any of the list
+pub early_all : (items : List ℕ) (count item : ℕ) → count ≡ length items → IsEarly items count item
+    ↔ Contains items item
+early_all items count item all = (
+  λ is. element_of items item is.0 (omega (arith, is.1, all)) is.2,
+  λ has. (has.0, omega (arith, has.1, all), element_at items item has),
+)
 
 -- ---- all rows
 
@@ -85,10 +84,10 @@ pub row_room : (rows width row : ℕ) → row < rows → 64 * (row * width) + 64
 row_room rows width row lt = (let more : width * (row + 1) ≤ width * rows = mul-le-mul_left width (omega arith) in
     omega arith)
 
-module _ (instance : Instance) (own placed ranks : List ℕ) (closed : IsSelfContained instance own placed)
-    (ranked : AreRanks instance own ranks) where
+module _ (sparse : Sparse) (own placed ranks : List ℕ) (closed : IsSelfContained sparse own placed)
+    (ranked : AreRanks sparse own ranks) where
   -- a lit cell is one of these, by its rank
-  rank_of : (row cell : ℕ) → row < length placed → LightsAt instance (slice_index placed row) cell
+  rank_of : (row cell : ℕ) → row < length placed → ListsAt sparse (slice_index placed row) cell
       → (slice_index ranks cell < length own) × (slice_index own (slice_index ranks cell) ≡ cell)
   rank_of row cell h lit =
       let has = closed.to_own (slice_index placed row) cell
@@ -100,7 +99,7 @@ module _ (instance : Instance) (own placed ranks : List ℕ) (closed : IsSelfCon
   -- the words have room for the next row
   pub has_room : (words : List ℕ) (row base : ℕ) → row < length placed → base ≡ 64 * (row * words_for (length own))
       → length words ≡ length placed * words_for (length own)
-      → HasRoom (row_of instance (slice_index placed row)) ranks base words
+      → HasRoom (bucket sparse.lit (slice_index placed row)) ranks base words
   has_room words row base h e whole = record {
     each = λ bit lit. (let r = rank_of row bit h lit in
         let inside = closed.cells.inside (slice_index ranks bit) 0 r.0 in
@@ -113,8 +112,8 @@ module _ (instance : Instance) (own placed ranks : List ℕ) (closed : IsSelfCon
   -- the next row was copied to its place
   pub copied_more : (words next : List ℕ) (row base : ℕ) → row < length placed
       → base ≡ 64 * (row * words_for (length own))
-      → Copies words (row_of instance (slice_index placed row)) ranks base next
-      → AreCopied instance own placed (words_for (length own)) row words → AreCopied instance own placed
+      → Copies words (bucket sparse.lit (slice_index placed row)) ranks base next
+      → AreCopied sparse own placed (words_for (length own)) row words → AreCopied sparse own placed
       (words_for (length own)) (row + 1) next
   copied_more words next row base h e copies s = record {
     whole = copies.whole ∙ s.whole;
@@ -127,8 +126,8 @@ module _ (instance : Instance) (own placed ranks : List ℕ) (closed : IsSelfCon
             let at : copy.from ≡ slice_index own cell = sym r.1 ∙ ap (slice_index own) (sym same.1) in (
               omega (arith, same.0),
               omega (arith, same.1, r.0),
-              subst (λ (p : ℕ). LightsAt instance (slice_index placed p) (slice_index own cell)) (sym same.0)
-                  (subst (λ (c : ℕ). LightsAt instance (slice_index placed row) c) at copy.had),
+              subst (λ (p : ℕ). ListsAt sparse (slice_index placed p) (slice_index own cell)) (sym same.0)
+                  (subst (λ (c : ℕ). ListsAt sparse (slice_index placed row) c) at copy.had),
             ))
       ]),
       λ b. (copies.exact (64 * (place * width) + cell)).1 (elim (cases_lt place row) [
@@ -138,7 +137,7 @@ module _ (instance : Instance) (own placed ranks : List ℕ) (closed : IsSelfCon
             let rows : place * width ≡ row * width = ap (λ (p : ℕ). p * width) same in
             inr (record {
               from = slice_index own cell;
-              had = subst (λ (p : ℕ). LightsAt instance (slice_index placed p) (slice_index own cell)) same b.2;
+              had = subst (λ (p : ℕ). ListsAt sparse (slice_index placed p) (slice_index own cell)) same b.2;
               there = omega (arith, rank, e, rows);
             }))
       ]),
@@ -149,9 +148,9 @@ module _ (instance : Instance) (own placed ranks : List ℕ) (closed : IsSelfCon
       width = words_for (length own)
 
 -- before the first place all rows are empty
-pub copied_start : (instance : Instance) (own placed words : List ℕ) → AreEmpty (length placed) (length own) words
-    → AreCopied instance own placed (words_for (length own)) 0 words
-copied_start instance own placed words empty = record {
+pub copied_start : (sparse : Sparse) (own placed words : List ℕ) → AreEmpty (length placed) (length own) words
+    → AreCopied sparse own placed (words_for (length own)) 0 words
+copied_start sparse own placed words empty = record {
   whole = empty.whole;
   exact = λ place cell inside small.
       (λ has. absurd (empty.none (64 * (place * words_for (length own)) + cell) has), λ b. absurd (omega (arith, b.0)));

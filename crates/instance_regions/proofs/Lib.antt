@@ -5,6 +5,5 @@ pub mod RestrictLemmas
 pub mod PartLemmas
 pub mod WholeLemmas
 pub mod TreeLemmas
-pub mod BucketLemmas
 pub mod LabelLemmas
 pub mod SplitLemmas

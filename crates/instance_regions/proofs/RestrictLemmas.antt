@@ -7,6 +7,7 @@ use Rattle.std.proofs.lemmas.Nat.{mul-le}
 use Rattle.std.proofs.lemmas.Grind.{get_or_default_zero}
 use Rattle.std.proofs.lemmas.List.{length-map, get_or-map}
 use Rattle.set_cover.specs.Instance.{Instance, IsInstance, LightsAt, words_for}
+use Rattle.set_cover.specs.Sparse.{Sparse, IsSparse, ListsAt}
 use Rattle.set_cover.proofs.OrderLemmas.{element_at, element_of, rises, few_below}
 use Rattle.set_cover.proofs.RowLemmas.{row_has}
 use Rattle.instance_regions.specs.Region.{IsRegion}
@@ -31,21 +32,21 @@ chosen_ascend items indices up are k h =
     let more = rises items up (slice_index indices k) (slice_index indices (k + 1)) step inside in
     omega (arith, chosen_at items indices k (omega arith), chosen_at items indices (k + 1) lt)
 
-module _ (instance region : Instance) (own placed : List ℕ) (is : IsInstance instance)
-    (closed : IsSelfContained instance own placed)
-    (cells : region.cells ≡ map (slice_index instance.cells) own)
-    (places : region.places ≡ map (slice_index instance.places) placed)
+module _ (sparse : Sparse) (region : Instance) (own placed : List ℕ) (is : IsSparse sparse)
+    (closed : IsSelfContained sparse own placed)
+    (cells : region.cells ≡ map (slice_index sparse.cells) own)
+    (places : region.places ≡ map (slice_index sparse.places) placed)
     (wide : region.width ≡ words_for (length own))
-    (copied : AreCopied instance own placed region.width (length placed) region.words) where
+    (copied : AreCopied sparse own placed region.width (length placed) region.words) where
   cell_count : length region.cells ≡ length own
-  cell_count = ap length cells ∙ chosen_count instance.cells own
+  cell_count = ap length cells ∙ chosen_count sparse.cells own
 
   place_count : length region.places ≡ length placed
-  place_count = ap length places ∙ chosen_count instance.places placed
+  place_count = ap length places ∙ chosen_count sparse.places placed
 
   lit_at : (place cell : ℕ) → place < length placed
       → LightsAt region place cell
-      ↔ ((cell < length own) × LightsAt instance (slice_index placed place) (slice_index own cell))
+      ↔ ((cell < length own) × ListsAt sparse (slice_index placed place) (slice_index own cell))
   lit_at place cell h = (
     λ lit. (let b = (row_has region.words (place * region.width) region.width cell).0 lit in
         let t = (copied.exact place cell h b.0).0 b.1 in (t.1, t.2)),
@@ -62,7 +63,7 @@ module _ (instance region : Instance) (own placed : List ℕ) (is : IsInstance i
         has.0,
         (lit_at place has.0 h).1 (
           has.1,
-          subst (LightsAt instance (slice_index placed place))
+          subst (ListsAt sparse (slice_index placed place))
               (sym (element_at own lit.0 has)) lit.1,
         ),
       )
@@ -77,7 +78,7 @@ module _ (instance region : Instance) (own placed : List ℕ) (is : IsInstance i
         has.1,
         (lit_at has.0 cell has.1).1 (
           h,
-          subst (λ (p : ℕ). LightsAt instance p (slice_index own cell))
+          subst (λ (p : ℕ). ListsAt sparse p (slice_index own cell))
               (sym (element_at placed by.0 has)) by.2,
         ),
       )
@@ -86,9 +87,9 @@ module _ (instance region : Instance) (own placed : List ℕ) (is : IsInstance i
   pub kept_instance : IsInstance region
   kept_instance = record {
     cells_ascend = subst IsStrictlyIncreasing (sym cells)
-        (chosen_ascend instance.cells own is.cells_ascend closed.cells);
+        (chosen_ascend sparse.cells own is.cells_ascend closed.cells);
     places_ascend = subst IsStrictlyIncreasing (sym places)
-        (chosen_ascend instance.places placed is.places_ascend closed.places);
+        (chosen_ascend sparse.places placed is.places_ascend closed.places);
     wide = wide ∙ ap words_for (sym cell_count);
     whole = copied.whole ∙ ap (λ (n : ℕ). n * region.width) (sym place_count);
     of_cells = λ place cell h lit.
@@ -106,7 +107,7 @@ module _ (instance region : Instance) (own placed : List ℕ) (is : IsInstance i
   }
 
   -- with the chosen cells and places, and their rows
-  pub restriction : IsRestriction instance own placed region
+  pub restriction : IsRestriction sparse own placed region
   restriction = record {
     kept = kept_region;
     cells = cells;

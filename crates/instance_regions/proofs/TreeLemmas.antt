@@ -1,27 +1,29 @@
 -- Trees of cells.
 use Rattle.std.proofs.Common.{◌≡◌, ◌≢◌, ℕ, ◌+◌, ◌<◌, ◌≤◌, min, max, nat_eq, cond, List, [], ◌∷◌, ◌++◌, length, set}
-use Rattle.std.proofs.Common.{slice_index, refl, sym, ap, subst, ◌∙◌, arith, inl, inr, length-set, length-append}
-use Rattle.std.proofs.Common.{get_or-set_same, get_or-set_other}
+use Rattle.std.proofs.Common.{slice_index, Contains, refl, sym, ap, subst, ◌∙◌, arith, inl, inr}
+use Rattle.std.proofs.Common.{length-set, length-append, get_or-set_same, get_or-set_other}
 use Rattle.std.proofs.lemmas.Bool.{cases_lt, cases_eq}
 use Rattle.std.proofs.lemmas.Bool.Decides.{nat_tests}
 use Rattle.std.proofs.lemmas.List.{get_or_push, get_or_append_left}
-use Rattle.set_cover.specs.Bits.{IsNext, HasNoneFrom}
-use Rattle.set_cover.specs.Instance.{Instance, IsInstance, LightsAt, LightsIn, row_of}
+use Rattle.cave_model.specs.Coverage.{Coverage}
+use Rattle.set_cover.specs.Buckets.{bucket}
+use Rattle.set_cover.specs.Sparse.{Sparse, IsSparse, ListsAt, ListsIn, of_sparse}
+use Rattle.set_cover.proofs.OrderLemmas.{element_at, element_of}
 use Rattle.instance_regions.specs.Splitting.{AreLinked, AreChained}
 use Rattle.instance_regions.specs.Splitting.AreChained.{here, onward}
-use Rattle.instance_regions.specs.Joining.{IsForest, AreRooted, Finds, merged, Joins, AreJoinedBy, IsCoarser, IsOneTree}
-use Rattle.instance_regions.specs.Joining.{JoinsRow, AreLabels, AreAlone, AreRoots}
+use Rattle.instance_regions.specs.Joining.{IsForest, AreRooted, Finds, merged, Joins, AreJoined, AreJoinedBy}
+use Rattle.instance_regions.specs.Joining.{IsCoarser, IsOneTree, AreParents, JoinsRow, AreLabels, AreAlone, AreRoots}
 
 -- ---- joined cells
 
 -- what is joined to a joined cell is joined
-pub joined_on : {instance : Instance} {a b c : ℕ} → AreChained instance a b → AreChained instance b c
-    → AreChained instance a c
+pub joined_on : {coverage : Coverage} {a b c : ℕ} → AreChained coverage a b → AreChained coverage b c
+    → AreChained coverage a c
 joined_on p here = p
 joined_on p (onward q cell l) = onward (joined_on p q) cell l
 
 -- joining goes both ways
-pub joined_back : {instance : Instance} {a b : ℕ} → AreChained instance a b → AreChained instance b a
+pub joined_back : {coverage : Coverage} {a b : ℕ} → AreChained coverage a b → AreChained coverage b a
 joined_back here = here
 joined_back (onward {before = b} p cell l) = joined_on (onward here b (l.0, l.2, l.1)) (joined_back p)
 
@@ -243,14 +245,17 @@ joins old mid last one two first second h k f g = record {
 
 -- ---- joining a row
 
+-- the cell with this number in a place's list
+abbrev listed_at : Sparse → ℕ → ℕ → ℕ
+listed_at sparse place k = slice_index (bucket sparse.lit place) k
+
 -- cells that one place lights are linked
-link : (instance : Instance) (place a b : ℕ) → IsInstance instance → place < length instance.places
-    → LightsAt instance place a → LightsAt instance place b
-    → AreLinked instance (slice_index instance.cells a) (slice_index instance.cells b)
-link instance place a b is h lit_a lit_b = (slice_index instance.places place, lights a lit_a, lights b lit_b)
+link : (sparse : Sparse) (place a b : ℕ) → IsSparse sparse → place < length sparse.places → ListsAt sparse place a
+    → ListsAt sparse place b → AreLinked (of_sparse sparse) (slice_index sparse.cells a) (slice_index sparse.cells b)
+link sparse place a b is h lit_a lit_b = (slice_index sparse.places place, lights a lit_a, lights b lit_b)
   where
-    lights : (c : ℕ) → LightsAt instance place c
-        → LightsIn instance (slice_index instance.places place) (slice_index instance.cells c)
+    lights : (c : ℕ) → ListsAt sparse place c
+        → ListsIn sparse (slice_index sparse.places place) (slice_index sparse.cells c)
     lights c lit = record {
       place_index = place;
       cell_index = c;
@@ -259,102 +264,96 @@ link instance place a b is h lit_a lit_b = (slice_index instance.places place, l
       lit = lit;
     }
 
--- the bits before this one have the root of the first
-pub record JoiningRow (instance : Instance) (place first from : ℕ) (old new : List ℕ) : Type 0 where
+-- a cell of a place's list has a parent
+pub listed_inside : (sparse : Sparse) (place k : ℕ) (lit parents : List ℕ) → AreParents sparse parents
+    → place < length sparse.places → lit ≡ bucket sparse.lit place → k < length lit → slice_index lit k < length parents
+listed_inside sparse place k lit parents are h e inside =
+    let cell = slice_index lit k in
+    let has = subst (λ (l : List ℕ). Contains l cell) e (element_of lit cell k inside refl) in
+    omega (arith, are.kept.of_cells place cell h has, are.sized)
+
+-- the first so many cells of a place's list have the root of the first of all
+pub record JoiningRow (sparse : Sparse) (place count : ℕ) (old new : List ℕ) : Type 0 where
   pub whole : length new ≡ length old
   pub forest : IsForest new
-  pub lit : LightsAt instance place first
-  pub trees : (rep : ℕ → ℕ) → AreRooted rep old → AreJoinedBy instance rep
-      → (now : ℕ → ℕ) × AreRooted now new × AreJoinedBy instance now × IsCoarser rep now
-      × ((a : ℕ) → a < from → LightsAt instance place a → now a ≡ now first)
+  pub trees : (rep : ℕ → ℕ) → AreRooted rep old → AreJoinedBy sparse rep
+      → (now : ℕ → ℕ) × AreRooted now new × AreJoinedBy sparse now × IsCoarser rep now
+      × ((k : ℕ) → k < count → now (listed_at sparse place k) ≡ now (listed_at sparse place 0))
 
--- with the first cell of a row found, none is joined yet
-pub row_start : (instance : Instance) (place first : ℕ) (old : List ℕ) → IsForest old
-    → IsNext (row_of instance place) 0 first → JoiningRow instance place first (first + 1) old old
-row_start instance place first old forest is = record {
-  whole = refl;
-  forest = forest;
-  lit = is.there;
-  trees = λ rep root joined. (
-    rep,
-    root,
-    joined,
-    (λ a b e. e),
-    (λ a lt lit. (let least = is.least a (omega arith) lit in let same : a ≡ first = omega arith in
-        ap rep same)),
-  );
-}
-
--- the next cell of the row is joined with the first
-pub row_next : (instance : Instance) (place first from bit : ℕ) (old new next : List ℕ) → IsInstance instance
-    → place < length instance.places → IsNext (row_of instance place) from bit
-    → JoiningRow instance place first from old new → Joins new first bit next → JoiningRow instance place first
-    (bit + 1) old next
-row_next instance place first from bit old new next is h at s joins = record {
+-- the next cell of the list is joined with the first
+pub row_next : (sparse : Sparse) (place count : ℕ) (old new next : List ℕ) → IsSparse sparse
+    → place < length sparse.places → count < length (bucket sparse.lit place)
+    → JoiningRow sparse place count old new
+    → Joins new (listed_at sparse place 0) (listed_at sparse place count) next
+    → JoiningRow sparse place (count + 1) old next
+row_next sparse place count old new next is h inside s joins = record {
   whole = joins.whole ∙ s.whole;
   forest = joins.forest;
-  lit = s.lit;
   trees = λ rep root joined.
       (let t = s.trees rep root joined in (
-        merged t.0 first bit,
+        merged t.0 first cell,
         joins.joined t.0 t.1,
         still t.0 t.2,
-        (λ a b e. merged_coarser t.0 first bit a b (t.3 a b e)),
-        (λ a lt lit. together t.0 t.4 a lt lit),
+        (λ a b e. merged_coarser t.0 first cell a b (t.3 a b e)),
+        (λ k lt. together t.0 t.4 k lt),
       ));
 }
   where
-    together : (now : ℕ → ℕ) → ((a : ℕ) → a < from → LightsAt instance place a → now a ≡ now first) → (a : ℕ)
-        → a < bit + 1 → LightsAt instance place a → merged now first bit a ≡ merged now first bit first
-    together now so_far a lt lit = elim (cases_lt a from) [
-      | inl before ↦ merged_coarser now first bit a first (so_far a before lit)
-      | inr le ↦ (let low = at.least a le lit in let same : a ≡ bit = omega arith in ap (merged now first bit) same
-          ∙ sym (merged_one now first bit))
+    first : ℕ
+    first = listed_at sparse place 0
+
+    cell : ℕ
+    cell = listed_at sparse place count
+
+    lit_first : ListsAt sparse place first
+    lit_first = element_of (bucket sparse.lit place) first 0 (omega (arith, inside)) refl
+
+    lit_cell : ListsAt sparse place cell
+    lit_cell = element_of (bucket sparse.lit place) cell count inside refl
+
+    together : (now : ℕ → ℕ) → ((k : ℕ) → k < count → now (listed_at sparse place k) ≡ now first) → (k : ℕ)
+        → k < count + 1 → merged now first cell (listed_at sparse place k) ≡ merged now first cell first
+    together now so_far k lt = elim (cases_lt k count) [
+      | inl before ↦ merged_coarser now first cell (listed_at sparse place k) first (so_far k before)
+      | inr le ↦ (let same : k ≡ count = omega arith in
+          ap (λ (n : ℕ). merged now first cell (listed_at sparse place n)) same ∙ sym (merged_one now first cell))
     ]
 
-    still : (now : ℕ → ℕ) → AreJoinedBy instance now → AreJoinedBy instance (merged now first bit)
-    still now joined c inside = elim (cases_eq (now c) (max (now first) (now bit))) [
-      | inl e ↦ subst (λ (r : ℕ). AreChained instance (slice_index instance.cells c) (slice_index instance.cells r))
-          (sym (merged_high now first bit c e))
-          (joined_on (subst (λ (r : ℕ). AreChained instance (slice_index instance.cells c)
-          (slice_index instance.cells r)) e (joined c inside)) crossing)
-      | inr ne ↦ subst (λ (r : ℕ). AreChained instance (slice_index instance.cells c) (slice_index instance.cells r))
-          (sym (merged_other now first bit c ne)) (joined c inside)
+    still : (now : ℕ → ℕ) → AreJoinedBy sparse now → AreJoinedBy sparse (merged now first cell)
+    still now joined c inside = elim (cases_eq (now c) (max (now first) (now cell))) [
+      | inl e ↦ subst (AreJoined sparse c) (sym (merged_high now first cell c e))
+          (joined_on (subst (AreJoined sparse c) e (joined c inside)) crossing)
+      | inr ne ↦ subst (AreJoined sparse c) (sym (merged_other now first cell c ne)) (joined c inside)
     ]
       where
-        to_first : AreChained instance (slice_index instance.cells first) (slice_index instance.cells (now first))
-        to_first = joined first (is.of_cells place first h s.lit)
+        to_first : AreJoined sparse first (now first)
+        to_first = joined first (is.of_cells place first h lit_first)
 
-        to_bit : AreChained instance (slice_index instance.cells bit) (slice_index instance.cells (now bit))
-        to_bit = joined bit (is.of_cells place bit h at.there)
+        to_cell : AreJoined sparse cell (now cell)
+        to_cell = joined cell (is.of_cells place cell h lit_cell)
 
-        linked : AreChained instance (slice_index instance.cells first) (slice_index instance.cells bit)
-        linked = onward here (slice_index instance.cells bit) (link instance place first bit is h s.lit at.there)
+        linked : AreJoined sparse first cell
+        linked = onward here (slice_index sparse.cells cell) (link sparse place first cell is h lit_first lit_cell)
 
-        over : AreChained instance (slice_index instance.cells (now first)) (slice_index instance.cells (now bit))
-        over = joined_on (joined_back to_first) (joined_on linked to_bit)
+        over : AreJoined sparse (now first) (now cell)
+        over = joined_on (joined_back to_first) (joined_on linked to_cell)
 
-        crossing : AreChained instance (slice_index instance.cells (max (now first) (now bit)))
-            (slice_index instance.cells (min (now first) (now bit)))
-        crossing = elim (cases_lt (now first) (now bit)) [
-          | inl lt ↦ (let high : now bit ≡ max (now first) (now bit) = omega arith in
-              let low : now first ≡ min (now first) (now bit) = omega arith in
-              subst (λ (m : ℕ). AreChained instance (slice_index instance.cells m)
-              (slice_index instance.cells (min (now first) (now bit)))) high
-              (subst (λ (m : ℕ). AreChained instance (slice_index instance.cells (now bit))
-              (slice_index instance.cells m)) low (joined_back over)))
-          | inr le ↦ (let high : now first ≡ max (now first) (now bit) = omega arith in
-              let low : now bit ≡ min (now first) (now bit) = omega arith in
-              subst (λ (m : ℕ). AreChained instance (slice_index instance.cells m)
-              (slice_index instance.cells (min (now first) (now bit)))) high
-              (subst (λ (m : ℕ). AreChained instance (slice_index instance.cells (now first))
-              (slice_index instance.cells m)) low over))
+        crossing : AreJoined sparse (max (now first) (now cell)) (min (now first) (now cell))
+        crossing = elim (cases_lt (now first) (now cell)) [
+          | inl lt ↦ (let high : now cell ≡ max (now first) (now cell) = omega arith in
+              let low : now first ≡ min (now first) (now cell) = omega arith in
+              subst (λ (m : ℕ). AreJoined sparse m (min (now first) (now cell))) high
+              (subst (AreJoined sparse (now cell)) low (joined_back over)))
+          | inr le ↦ (let high : now first ≡ max (now first) (now cell) = omega arith in
+              let low : now cell ≡ min (now first) (now cell) = omega arith in
+              subst (λ (m : ℕ). AreJoined sparse m (min (now first) (now cell))) high
+              (subst (AreJoined sparse (now first)) low over))
         ]
 
--- after the last, all cells of the row are joined
-pub row_all : (instance : Instance) (place first from : ℕ) (old new : List ℕ) → HasNoneFrom (row_of instance place) from
-    → JoiningRow instance place first from old new → JoinsRow instance place old new
-row_all instance place first from old new none s = record {
+-- after the last, all cells of the list are joined
+pub row_all : (sparse : Sparse) (place count : ℕ) (old new : List ℕ) → length (bucket sparse.lit place) ≤ count
+    → JoiningRow sparse place count old new → JoinsRow sparse place old new
+row_all sparse place count old new all s = record {
   whole = s.whole;
   forest = s.forest;
   trees = λ rep root joined. (let t = s.trees rep root joined in record {
@@ -362,42 +361,30 @@ row_all instance place first from old new none s = record {
     roots = t.1;
     joined = t.2;
     coarser = t.3;
-    one = λ a b lit_a lit_b. t.4 a (below a lit_a) lit_a ∙ sym (t.4 b (below b lit_b) lit_b);
+    one = λ a b lit_a lit_b. rooted t.0 t.4 a lit_a ∙ sym (rooted t.0 t.4 b lit_b);
   });
 }
   where
-    below : (a : ℕ) → LightsAt instance place a → a < from
-    below a lit = elim (cases_lt a from) [ inl lt ↦ lt | inr le ↦ absurd (none a le lit) ]
-
--- a row with no cell joins nothing
-pub row_none : (instance : Instance) (place : ℕ) (old : List ℕ) → IsForest old → HasNoneFrom (row_of instance place) 0
-    → JoinsRow instance place old old
-row_none instance place old forest none = record {
-  whole = refl;
-  forest = forest;
-  trees = λ rep root joined. record {
-    rep = rep;
-    roots = root;
-    joined = joined;
-    coarser = λ a b e. e;
-    one = λ a b lit. absurd (none a (omega arith) lit);
-  };
-}
+    rooted : (now : ℕ → ℕ)
+        → ((k : ℕ) → k < count → now (listed_at sparse place k) ≡ now (listed_at sparse place 0)) → (a : ℕ)
+        → ListsAt sparse place a → now a ≡ now (listed_at sparse place 0)
+    rooted now each a lit = ap now (sym (element_at (bucket sparse.lit place) a lit))
+        ∙ each lit.0 (omega (arith, lit.1, all))
 
 -- ---- all rows, and the roots
 
-pub record Joined (instance : Instance) (place : ℕ) (parents : List ℕ) : Type 0 where
-  pub whole : length parents ≡ length instance.cells
+pub record Joined (sparse : Sparse) (place : ℕ) (parents : List ℕ) : Type 0 where
+  pub whole : length parents ≡ length sparse.cells
   pub forest : IsForest parents
   pub rep : ℕ → ℕ
   pub roots : AreRooted rep parents
-  pub joined : AreJoinedBy instance rep
-  pub linked : (p : ℕ) → p < place → IsOneTree instance p rep
+  pub joined : AreJoinedBy sparse rep
+  pub linked : (p : ℕ) → p < place → IsOneTree sparse p rep
 
 -- before the first place each cell stands alone
-pub joined_none : (instance : Instance) (parents : List ℕ) → AreAlone (length instance.cells) parents
-    → Joined instance 0 parents
-joined_none instance parents alone = record {
+pub joined_none : (sparse : Sparse) (parents : List ℕ) → AreAlone (length sparse.cells) parents
+    → Joined sparse 0 parents
+joined_none sparse parents alone = record {
   whole = alone.whole;
   forest = λ c lt. omega (arith, alone.each c (omega (arith, alone.whole)));
   rep = λ c. c;
@@ -411,9 +398,9 @@ joined_none instance parents alone = record {
 }
 
 -- one place more has joined its cells
-pub joined_next : (instance : Instance) (place : ℕ) (parents next : List ℕ) → Joined instance place parents
-    → JoinsRow instance place parents next → Joined instance (place + 1) next
-joined_next instance place parents next s row =
+pub joined_next : (sparse : Sparse) (place : ℕ) (parents next : List ℕ) → Joined sparse place parents
+    → JoinsRow sparse place parents next → Joined sparse (place + 1) next
+joined_next sparse place parents next s row =
     let t = row.trees s.rep s.roots s.joined in
     record {
       whole = row.whole ∙ s.whole;
@@ -423,7 +410,7 @@ joined_next instance place parents next s row =
       joined = t.joined;
       linked = λ p lt. (elim (cases_lt p place) [
         | inl before ↦ λ a b lit_a lit_b. t.coarser a b (s.linked p before a b lit_a lit_b)
-        | inr le ↦ (let same : place ≡ p = omega arith in subst (λ (q : ℕ). IsOneTree instance q t.rep) same t.one)
+        | inr le ↦ (let same : place ≡ p = omega arith in subst (λ (q : ℕ). IsOneTree sparse q t.rep) same t.one)
       ]);
     }
 
@@ -472,15 +459,14 @@ roots_all old new labels cell e s =
     record { whole = s.counted ∙ e; each = λ rep is c lt. s.each rep is c (omega arith) }
 
 -- after all places the roots are the labels of the regions
-pub labels_are : (instance : Instance) (parents labels : List ℕ) (count : ℕ) → IsInstance instance
-    → length instance.places ≤ count → Joined instance count parents → AreRoots parents labels
-    → AreLabels instance labels
-labels_are instance parents labels count is all s roots = record {
+pub labels_are : (sparse : Sparse) (parents labels : List ℕ) (count : ℕ) → IsSparse sparse
+    → length sparse.places ≤ count → Joined sparse count parents → AreRoots parents labels
+    → AreLabels sparse labels
+labels_are sparse parents labels count is all s roots = record {
   whole = roots.whole ∙ s.whole;
   linked = λ place h a b lit_a lit_b. (label a (of_cell place a h lit_a)).0
       ∙ s.linked place (omega arith) a b lit_a lit_b ∙ sym (label b (of_cell place b h lit_b)).0;
-  joined = λ c h. subst (λ (r : ℕ). AreChained instance (slice_index instance.cells c) (slice_index instance.cells r))
-      (sym (label c (omega (arith, s.whole))).0) (s.joined c h);
+  joined = λ c h. subst (AreJoined sparse c) (sym (label c (omega (arith, s.whole))).0) (s.joined c h);
   low = λ c h. (let inside : c < length parents = omega (arith, roots.whole) in
       omega (arith, (label c inside).0, s.roots.low c inside));
   top = λ c h. (let inside : c < length parents = omega (arith, roots.whole) in
@@ -492,5 +478,5 @@ labels_are instance parents labels count is all s roots = record {
     label : (c : ℕ) → c < length parents → (slice_index labels c ≡ s.rep c) × (s.rep (s.rep c) ≡ s.rep c)
     label c h = roots.each s.rep s.roots c h
 
-    of_cell : (place a : ℕ) → place < length instance.places → LightsAt instance place a → a < length parents
+    of_cell : (place a : ℕ) → place < length sparse.places → ListsAt sparse place a → a < length parents
     of_cell place a h lit = omega (arith, is.of_cells place a h lit, s.whole)

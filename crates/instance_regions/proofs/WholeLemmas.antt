@@ -4,16 +4,16 @@ use Rattle.std.proofs.lemmas.List.{ext_get_or}
 use Rattle.std.proofs.lemmas.List.Elements.{Contains-get_or}
 use Rattle.std.proofs.lemmas.Grind.{get_or_default_zero}
 use Rattle.cave_model.specs.Listing.{ListsAll}
-use Rattle.set_cover.specs.Instance.{Instance, IsInstance}
+use Rattle.set_cover.specs.Sparse.{Sparse, IsSparse}
 use Rattle.set_cover.proofs.OrderLemmas.{element_of}
 use Rattle.instance_regions.specs.Joining.{AreAlone}
 use Rattle.instance_regions.specs.Restricting.{IsSelfContained, IsLighting}
 use Rattle.instance_regions.proofs.RestrictLemmas.{chosen_at, chosen_count}
 
 -- all cells, with the places that light any, are closed
-pub closed_whole : (instance : Instance) (own placed : List ℕ) → IsInstance instance → 0 < length instance.cells
-    → AreAlone (length instance.cells) own → ListsAll (IsLighting instance) placed → IsSelfContained instance own placed
-closed_whole instance own placed is filled alone places = record {
+pub closed_whole : (sparse : Sparse) (own placed : List ℕ) → IsSparse sparse → 0 < length sparse.cells
+    → AreAlone (length sparse.cells) own → ListsAll (IsLighting sparse) placed → IsSelfContained sparse own placed
+closed_whole sparse own placed is filled alone places = record {
   filled = omega (arith, alone.whole);
   cells = record {
     ascending = λ k h. omega (

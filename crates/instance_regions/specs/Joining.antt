@@ -1,7 +1,7 @@
 -- Cells that belong together, as a forest: each cell has a parent, itself or a cell before it. This is this
 -- project's own.
 use Rattle.std.specs.Prelude.{◌≡◌, ◌<◌, ◌≤◌, ◌^◌, ℕ, List, length, slice_index, min, max, nat_eq, if◌then◌else◌}
-use Rattle.set_cover.specs.Instance.{Instance, IsInstance, LightsAt}
+use Rattle.set_cover.specs.Sparse.{Sparse, IsSparse, ListsAt, of_sparse}
 use Rattle.instance_regions.specs.Splitting.{AreChained}
 
 -- the parent of each cell is the cell itself or one before it
@@ -32,45 +32,48 @@ pub record Joins (old : List ℕ) (one two : ℕ) (new : List ℕ) : Type 0 wher
   pub forest : IsForest new
   pub joined : (rep : ℕ → ℕ) → AreRooted rep old → AreRooted (merged rep one two) new
 
+-- the cells with these indices are joined
+abbrev pub AreJoined : Sparse → ℕ → ℕ → Type 0
+AreJoined sparse a b = AreChained (of_sparse sparse) (slice_index sparse.cells a) (slice_index sparse.cells b)
+
 -- each cell is joined with its root
-abbrev pub AreJoinedBy : Instance → (ℕ → ℕ) → Type 0
-AreJoinedBy instance rep = (cell : ℕ) → cell < length instance.cells
-    → AreChained instance (slice_index instance.cells cell) (slice_index instance.cells (rep cell))
+abbrev pub AreJoinedBy : Sparse → (ℕ → ℕ) → Type 0
+AreJoinedBy sparse rep = (cell : ℕ) → cell < length sparse.cells → AreJoined sparse cell (rep cell)
 
 -- cells that had one root still have one
 abbrev pub IsCoarser : (ℕ → ℕ) → (ℕ → ℕ) → Type 0
 IsCoarser old new = (a b : ℕ) → old a ≡ old b → new a ≡ new b
 
 -- the cells that a place lights have one root
-abbrev pub IsOneTree : Instance → ℕ → (ℕ → ℕ) → Type 0
-IsOneTree instance place rep = (a b : ℕ) → LightsAt instance place a → LightsAt instance place b → rep a ≡ rep b
+abbrev pub IsOneTree : Sparse → ℕ → (ℕ → ℕ) → Type 0
+IsOneTree sparse place rep = (a b : ℕ) → ListsAt sparse place a → ListsAt sparse place b → rep a ≡ rep b
 
 -- new roots, for which the cells that a place lights have one
-pub record HasTrees (instance : Instance) (place : ℕ) (old : ℕ → ℕ) (parents : List ℕ) : Type 0 where
+pub record HasTrees (sparse : Sparse) (place : ℕ) (old : ℕ → ℕ) (parents : List ℕ) : Type 0 where
   pub rep : ℕ → ℕ
   pub roots : AreRooted rep parents
-  pub joined : AreJoinedBy instance rep
+  pub joined : AreJoinedBy sparse rep
   pub coarser : IsCoarser old rep
-  pub one : IsOneTree instance place rep
+  pub one : IsOneTree sparse place rep
 
 -- a parent for each cell of the instance
-pub record AreParents (instance : Instance) (parents : List ℕ) : Type 0 where
-  pub kept : IsInstance instance
-  pub sized : length parents ≡ length instance.cells
+pub record AreParents (sparse : Sparse) (parents : List ℕ) : Type 0 where
+  pub kept : IsSparse sparse
+  pub sized : length parents ≡ length sparse.cells
   pub small : length parents ≤ 2 ^ 32
   pub forest : IsForest parents
 
 -- the trees of all cells that a place lights were joined
-pub record JoinsRow (instance : Instance) (place : ℕ) (old new : List ℕ) : Type 0 where
+pub record JoinsRow (sparse : Sparse) (place : ℕ) (old new : List ℕ) : Type 0 where
   pub whole : length new ≡ length old
   pub forest : IsForest new
-  pub trees : (rep : ℕ → ℕ) → AreRooted rep old → AreJoinedBy instance rep → HasTrees instance place rep new
+  pub trees : (rep : ℕ → ℕ) → AreRooted rep old → AreJoinedBy sparse rep → HasTrees sparse place rep new
 
 -- for each cell the least cell that it is joined with
-pub record AreLabels (instance : Instance) (labels : List ℕ) : Type 0 where
-  pub whole : length labels ≡ length instance.cells
-  pub linked : (place : ℕ) → place < length instance.places → IsOneTree instance place (slice_index labels)
-  pub joined : AreJoinedBy instance (slice_index labels)
+pub record AreLabels (sparse : Sparse) (labels : List ℕ) : Type 0 where
+  pub whole : length labels ≡ length sparse.cells
+  pub linked : (place : ℕ) → place < length sparse.places → IsOneTree sparse place (slice_index labels)
+  pub joined : AreJoinedBy sparse (slice_index labels)
   pub low : (cell : ℕ) → cell < length labels → slice_index labels cell ≤ cell
   pub top : (cell : ℕ) → cell < length labels → slice_index labels (slice_index labels cell) ≡ slice_index labels cell
 

@@ -6,7 +6,7 @@ ghost use Rattle.instance_regions.specs.Joining.{JoinsRow};
 
 use cave_base::Cell;
 use cave_model::OutOfMemory;
-use set_cover::{Instance, next};
+use set_cover::Sparse;
 use std::alloc::Global;
 
 /// The root of the cell's tree. Each second cell on the way gets a shorter way.
@@ -39,19 +39,14 @@ fn join(parents: &mut [u32], one: usize, two: usize)
 }
 
 /// Joins the trees of all cells that the place with this index lights.
-fn join_row(parents: &mut [u32], instance: &Instance, place: usize)
-    requires inside { place < length instance.now.places }
-    requires parents { AreParents instance.now parents.old }
-    ensures { JoinsRow instance.now place parents.old parents.new }
+fn join_row(parents: &mut [u32], sparse: &Sparse, place: usize)
+    requires inside { place < length sparse.now.places }
+    requires parents { AreParents sparse.now parents.old }
+    ensures { JoinsRow sparse.now place parents.old parents.new }
 {
-    let row = instance.row_at(place);
-    let Some(first) = next(row, 0) else {
-        return;
-    };
-    let mut from = first + 1;
-    while let Some(bit) = next(row, from) {
-        join(parents, first, bit);
-        from = bit + 1;
+    let lit = sparse.lit_by(place);
+    for cell in lit {
+        join(parents, lit[0] as usize, *cell as usize);
     }
 }
 
@@ -90,14 +85,14 @@ fn roots(alloc: Global, parents: &mut [u32]) -> Result<Vec<u32>, OutOfMemory>
 }
 
 /// For each cell, by its index, the least cell that it is joined with.
-pub fn labels_of(alloc: Global, instance: &Instance) -> Result<Vec<u32>, OutOfMemory>
-    ensures labels { IfOk result (λ v. AreLabels instance.now v.items) }
+pub fn labels_of(alloc: Global, sparse: &Sparse) -> Result<Vec<u32>, OutOfMemory>
+    ensures labels { IfOk result (λ v. AreLabels sparse.now v.items) }
     ensures few { IfOk result (λ v. length v.items ≤ 2 ^ 32) }
 {
-    let mut parents = alone(alloc, count_of(instance.cells()))?;
+    let mut parents = alone(alloc, count_of(sparse.cells()))?;
     let parents = parents.as_mut_slice();
-    for place in 0..instance.places().len() {
-        join_row(parents, instance, place);
+    for place in 0..sparse.places().len() {
+        join_row(parents, sparse, place);
     }
     roots(alloc, parents)
 }

@@ -1,7 +1,6 @@
 //! Regions of a set cover instance, the parts that no place lights together, and their covers.
 #![tactic(auto)]
 
-mod buckets;
 mod columns;
 mod copying;
 mod cover;

@@ -7,7 +7,7 @@ use crate::copying::copy_rows;
 use crate::region::Region;
 use cave_base::Cell;
 use cave_model::OutOfMemory;
-use set_cover::{Instance, empty, number};
+use set_cover::{Instance, Sparse, empty, number};
 use std::alloc::Global;
 
 /// The items with these indices.
@@ -25,38 +25,38 @@ fn chosen(alloc: Global, items: &[Cell], indices: &[u32]) -> Result<Vec<Cell>, O
 /// The rows of the places with these indices, for the cells with those.
 fn rows_of(
     alloc: Global,
-    instance: &Instance,
+    sparse: &Sparse,
     ranks: &[u32],
     own: &[u32],
     placed: &[u32],
 ) -> Result<Vec<u64>, OutOfMemory>
-    requires closed { IsSelfContained instance.now own.now placed.now }
-    requires ranks { AreRanks instance.now own.now ranks.now }
+    requires closed { IsSelfContained sparse.now own.now placed.now }
+    requires ranks { AreRanks sparse.now own.now ranks.now }
     ensures { IfOk result (λ v.
-        AreCopied instance.now own.now placed.now (words_for (length own.now)) (length placed.now) v.items) }
+        AreCopied sparse.now own.now placed.now (words_for (length own.now)) (length placed.now) v.items) }
 {
     let mut words = empty(alloc, placed.len() * own.len().div_ceil(64))?;
-    copy_rows(words.as_mut_slice(), instance, ranks, own, placed);
+    copy_rows(words.as_mut_slice(), sparse, ranks, own, placed);
     Ok(words)
 }
 
 /// The part with these cells and places, by their indices, as a region. `ranks` is memory for a number a cell.
 pub fn restrict(
     alloc: Global,
-    instance: &Instance,
+    sparse: &Sparse,
     ranks: &mut [u32],
     own: &[u32],
     placed: &[u32],
 ) -> Result<Region, OutOfMemory>
-    requires closed { IsSelfContained instance.now own.now placed.now }
-    requires ranks { length ranks.old ≡ length instance.now.cells }
-    ensures { IfOk result (λ r. IsRestriction instance.now own.now placed.now r) }
+    requires closed { IsSelfContained sparse.now own.now placed.now }
+    requires ranks { length ranks.old ≡ length sparse.now.cells }
+    ensures { IfOk result (λ r. IsRestriction sparse.now own.now placed.now r) }
 {
-    let cells = instance.cells();
+    let cells = sparse.cells();
     number(ranks, own);
-    let words = rows_of(alloc, instance, ranks, own, placed)?;
+    let words = rows_of(alloc, sparse, ranks, own, placed)?;
     let own_cells = chosen(alloc, cells, own)?;
-    let own_places = chosen(alloc, instance.places(), placed)?;
+    let own_places = chosen(alloc, sparse.places(), placed)?;
     let width = own.len().div_ceil(64);
     let region = Region::new(alloc, Instance::new(own_cells, own_places, width, words))?;
     Ok(region)

@@ -6,10 +6,10 @@
 
 mod darkness;
 mod flood;
+mod level_map;
 mod levels;
 mod reached;
 mod reaching;
-mod sparse;
 mod spreading;
 mod store;
 mod waiting;

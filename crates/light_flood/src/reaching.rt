@@ -4,8 +4,8 @@ ghost use Rattle.cave_base.specs.Box.{cell_count};
 ghost use Rattle.light_flood.specs.Levels.{AreReachOf};
 ghost use Rattle.light_flood.specs.Reached.{reached};
 
+use crate::level_map::LevelMap;
 use crate::reached::Reach;
-use crate::sparse::Sparse;
 use crate::spreading::Flood;
 use crate::waiting::Waiting;
 use cave_base::Cell;
@@ -19,7 +19,7 @@ pub fn reach(alloc: Global, world: &World, cell: Cell, emission: u8) -> Result<R
     requires emission { emission ≤ 15 }
     ensures { IfOk result (λ r. AreReachOf world.now cell emission (reached r)) }
 {
-    let store = Sparse::new(alloc, world.cell_count());
+    let store = LevelMap::new(alloc, world.cell_count());
     let waiting = Waiting::new(alloc)?;
     let mut flood = Flood { store, waiting };
     flood.seed(world, cell, emission)?;

@@ -3,8 +3,8 @@
 use block_rows::{Rows, RowsFault};
 use cave_files::streams::ShortWriter;
 use cave_model::{Rule, World};
+use cave_problem::{CoverFault, Problem};
 use cave_reading::{BuildFault, build, read_cave};
-use cover_rows::{CoverFault, Problem};
 use light_flood::{dark_cells, light, reach};
 use nbt_core::{NbtFault, read_root};
 use scan_core::{ScanFault, read_scan};
@@ -101,7 +101,7 @@ fn problem_is_wrong(alloc: Global, pillar: &[u8]) -> bool {
         return false;
     };
     match Problem::new(alloc, &world) {
-        Ok(problem) => !problem.lights(1, 1),
+        Ok(problem) => problem.dark() != [1].as_slice(),
         Err(fault) => fault != CoverFault::OutOfMemory,
     }
 }

@@ -1,8 +1,8 @@
 //! Parts of the path, each with what it counts.
 use crate::regions;
 use cave_model::{OutOfMemory, Rule, World};
+use cave_problem::{CoverFault, Problem};
 use cave_reading::read_cave;
-use cover_rows::{CoverFault, Problem};
 use light_flood::{dark_cells, light, reach};
 use std::alloc::Global;
 use std::test::Fail;

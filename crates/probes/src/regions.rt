@@ -1,8 +1,8 @@
 //! Regions, and what planning one alone finds.
 
 use cave_model::{OutOfMemory, World};
+use cave_problem::{CoverFault, Problem};
 use cave_regions::split;
-use cover_rows::{CoverFault, Problem};
 use instance_regions::Region;
 use proof_tree::Proof;
 use search_core::{AloneFault, plan_alone};

@@ -3,15 +3,16 @@ use Rattle.std.proofs.Common.{◌≡◌, List, [], ◌∷◌, ◌++◌, length, 
 use Rattle.std.proofs.lemmas.List.Elements.{All-head}
 use Rattle.cave_model.specs.Cave.{Cave}
 use Rattle.cave_model.specs.Coverage.{of_cave, Agrees}
-use Rattle.cover_rows.specs.Coverage.{IsProblemOf}
+use Rattle.cave_problem.specs.Coverage.{IsProblemOf}
 use Rattle.set_cover.specs.Instance.{Instance, of_instance}
+use Rattle.set_cover.specs.Sparse.{Sparse}
 use Rattle.instance_regions.specs.Splitting.{AreRegionsOf, IsPartOf}
 use Rattle.cave_regions.proofs.CaveLemmas.{regions_are, regions_agree}
 use Rattle.search_cases.specs.Single.{IsSingleOf}
 
 -- where there is one region alone
-alone : (cave : Cave) (problem region : Instance) → IsProblemOf cave problem → AreRegionsOf problem (region ∷ [])
-    → IsSingleOf cave region
+alone : (cave : Cave) (problem : Sparse) (region : Instance) → IsProblemOf cave problem
+    → AreRegionsOf problem (region ∷ []) → IsSingleOf cave region
 alone cave problem region is are = record {
   all = regions_are cave problem (region ∷ []) is are;
   kept = (All-head (IsPartOf problem) region [] are.each).kept;
@@ -30,7 +31,7 @@ only (r ∷ rest) region all e one =
     ap_length : (xs ys : List Instance) → xs ≡ ys → length xs ≡ length ys
     ap_length xs ys e = cc
 
-pub single : (cave : Cave) (problem : Instance) (all rest : List Instance) (region : Instance)
+pub single : (cave : Cave) (problem : Sparse) (all rest : List Instance) (region : Instance)
     → IsProblemOf cave problem → AreRegionsOf problem all → all ≡ rest ++ region ∷ [] → length all ≡ 1
     → IsSingleOf cave region
 single cave problem all rest region is are e one =

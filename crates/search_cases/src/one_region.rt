@@ -6,9 +6,9 @@ ghost use Rattle.certificate_text.specs.Planned.{AreBestOf};
 ghost use Rattle.search_cases.specs.Single.{IsSingleOf};
 
 use cave_model::World;
+use cave_problem::Problem;
 use cave_regions::split;
 use certificate_text::{Planned, write_certificate};
-use cover_rows::Problem;
 use event_core::Core;
 use instance_regions::Region;
 use std::alloc::{AllocError, Global};

@@ -28,7 +28,7 @@ use worker_results::{Joined, Naming, close_up};
 const DEEPEST: usize = 3;
 
 /// How many pieces a worker should find.
-const PIECES: usize = 2;
+const PIECES: usize = 8;
 
 /// A region of no more places makes few pieces.
 const FEW: usize = 128;

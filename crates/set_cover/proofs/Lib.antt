@@ -9,3 +9,4 @@ pub mod NumberLemmas
 pub mod LightLemmas
 pub mod RowLemmas
 pub mod ListedLemmas
+pub mod BucketLemmas

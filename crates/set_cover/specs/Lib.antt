@@ -3,3 +3,5 @@ pub mod Bits
 pub mod Counts
 pub mod Instance
 pub mod Numbering
+pub mod Buckets
+pub mod Sparse

@@ -44,12 +44,18 @@ fn put_side<W: fmt::Write>(
 
 /// The counts of the sides that have any, with commas between.
 fn put_sides<W: fmt::Write>(f: &mut fmt::Formatter<W>, sides: &OpenSides) -> fmt::Result {
-    let is_first = put_side(f, true, sides.west, "west")?;
-    let is_first = put_side(f, is_first, sides.east, "east")?;
-    let is_first = put_side(f, is_first, sides.north, "north")?;
-    let is_first = put_side(f, is_first, sides.south, "south")?;
-    let is_first = put_side(f, is_first, sides.below, "below")?;
-    put_side(f, is_first, sides.above, "above")?;
+    let counts = [
+        (sides.west, "west"),
+        (sides.east, "east"),
+        (sides.north, "north"),
+        (sides.south, "south"),
+        (sides.below, "below"),
+        (sides.above, "above"),
+    ];
+    let mut is_first = true;
+    for (count, side) in counts {
+        is_first = put_side(f, is_first, count, side)?;
+    }
     Ok(())
 }
 
@@ -59,8 +65,10 @@ impl fmt::Display for Advance {
             Advance::Open(sides) => {
                 f.write_str("free cells lie at the box's edge: ")?;
                 put_sides(f, sides)?;
-                f.write_str("; outside counts as solid nothing, without ground, light or room, ")?;
-                f.write_str("so save a block more of floor, walls and ceiling")
+                f.write_str(
+                    "; outside counts as solid nothing, without ground, light or room, \
+                    so save a block more of floor, walls and ceiling",
+                )
             }
             Advance::Turns {
                 region,

@@ -22,7 +22,7 @@ use Rattle.weight_judge.specs.Claims.{claims_of}
 use Rattle.weight_judge.specs.Held.{AreAllKept, AreAllOpen}
 use Rattle.weight_judge.proofs.ClaimLemmas.{claim_cells}
 use Rattle.weight_judge.proofs.KeptLemmas.{kept_capacities, kept_apart, all_kept}
-use Rattle.tree_judges.specs.Weighted.{claimed, AreShares, AreOpenLists, MayBeWeighted}
+use Rattle.tree_judges.specs.Weighted.{claimed, AreShares, AreOpenLists, MayBeWeightedAt}
 
 -- ---- the one form
 
@@ -73,7 +73,7 @@ groups_all groups some g = record {
 pub may_stand : (region : Instance) (state : NodeState) (groups : List Group) (claims : List Claim) (marks : List ℕ)
     (lists : List (List ℕ)) → IsStateOf region state → AreGroups groups → claims ≡ claims_of groups
     → AreMarked state.unlit (claimed claims) marks → AreOpenLists region state claims lists → AreAllKept claims lists
-    → MayBeWeighted region state groups
+    → MayBeWeightedAt region state groups
 may_stand region state groups claims marks lists s g e m o k = record {
   weighted_there = λ barred listed.
       (let cells : claimed claims ≡ all_cells_of groups = ap claimed e ∙ claim_cells 0 groups in
@@ -94,7 +94,7 @@ may_stand region state groups claims marks lists s g e m o k = record {
 
 -- groups that may stand in a weighted leaf have unlit cells, each once, and each place may hold their claims
 pub stands : (region : Instance) (state : NodeState) (groups : List Group) (claims : List Claim)
-    → IsStateOf region state → claims ≡ claims_of groups → MayBeWeighted region state groups
+    → IsStateOf region state → claims ≡ claims_of groups → MayBeWeightedAt region state groups
     → AreUnlitOnce state.unlit (claimed claims)
     × ((lists : List (List ℕ)) → AreOpenLists region state claims lists → AreAllKept claims lists)
 stands region state groups claims s e m =
@@ -115,7 +115,7 @@ stands region state groups claims s e m =
 -- what closes by a weighted leaf is groups in their one form that may stand there, and enough
 pub weighted_closes : (region : Instance) (state : NodeState) (floor : ℕ) (groups : List Group)
     → Closes region state floor (weighted groups)
-    → AreGroups groups × MayBeWeighted region state groups × (floor ≤ length state.chosen + places_for_all groups)
+    → AreGroups groups × MayBeWeightedAt region state groups × (floor ≤ length state.chosen + places_for_all groups)
 weighted_closes region state floor groups closed =
     let barred = row_listed state.barred in (
       (closed.good barred.0 barred.1).0.groups_are,
@@ -125,7 +125,7 @@ weighted_closes region state floor groups closed =
 
 -- they have no more cells than the region
 pub few_claims : (region : Instance) (state : NodeState) (groups : List Group) (claims : List Claim)
-    → IsStateOf region state → claims ≡ claims_of groups → MayBeWeighted region state groups
+    → IsStateOf region state → claims ≡ claims_of groups → MayBeWeightedAt region state groups
     → length claims ≤ length region.cells
 few_claims region state groups claims s e m =
     let parts = (stands region state groups claims s e m).0 in

@@ -31,6 +31,6 @@ pub record AreOpenLists (region : Instance) (state : NodeState) (claims : List C
         → AreAllOpen (of_indices region) barred claims lists
 
 -- the groups may stand in a weighted leaf
-pub record MayBeWeighted (region : Instance) (state : NodeState) (groups : List Group) : Type 0 where
+pub record MayBeWeightedAt (region : Instance) (state : NodeState) (groups : List Group) : Type 0 where
   pub weighted_there : (barred : List ℕ) → IsRowOf barred state.barred
       → AreWeighted (of_indices region) (cell_indices region) state.chosen barred groups

@@ -4,7 +4,7 @@ ghost use Rattle.std.specs.Prelude.{◌≡◌, ◌↔◌, ◌<◌, ◌≤◌, Is
 ghost use Rattle.pack_bound.specs.Nodes.{IsStateOf, Closes};
 ghost use Rattle.proof_rules.specs.Groups.{cells_of, AreGroups, IsGroup};
 ghost use Rattle.proof_rules.specs.Tree.{weighted};
-ghost use Rattle.tree_judges.specs.Weighted.{claimed, AreShares, MayBeWeighted};
+ghost use Rattle.tree_judges.specs.Weighted.{claimed, AreShares, MayBeWeightedAt};
 ghost use Rattle.weight_judge.specs.Claims.{claims_of as list_of};
 
 use crate::open_lists::open_lists;
@@ -61,7 +61,7 @@ fn may_be_weighted(
     requires state { IsStateOf region.now node.now }
     requires groups { AreGroups _groups.now }
     requires claims { claims.now ≡ list_of _groups.now }
-    ensures { IfOk result (λ yes. IsTrue yes ↔ MayBeWeighted region.now node.now _groups.now) }
+    ensures { IfOk result (λ yes. IsTrue yes ↔ MayBeWeightedAt region.now node.now _groups.now) }
 {
     let cells = cells_of_claims(alloc, claims)?;
     let mut marks = empty(alloc, region.width())?;

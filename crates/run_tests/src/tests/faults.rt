@@ -2,7 +2,7 @@
 
 use super::planning::line_of;
 use block_rows::{RowFault, RowsFault};
-use cover_rows::CoverFault;
+use cave_problem::CoverFault;
 use nbt_core::NbtFault;
 use proof_check::CheckFault;
 use scan_core::{Field, ScanFault};

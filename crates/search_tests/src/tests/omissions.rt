@@ -42,15 +42,27 @@ fn is_taken(
     is_good(alloc, region, &mut node, &tree, floor)
 }
 
+/// Cells that are left out, the leaf's cell, a floor, and whether the judge takes the tree at that.
+type Row = (&'static [u32], u32, u64, bool);
+
+const TREES: [Row; 4] = [
+    (&[1], 3, 2, true),
+    // Three places aren't needed.
+    (&[1], 3, 3, false),
+    // The leaf names a cell that is left out, or the first place lights one that the second doesn't.
+    (&[1, 3], 3, 2, false),
+    (&[2], 3, 2, false),
+];
+
 #[test]
 fn a_tree_may_leave_out_cells_that_it_never_names(rt: HostRuntime) -> Result<(), Fail> {
     let alloc = rt.alloc();
     let region = region(alloc, 4, &ROWS)?;
-    assert!(rt; is_taken(alloc, region.as_ref(), &[1], 3, 2)?);
-    // three places aren't needed
-    assert!(rt; !is_taken(alloc, region.as_ref(), &[1], 3, 3)?);
-    // the leaf names a cell that is left out, or the first place lights one that the second doesn't
-    assert!(rt; !is_taken(alloc, region.as_ref(), &[1, 3], 3, 2)?);
-    assert!(rt; !is_taken(alloc, region.as_ref(), &[2], 3, 2)?);
+    for (cells, leaf, floor, is_good) in TREES {
+        assert_eq!(rt;
+            is_taken(alloc, region.as_ref(), cells, leaf, floor)?,
+            is_good
+        );
+    }
     Ok(())
 }

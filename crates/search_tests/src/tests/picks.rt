@@ -34,71 +34,56 @@ fn is_taken(alloc: Global, region: &Region, tree: &Proof, floor: u64) -> Result<
 
 /// The cells that place 0 of the ring lights, two others that no place lights both, and three of which no other place
 /// lights two.
-const LIT: [u32; 2] = [0, 1];
+const LIT: &[u32] = &[0, 1];
 
-const APART: [u32; 2] = [2, 4];
+const APART: &[u32] = &[2, 4];
 
-const APART_WITHOUT: [u32; 3] = [0, 1, 3];
+const APART_WITHOUT: &[u32] = &[0, 1, 3];
+
+/// A pick of a place above two leaves, a floor, and whether the judge takes it at that.
+type Row = (u32, &'static [u32], &'static [u32], u64, bool);
+
+const ROWS: [Row; 8] = [
+    (0, APART, APART_WITHOUT, 3, true),
+    (0, APART, APART_WITHOUT, 2, true),
+    (0, APART, APART_WITHOUT, 4, false),
+    // The trees stand in their order, the chosen place lights these cells, and both trees have to be good.
+    (0, APART_WITHOUT, APART, 3, false),
+    (0, LIT, APART_WITHOUT, 3, false),
+    (0, APART, APART, 3, false),
+    // The place is one of the region.
+    (5, APART, APART_WITHOUT, 2, false),
+    (u32::MAX, APART, APART_WITHOUT, 2, false),
+];
 
 #[test]
-fn a_ring_of_five_cells_is_proved_by_a_pick(rt: HostRuntime) -> Result<(), Fail> {
+fn a_pick_is_taken_where_its_trees_are_good(rt: HostRuntime) -> Result<(), Fail> {
     let alloc = rt.alloc();
     let ring = ring(alloc, 5)?;
-    let region = ring.as_ref();
-    let tree = tree_of(alloc, 0, &APART, &APART_WITHOUT)?;
-    assert!(rt; is_taken(alloc, region, &tree, 3)?);
-    assert!(rt; is_taken(alloc, region, &tree, 2)?);
-    assert!(rt; !is_taken(alloc, region, &tree, 4)?);
+    for (place, with, without, floor, is_good) in ROWS {
+        let tree = tree_of(alloc, place, with, without)?;
+        assert_eq!(rt; is_taken(alloc, ring.as_ref(), &tree, floor)?, is_good);
+    }
     Ok(())
 }
 
 #[test]
-fn the_trees_of_a_pick_stand_in_their_order(rt: HostRuntime) -> Result<(), Fail> {
+fn a_chosen_place_is_not_picked_again(rt: HostRuntime) -> Result<(), Fail> {
     let alloc = rt.alloc();
     let ring = ring(alloc, 5)?;
-    let region = ring.as_ref();
-    assert!(rt;
-        !is_taken(
-            alloc,
-            region,
-            &tree_of(alloc, 0, &APART_WITHOUT, &APART)?,
-            3
-        )?
-    );
-    // the chosen place lights these cells, and each of the first two trees has to be good
-    assert!(rt; !is_taken(alloc, region, &tree_of(alloc, 0, &LIT, &APART_WITHOUT)?, 3)?);
-    assert!(rt; !is_taken(alloc, region, &tree_of(alloc, 0, &APART, &APART)?, 3)?);
+    let again = tree_of(alloc, 0, APART, APART)?;
+    let twice = pick(alloc, 0, again, leaf(alloc, APART_WITHOUT)?)?;
+    assert!(rt; !is_taken(alloc, ring.as_ref(), &twice, 2)?);
     Ok(())
 }
 
 #[test]
-fn a_place_is_picked_once_and_is_one_of_the_region(rt: HostRuntime) -> Result<(), Fail> {
+fn a_barred_place_is_not_picked(rt: HostRuntime) -> Result<(), Fail> {
     let alloc = rt.alloc();
     let ring = ring(alloc, 5)?;
-    let region = ring.as_ref();
-    assert!(rt;
-        !is_taken(
-            alloc,
-            region,
-            &tree_of(alloc, 5, &APART, &APART_WITHOUT)?,
-            2
-        )?
-    );
-    assert!(rt;
-        !is_taken(
-            alloc,
-            region,
-            &tree_of(alloc, u32::MAX, &APART, &APART_WITHOUT)?,
-            2
-        )?
-    );
-    // chosen above, or barred above
-    let again = tree_of(alloc, 0, &APART, &APART)?;
-    let twice = pick(alloc, 0, again, leaf(alloc, &APART_WITHOUT)?)?;
-    assert!(rt; !is_taken(alloc, region, &twice, 2)?);
-    let again = tree_of(alloc, 0, &APART, &APART_WITHOUT)?;
-    let twice = pick(alloc, 0, leaf(alloc, &APART)?, again)?;
-    assert!(rt; !is_taken(alloc, region, &twice, 2)?);
+    let again = tree_of(alloc, 0, APART, APART_WITHOUT)?;
+    let twice = pick(alloc, 0, leaf(alloc, APART)?, again)?;
+    assert!(rt; !is_taken(alloc, ring.as_ref(), &twice, 2)?);
     Ok(())
 }
 
@@ -106,7 +91,7 @@ fn a_place_is_picked_once_and_is_one_of_the_region(rt: HostRuntime) -> Result<()
 fn a_pick_goes_by_the_number_of_its_place(rt: HostRuntime) -> Result<(), Fail> {
     let alloc = rt.alloc();
     let ring = ring(alloc, 5)?;
-    let tree = tree_of(alloc, 1, &APART, &APART)?;
+    let tree = tree_of(alloc, 1, APART, APART)?;
     match with_numbers(alloc, ring.as_ref(), tree)? {
         Proof::Pick {
             place,

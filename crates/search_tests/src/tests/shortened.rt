@@ -86,20 +86,37 @@ fn shows_two(alloc: Global, region: &Region, tree: &Proof) -> Result<bool, Alloc
     is_good(alloc, region, &mut node, tree, 2)
 }
 
+/// The tree, shortened; it and the shorter one show that two places are needed.
+fn shorter(rt: &impl Abort, alloc: Global, region: &Region, tree: &Proof) -> Result<Proof, Fail> {
+    assert!(rt; shows_two(alloc, region, tree)?);
+    let less = shortened(alloc, region, tree)?;
+    assert!(rt; shows_two(alloc, region, &less)?);
+    Ok(less)
+}
+
+/// A branch on cell 0 with two kids, whose leaves name cell 3 alone, which neither place lights.
+fn tree_of_ring(alloc: Global) -> Result<Proof, AllocError> {
+    let one = leaf_of(alloc, 3)?;
+    let other = leaf_of(alloc, 3)?;
+    Ok(branch_on(0, vec![in alloc; one, other]?))
+}
+
+/// A branch on cell 0, the first of whose kids is branched on cell 2, which both twins light, and the last place.
+fn tree_of_twins(alloc: Global) -> Result<Proof, AllocError> {
+    let below = branch_on(2, vec![in alloc; lit(alloc), lit(alloc), lit(alloc)]?);
+    let one = leaf_of(alloc, 1)?;
+    let other = leaf_of(alloc, 1)?;
+    Ok(branch_on(0, vec![in alloc; below, one, other]?))
+}
+
 #[test]
 fn a_kid_goes_where_the_others_name_no_cell_that_it_alone_lights(
     rt: HostRuntime,
 ) -> Result<(), Fail> {
     let alloc = rt.alloc();
     let region = region(alloc, 4, &RING)?;
-    // the leaves of both kids name cell 3 alone, which neither place lights
-    let one = leaf_of(alloc, 3)?;
-    let other = leaf_of(alloc, 3)?;
-    let tree = branch_on(0, vec![in alloc; one, other]?);
-    assert!(rt; shows_two(alloc, region.as_ref(), &tree)?);
-    let less = shortened(alloc, region.as_ref(), &tree)?;
-    assert!(rt; shows_two(alloc, region.as_ref(), &less)?);
-    assert!(rt; kid_count(&less) == 1);
+    let less = shorter(&rt, alloc, region.as_ref(), &tree_of_ring(alloc)?)?;
+    assert_eq!(rt; kid_count(&less), 1);
     Ok(())
 }
 
@@ -107,16 +124,9 @@ fn a_kid_goes_where_the_others_name_no_cell_that_it_alone_lights(
 fn kids_below_go_with_the_place_of_one_that_goes(rt: HostRuntime) -> Result<(), Fail> {
     let alloc = rt.alloc();
     let region = region(alloc, 4, &TWINS)?;
-    // of the kids of cell 0 the first is branched on cell 2, which both twins light, and the last place
-    let below = branch_on(2, vec![in alloc; lit(alloc), lit(alloc), lit(alloc)]?);
-    let one = leaf_of(alloc, 1)?;
-    let other = leaf_of(alloc, 1)?;
-    let tree = branch_on(0, vec![in alloc; below, one, other]?);
-    assert!(rt; shows_two(alloc, region.as_ref(), &tree)?);
-    let less = shortened(alloc, region.as_ref(), &tree)?;
-    assert!(rt; shows_two(alloc, region.as_ref(), &less)?);
+    let less = shorter(&rt, alloc, region.as_ref(), &tree_of_twins(alloc)?)?;
     // one twin goes for the other, at the root and below
-    assert!(rt; kid_count(&less) == 2);
-    assert!(rt; kid_count_below(&less) == 2);
+    assert_eq!(rt; kid_count(&less), 2);
+    assert_eq!(rt; kid_count_below(&less), 2);
     Ok(())
 }

@@ -12,5 +12,5 @@ returns c =
       local = search rules;
     } in
     let on_file = one_more _ _ _ _ _ bare c.file.ensures c.in_ok-arg.ensures in
-    let with_proof = one_more _ _ _ _ _ on_file (search rules) c.in_ok-command.ensures in
+    let with_proof = one_more _ _ _ _ _ on_file c.certificate.ensures c.in_ok-command.ensures in
     IfOk-weaker c.ruled.result _ _ (λ r h. grown_command _ _ _ _ with_proof h) c.ruled.ensures

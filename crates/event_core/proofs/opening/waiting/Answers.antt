@@ -3,7 +3,7 @@ use Rattle.std.specs.Prelude.{slice_index}
 use Rattle.std.proofs.lemmas.List.{take_more}
 use Rattle.event_core.specs.Finished.{all_at_rest}
 use Rattle.event_core.specs.NodeShape.{shapes_of}
-use Rattle.event_core.specs.declared.node.Node.TheVariants.{Waiting}
+use Rattle.event_core.specs.declared.node.PieceNode.TheVariants.{Waiting}
 use Rattle.event_core.proofs.NodeLemmas.{added, nodes_push, rest_push}
 use Rattle.event_core.proofs.opening.waiting.Goals as goal
 

@@ -1,7 +1,7 @@
 use Rattle.std.proofs.Common.{refl, ap, ◌∙◌, arith}
 use Rattle.event_core.specs.NodeShape.{shape_of}
 use Rattle.event_core.specs.Shape.{put_in}
-use Rattle.event_core.specs.declared.node.Node.{Node}
+use Rattle.event_core.specs.declared.node.PieceNode.{PieceNode}
 use Rattle.event_core.proofs.TraceLemmas.{put_at_kid, put_at_none}
 use Rattle.event_core.proofs.putting.+put.Goals as goal
 
@@ -22,5 +22,5 @@ returns-else-number-len t c =
     o.is s.ensures.cases.0 c.into_items-nodes.ensures
     (let near = c.if-number-len.false in let len = c.len.ensures in let ok = c.into_items-nodes.result.ok.0 in
     omega arith)
-    (c.put.ensures ∙ ap (λ (n : Node). put_in (shape_of n) s.rest.now (shape_of c.args.new)) got) refl
+    (c.put.ensures ∙ ap (λ (n : PieceNode). put_in (shape_of n) s.rest.now (shape_of c.args.new)) got) refl
     c.of-in-Opened.ensures

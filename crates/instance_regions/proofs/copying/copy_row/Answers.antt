@@ -1,23 +1,15 @@
-use Rattle.std.proofs.Common.{arith}
-use Rattle.set_cover.proofs.BitLemmas.{has_inside}
+use Rattle.std.proofs.Common.{slice_index, Contains, refl, arith}
+use Rattle.set_cover.proofs.OrderLemmas.{element_of}
 use Rattle.instance_regions.specs.Restricting.{to_rank}
-use Rattle.instance_regions.proofs.CopyLemmas.{moved_none, moved_next, moved_all}
+use Rattle.instance_regions.proofs.CopyLemmas.{IsEarly, early_all, moves_as}
 use Rattle.instance_regions.proofs.copying.copy_row.Goals as goal
 
-pub loop-bit-init : goal.loop-bit-init
-loop-bit-init c = moved_none c.args.words.now c.args.row.now (to_rank c.args.ranks.now c.args.base)
-
-pub loop-bit-preserved : goal.loop-bit-preserved
-loop-bit-preserved c = moved_next c.args.words.now c.args.row.now (to_rank c.args.ranks.now c.args.base)
-    c.loop-bit.words c.add.new.words c.loop-bit.from c.in-Some.bit c.in-Some.ensures c.add.ensures
-    c.loop-bit.invariant
+pub bounds-ranks-cell : goal.bounds-ranks-cell
+bounds-ranks-cell c =
+    (c.requires.room.each _ (element_of c.args.cells.now (slice_index c.args.cells.now c.loop-cell.cell-index)
+    c.loop-cell.cell-index c.loop-cell-test.true refl)).0
 
 pub returns : goal.returns
-returns c = moved_all c.args.words.now c.args.row.now (to_rank c.args.ranks.now c.args.base) c.loop-bit.words
-    c.loop-bit.from c.in_default.ensures c.loop-bit.invariant
-
-pub loop-bit-smaller : goal.loop-bit-smaller
-loop-bit-smaller c =
-    let inside = has_inside c.args.row.now c.in-Some.bit c.in-Some.ensures.there in
-    let later = c.in-Some.ensures.later in
-    omega (arith, inside, later)
+returns c = moves_as c.args.words.now (IsEarly c.args.cells.now c.loop-cell.cell-index) (Contains c.args.cells.now)
+    (to_rank c.args.ranks.now c.args.base) c.loop-cell.words
+    (λ cell. early_all c.args.cells.now c.loop-cell.cell-index cell (omega arith)) c.loop-cell.invariant

@@ -4,4 +4,4 @@ use Rattle.instance_regions.specs.Restricting.{AreCopied}
 use Rattle.instance_regions.proofs.copying.copy_rows.Given as goal
 
 abbrev pub invariant-loop-row : goal.invariant-loop-row
-invariant-loop-row l = AreCopied l.instance l.own l.placed (words_for (length l.own)) l.row l.words
+invariant-loop-row l = AreCopied l.sparse l.own l.placed (words_for (length l.own)) l.row l.words

@@ -1,17 +1,19 @@
-use Rattle.std.proofs.Common.{ℕ, List, length, ap, sym, subst, arith}
-use Rattle.set_cover.specs.Bits.{Has}
+use Rattle.std.proofs.Common.{◌≡◌, ◌<◌, ℕ, List, length, slice_index, Contains, refl, ap, subst, arith}
+use Rattle.std.proofs.lemmas.Bool.Decides.{nat_tests}
 use Rattle.cave_model.proofs.ListingLemmas.{lists_skip, lists_push, lists_all}
+use Rattle.set_cover.proofs.OrderLemmas.{element_of}
 use Rattle.instance_regions.specs.Restricting.{IsLighting}
-use Rattle.instance_regions.proofs.entire.lighting.Goals.{in-Some+in_ok-push, in_default}
+use Rattle.instance_regions.proofs.entire.lighting.Goals.{then-not-is_empty+in_ok-push, else-not-is_empty}
 use Rattle.instance_regions.proofs.entire.lighting.Goals as goal
 
-pub first-requires : goal.first-requires
-first-requires c = omega (arith, c.row_at.ensures.whole, c.requires.kept.wide, c.requires.few)
-
 pub loop-place-preserved : goal.loop-place-preserved
-loop-place-preserved c = elim c.match-first.branch [
-  | in-Some+in_ok-push w ↦ rw (w.placed-is, w.in_ok-push.ensures.items)
-      (lists_push (IsLighting c.args.instance.now)
+loop-place-preserved c = elim c.if-not-is_empty.branch [
+  | then-not-is_empty+in_ok-push w ↦
+      (let filled : 0 < length c.lit_by.result.now =
+      grind (arith, nat_tests, c.is_empty.ensures, w.if-not-is_empty.true) in
+      let first = slice_index c.lit_by.result.now 0 in
+      rw (w.placed-is, w.in_ok-push.ensures.items)
+      (lists_push (IsLighting c.args.sparse.now)
       c.loop-place.place c.loop-place.placed.items c.loop-place.invariant (record {
         inside = omega (
           arith,
@@ -19,17 +21,20 @@ loop-place-preserved c = elim c.match-first.branch [
           c.count_of-place-end.ensures.count,
           ap length c.places.ensures.places,
         );
-        cell = w.in-Some.field-0;
-        lit = subst (λ (row : List ℕ). Has row w.in-Some.field-0) c.row_at.ensures.row w.in-Some.ensures;
-      }))
-  | in_default w ↦ rw w.placed-is
-      (lists_skip (IsLighting c.args.instance.now) c.loop-place.place c.loop-place.placed.items c.loop-place.invariant
-      (λ is. w.in_default.ensures is.cell
-      (subst (λ (row : List ℕ). Has row is.cell) (sym c.row_at.ensures.row) is.lit)))
+        cell = first;
+        lit = subst (λ (lit : List ℕ). Contains lit first) c.lit_by.ensures
+            (element_of c.lit_by.result.now first 0 filled refl);
+      })))
+  | else-not-is_empty w ↦
+      (let none : length c.lit_by.result.now ≡ 0 =
+      grind (arith, nat_tests, c.is_empty.ensures, w.if-not-is_empty.false) in
+      rw w.placed-is
+      (lists_skip (IsLighting c.args.sparse.now) c.loop-place.place c.loop-place.placed.items c.loop-place.invariant
+      (λ is. absurd (omega (arith, is.lit.1, ap length c.lit_by.ensures, none)))))
 ]
 
 pub returns : goal.returns
-returns c = lists_all (IsLighting c.args.instance.now) c.loop-place.place c.loop-place.placed.items
+returns c = lists_all (IsLighting c.args.sparse.now) c.loop-place.place c.loop-place.placed.items
     (λ place is. (let inside = is.inside in
     omega (
       arith,

@@ -3,4 +3,4 @@ use Rattle.instance_regions.specs.Restricting.{IsLighting}
 use Rattle.instance_regions.proofs.entire.lighting.Given as goal
 
 abbrev pub invariant-loop-place : goal.invariant-loop-place
-invariant-loop-place l = ListsBelow (IsLighting l.instance) l.place l.placed.items
+invariant-loop-place l = ListsBelow (IsLighting l.sparse) l.place l.placed.items

@@ -1,6 +1,6 @@
 use Rattle.std.proofs.Common.{refl, sym, length, arith}
 use Rattle.instance_regions.specs.Grouping.{IsCellOf}
-use Rattle.instance_regions.proofs.BucketLemmas.{grouping_push, grouping_all}
+use Rattle.set_cover.proofs.BucketLemmas.{grouping_push, grouping_all}
 use Rattle.instance_regions.proofs.grouping.cells_by.Goals as goal
 
 pub loop-cell-preserved : goal.loop-cell-preserved

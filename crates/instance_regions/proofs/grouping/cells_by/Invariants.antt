@@ -1,6 +1,6 @@
 use Rattle.std.proofs.Common.{length}
 use Rattle.instance_regions.specs.Grouping.{IsCellOf}
-use Rattle.instance_regions.proofs.BucketLemmas.{Grouping}
+use Rattle.set_cover.proofs.BucketLemmas.{Grouping}
 use Rattle.instance_regions.proofs.grouping.cells_by.Given as goal
 
 abbrev pub invariant-loop-cell : goal.invariant-loop-cell

@@ -13,7 +13,7 @@ count_of-requires c = record {
 
 pub loop-place-init : goal.loop-place-init
 loop-place-init c =
-    joined_none c.args.instance.now c.as_mut_slice-parents.result.now
+    joined_none c.args.sparse.now c.as_mut_slice-parents.result.now
     (subst (λ (n : ℕ). AreAlone n c.as_mut_slice-parents.result.now)
     (c.count_of.ensures.count ∙ ap length c.cells.ensures.cells)
     (subst (AreAlone c.count_of.result) (sym c.as_mut_slice-parents.ensures.value) c.in_ok-parents.ensures))
@@ -43,15 +43,15 @@ roots-requires-clause-small c =
     )
 
 pub loop-place-preserved : goal.loop-place-preserved
-loop-place-preserved c = joined_next c.args.instance.now c.loop-place.place c.loop-place.parents c.join_row.new.parents
+loop-place-preserved c = joined_next c.args.sparse.now c.loop-place.place c.loop-place.parents c.join_row.new.parents
     c.loop-place.invariant c.join_row.ensures
 
 pub returns-clause-labels : goal.returns-clause-labels
 returns-clause-labels c =
-    let all : length c.args.instance.now.places ≤ c.loop-place.place =
+    let all : length c.args.sparse.now.places ≤ c.loop-place.place =
     omega (arith, ap length c.places-place-end.ensures.places, c.loop-place-test.false) in
-    IfOk-weaker c.roots.result (λ v. AreRoots c.loop-place.parents v.items) (λ v. AreLabels c.args.instance.now v.items)
-    (λ v roots. labels_are c.args.instance.now c.loop-place.parents v.items c.loop-place.place c.cells.ensures.kept all
+    IfOk-weaker c.roots.result (λ v. AreRoots c.loop-place.parents v.items) (λ v. AreLabels c.args.sparse.now v.items)
+    (λ v roots. labels_are c.args.sparse.now c.loop-place.parents v.items c.loop-place.place c.cells.ensures.kept all
     c.loop-place.invariant roots) c.roots.ensures
 
 pub returns-clause-few : goal.returns-clause-few

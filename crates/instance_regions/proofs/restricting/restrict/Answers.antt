@@ -1,4 +1,4 @@
-use Rattle.std.proofs.Common.{◌≡◌, ◌^◌, ◌≤◌, ◌<◌, ℕ, List, length, map, slice_index, ap, sym, subst, ◌∙◌, arith}
+use Rattle.std.proofs.Common.{◌≡◌, ℕ, List, length, map, slice_index, ap, sym, subst, ◌∙◌, arith}
 use Rattle.set_cover.specs.Instance.{Instance, words_for}
 use Rattle.instance_regions.specs.Restricting.{AreCopied, IsRestriction}
 use Rattle.instance_regions.specs.Region.{IsRegion}
@@ -10,17 +10,10 @@ pub number-requires-clause-few : goal.number-requires-clause-few
 number-requires-clause-few c = few_fit c.args.own.now c.requires.closed.cells.ascending (λ k. (c.type_inv.own k).fits)
 
 pub rows_of-requires-clause-ranks : goal.rows_of-requires-clause-ranks
-rows_of-requires-clause-ranks c =
-    let kept = c.cells-cells.ensures.kept in
-    let few : length c.args.instance.now.cells ≤ 2 ^ 32 =
-    few_fit c.args.instance.now.cells kept.cells_ascend
-    (λ k. subst (λ (l : List ℕ). slice_index l k < 4294967296) c.cells-cells.ensures.cells
-    (c.type_inv.cells k).fits) in
-    record {
-      whole = c.number.ensures.whole ∙ c.requires.ranks;
-      listed = c.number.ensures.listed;
-      narrow = omega (arith, few, kept.wide);
-    }
+rows_of-requires-clause-ranks c = record {
+  whole = c.number.ensures.whole ∙ c.requires.ranks;
+  listed = c.number.ensures.listed;
+}
 
 abbrev made : After-div_ceil-width → Instance
 made c = record {
@@ -31,12 +24,12 @@ made c = record {
 }
 
 cells : (c : After-div_ceil-width)
-    → c.in_ok-own_cells.own_cells.items ≡ map (slice_index c.args.instance.now.cells) c.args.own.now
+    → c.in_ok-own_cells.own_cells.items ≡ map (slice_index c.args.sparse.now.cells) c.args.own.now
 cells c = c.in_ok-own_cells.ensures
     ∙ ap (λ (l : List ℕ). map (slice_index l) c.args.own.now) c.cells-cells.ensures.cells
 
 places : (c : After-div_ceil-width)
-    → c.in_ok-own_places.own_places.items ≡ map (slice_index c.args.instance.now.places) c.args.placed.now
+    → c.in_ok-own_places.own_places.items ≡ map (slice_index c.args.sparse.now.places) c.args.placed.now
 places c = c.in_ok-own_places.ensures ∙ ap (λ (l : List ℕ). map (slice_index l) c.args.placed.now)
     c.places.ensures.places
 
@@ -44,28 +37,28 @@ width : (c : After-div_ceil-width) → c.div_ceil-width.result ≡ words_for (le
 width c = omega (arith, c.div_ceil-width.ensures)
 
 copied : (c : After-div_ceil-width)
-    → AreCopied c.args.instance.now c.args.own.now c.args.placed.now c.div_ceil-width.result (length c.args.placed.now)
+    → AreCopied c.args.sparse.now c.args.own.now c.args.placed.now c.div_ceil-width.result (length c.args.placed.now)
     c.in_ok-words.words.items
-copied c = subst (λ (w : ℕ). AreCopied c.args.instance.now c.args.own.now c.args.placed.now w
+copied c = subst (λ (w : ℕ). AreCopied c.args.sparse.now c.args.own.now c.args.placed.now w
     (length c.args.placed.now) c.in_ok-words.words.items) (sym (width c)) c.in_ok-words.ensures
 
 pub new-requires : goal.new-requires
 new-requires c =
     let before = (goal.at.new-requires c).After-div_ceil-width in
-    kept_instance c.args.instance.now (made before) c.args.own.now c.args.placed.now c.cells-cells.ensures.kept
+    kept_instance c.args.sparse.now (made before) c.args.own.now c.args.placed.now c.cells-cells.ensures.kept
     c.requires.closed (cells before) (places before) (width before) (copied before)
 
 pub new-requires-2 : goal.new-requires-2
 new-requires-2 c =
     let before = (goal.at.new-requires-2 c).After-div_ceil-width in
     subst IsRegion (sym c.new.ensures)
-    (kept_region c.args.instance.now (made before) c.args.own.now c.args.placed.now c.cells-cells.ensures.kept
+    (kept_region c.args.sparse.now (made before) c.args.own.now c.args.placed.now c.cells-cells.ensures.kept
     c.requires.closed (cells before) (places before) (width before) (copied before))
 
 pub returns : goal.returns
 returns c =
     let before = (goal.at.returns c).After-div_ceil-width in
-    subst (IsRestriction c.args.instance.now c.args.own.now c.args.placed.now)
+    subst (IsRestriction c.args.sparse.now c.args.own.now c.args.placed.now)
     (sym (c.in_ok-region.ensures ∙ c.new.ensures))
-    (restriction c.args.instance.now (made before) c.args.own.now c.args.placed.now c.cells-cells.ensures.kept
+    (restriction c.args.sparse.now (made before) c.args.own.now c.args.placed.now c.cells-cells.ensures.kept
     c.requires.closed (cells before) (places before) (width before) (copied before))

@@ -35,6 +35,6 @@ pub returns : goal.returns
 returns c =
     let long : length c.copy_rows.new.words ≡ c.in_ok-words.words.len =
     omega (arith, c.copy_rows.auto.words, c.as_mut_slice.ensures.len) in
-    subst (AreCopied c.args.instance.now c.args.own.now c.args.placed.now (words_for (length c.args.own.now))
+    subst (AreCopied c.args.sparse.now c.args.own.now c.args.placed.now (words_for (length c.args.own.now))
     (length c.args.placed.now)) (sym (take_at c.copy_rows.new.words _ c.in_ok-words.words.len long))
     c.copy_rows.ensures

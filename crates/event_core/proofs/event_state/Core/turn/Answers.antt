@@ -5,7 +5,7 @@ use Rattle.event_core.specs.Shape.{Shape, put_in}
 use Rattle.event_core.specs.NodeShape.{shape_of}
 use Rattle.event_core.specs.Kept.{Kept, IsKept, state_of, put_kept}
 use Rattle.event_core.proofs.KeptLemmas.{put_is_kept}
-use Rattle.event_core.specs.declared.node.Node.{Node}
+use Rattle.event_core.specs.declared.node.PieceNode.{PieceNode}
 use Rattle.event_core.proofs.event_state.Core.turn.Goals as goal
 
 pub invariant_of-self : goal.invariant_of-self
@@ -18,7 +18,7 @@ invariant_of-self c =
       root = shape_of inside.root;
     } in
     let is : shape_of c.put.result ≡ put_in (shape_of inside.root) name shape = c.put.ensures
-    ∙ ap (λ (n : Node). put_in (shape_of n) name shape) c.replace-root.ensures.value in
+    ∙ ap (λ (n : PieceNode). put_in (shape_of n) name shape) c.replace-root.ensures.value in
     let sound = subst (λ (k : Kept). IsSoundState (state_of (put_kept k name shape)))
     (sym c.self.view_is) c.requires.sound in (
       c.self.invariant.0,

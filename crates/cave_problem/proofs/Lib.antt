@@ -1,0 +1,13 @@
+pub mod NumberLemmas
+pub mod LightingLemmas
+pub mod CoverLemmas
+pub mod NumberedLemmas
+pub mod SideLemmas
+pub mod ReachLemmas
+pub mod WordLemmas
+pub mod LevelLemmas
+pub mod FloodLemmas
+pub mod StoreLemmas
+pub mod MoreLemmas
+pub mod FillLemmas
+pub mod InstanceLemmas

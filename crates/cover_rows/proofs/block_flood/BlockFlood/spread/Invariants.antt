@@ -1,5 +1,0 @@
-use Rattle.cover_rows.proofs.FloodLemmas.{Spreading}
-use Rattle.cover_rows.proofs.block_flood.BlockFlood.spread.Given as goal
-
-abbrev pub invariant-loop-level : goal.invariant-loop-level
-invariant-loop-level l = Spreading l.world l.sources l.sides l.local l.reach.items l.near l.levels l.from l.level

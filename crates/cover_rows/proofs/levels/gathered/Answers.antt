@@ -1,9 +1,0 @@
-use Rattle.cover_rows.proofs.WordLemmas.{union_none, union_next}
-use Rattle.cover_rows.proofs.levels.gathered.Goals as goal
-
-pub loop-face-init : goal.loop-face-init
-loop-face-init c = union_none c.args.near.now c.args.levels.now c.args.number c.args.level
-
-pub loop-face-preserved : goal.loop-face-preserved
-loop-face-preserved c = union_next c.args.near.now c.args.levels.now c.args.number c.args.level c.loop-face.face
-    c.loop-face.word c.loop-face.invariant

@@ -1,5 +1,0 @@
-use Rattle.cover_rows.specs.Blocks.{IsUnion}
-use Rattle.cover_rows.proofs.levels.gathered.Given as goal
-
-abbrev pub invariant-loop-face : goal.invariant-loop-face
-invariant-loop-face l = IsUnion l.near l.levels l.number l.level l.face l.word

@@ -1,5 +1,0 @@
-use Rattle.cover_rows.proofs.NumberedLemmas.{Forgetting}
-use Rattle.cover_rows.proofs.reach.forget.Given as goal
-
-abbrev pub invariant-loop-cell : goal.invariant-loop-cell
-invariant-loop-cell l = Forgetting l.local l.reach l.cell-index

@@ -1,8 +1,0 @@
-use Rattle.cover_rows.specs.Reach.{BeginsWith, IsLinkedReach}
-use Rattle.cover_rows.proofs.reach.grow.Given as goal
-
-abbrev pub invariant-loop-number : goal.invariant-loop-number
-invariant-loop-number l = record {
-  reach : IsLinkedReach l.sides l.local l.reach.items l.near l.number;
-  kept : BeginsWith l.initial.reach.items l.reach.items;
-}

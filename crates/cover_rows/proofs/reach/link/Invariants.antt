@@ -1,9 +1,0 @@
-use Rattle.cover_rows.specs.Reach.{IsReach}
-use Rattle.cover_rows.proofs.NumberedLemmas.{Linking}
-use Rattle.cover_rows.proofs.reach.link.Given as goal
-
-abbrev pub invariant-loop-face : goal.invariant-loop-face
-invariant-loop-face l = record {
-  reach : IsReach l.local l.reach.items;
-  linking : Linking l.sides l.initial.reach.items l.reach.items l.near l.number l.face;
-}
