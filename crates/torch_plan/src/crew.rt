@@ -29,7 +29,7 @@ const FEW: usize = 128;
 
 /// So many turns of a larger region are one worker's alone where each takes long; else as many as are worked on before
 /// places are picked. What so many close one closes soonest.
-const SLOW_ALONE: u64 = 64;
+const SLOW_ALONE: u64 = 32;
 
 /// More workers than one, with their strategy, the handles for their threads, and an observer, who may hold them back.
 #[derive(Drop)]

@@ -3,8 +3,10 @@
 
 use crate::sought::Sought;
 
-/// How many nodes a search has before it is long.
+/// How many nodes a search has before it is long, and one of a hall, whose trees are large or hardly any.
 const SHORT_SEARCH: u64 = 400;
+
+const SHORT_IN_HALL: u64 = 32;
 
 /// How many runs of steps there are at the first node, below it, and in a long search.
 const FIRST_RUNS: u32 = 16;
@@ -14,8 +16,7 @@ const RUNS: u32 = 8;
 const LONG_RUNS: u32 = 24;
 
 /// How many runs of steps a node gets at most, and whether the search is long: then weights that aren't likely to show
-/// enough are given up sooner, cells to branch on are tried by their kids' own relaxations, and weights that barely
-/// show enough get some runs more.
+/// enough are given up sooner, and cells to branch on are tried by their kids' own relaxations.
 #[derive(Clone, Copy)]
 pub(crate) struct Effort {
     pub runs: u32,
@@ -24,7 +25,7 @@ pub(crate) struct Effort {
 
 impl Effort {
     /// That at a node where so many came before it. A search that may pick is long below its first node, and one that
-    /// is part of a longer one is from there on.
+    /// is part of a longer one is so from there on.
     pub(crate) fn at(sought: Sought, nodes: u64) -> Effort {
         if sought.depth == 0 && !sought.is_part {
             return Effort {
@@ -32,7 +33,12 @@ impl Effort {
                 is_long: false,
             };
         }
-        let is_long = sought.may_pick || sought.is_part || nodes >= SHORT_SEARCH;
+        let short = if sought.is_in_hall {
+            SHORT_IN_HALL
+        } else {
+            SHORT_SEARCH
+        };
+        let is_long = sought.may_pick || sought.is_part || nodes >= short;
         Effort {
             runs: if is_long { LONG_RUNS } else { RUNS },
             is_long,

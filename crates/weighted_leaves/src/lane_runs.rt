@@ -2,14 +2,8 @@
 
 use linear_relaxation::{Lanes, ONE};
 
-/// How many runs more there are for lanes that show barely enough.
-const MORE_RUNS: u32 = 2;
-
 /// By how much a lane has to show more than enough: its numbers are roughly right.
 const MARGIN: i64 = ONE / 4096;
-
-/// A lane that shows more beyond what is enough has to spare.
-const BARELY: i64 = ONE / 4;
 
 /// What is known of a lane: it shows enough, or it isn't likely to, or neither yet.
 #[derive(Clone, Copy)]
@@ -43,26 +37,11 @@ pub(crate) fn are_known(lanes: &Lanes, from: usize, short_of: &[i64]) -> bool {
     true
 }
 
-/// Whether one of these lanes shows barely enough.
-fn is_any_barely(lanes: &Lanes, short_of: &[i64]) -> bool {
-    for (lane, short_of) in short_of.iter().enumerate() {
-        let beyond = lanes.bound(lane).wrapping_sub(*short_of);
-        if beyond > MARGIN && beyond <= BARELY {
-            return true;
-        }
-    }
-    false
-}
-
 /// Runs the lanes, each of which has to show more than told here, until all is known of them, or for so many runs.
 pub(crate) fn run_lanes(lanes: &mut Lanes, short_of: &[i64], runs: u32) {
-    let mut more = MORE_RUNS;
     for _ in 0..runs {
         if are_known(lanes, 0, short_of) {
-            if more == 0 || !is_any_barely(lanes, short_of) {
-                return;
-            }
-            more = more.saturating_sub(1);
+            return;
         }
         lanes.run();
     }

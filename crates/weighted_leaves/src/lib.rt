@@ -17,6 +17,7 @@ mod picking;
 mod solving;
 mod sought;
 mod starting;
+mod tree_sizes;
 
 pub use branch_on::BranchOn;
 pub use leaf::WeightedLeaves;

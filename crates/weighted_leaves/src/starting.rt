@@ -1,11 +1,12 @@
 //! Where the kids of a branch begin: their relaxations are run side by side, each less the places of the kids before
 //! it, until all is known of them. A place that may come back as these are barred is one of the lanes'.
 
-use crate::branching::{Shortfall, before};
+use crate::branching::Shortfall;
 use crate::kid_bounds::KidBounds;
 use crate::kid_start::{KidName, KidStart};
 use crate::lane_runs::run_lanes;
 use crate::parts::Part;
+use crate::tree_sizes::before;
 use linear_relaxation::{LANES, ONE};
 use number_lists::clear_bit;
 use std::alloc::{AllocError, Global};

@@ -18,6 +18,7 @@ mod number_lists;
 mod linear_relaxation;
 mod local_search;
 mod search_moves;
+mod tree_shaping;
 mod weighted_leaves;
 
 use instance_regions::{Region, add};

@@ -21,7 +21,7 @@ impl<'a> Dominance for KeptPlaces<'a> {
 }
 
 /// The places to leave out where the node branches on a cell, descending.
-pub(crate) fn bars_for(
+pub fn bars_for(
     alloc: Global,
     site: NodePlaces<'_>,
     cell: InRegion,
@@ -41,7 +41,7 @@ pub(crate) fn bars_for(
 
 /// Adds the places that light no more than the one that is picked does: of what is left each does less than it. Those
 /// that the instance lacks are left out at the first node.
-pub(crate) fn bars_for_pick(
+pub fn bars_for_pick(
     site: NodePlaces<'_>,
     pick: InRegion,
     bars: &mut Vec<Bar>,
@@ -66,7 +66,7 @@ pub(crate) fn bars_for_pick(
 
 /// The places that aren't barred and are no places of the instance, each by one of the instance's that dominates it,
 /// ascending.
-pub(crate) fn bars_at_first(alloc: Global, site: NodePlaces<'_>) -> Result<Vec<Bar>, AllocError> {
+pub fn bars_at_first(alloc: Global, site: NodePlaces<'_>) -> Result<Vec<Bar>, AllocError> {
     let RegionInstance { region, instance } = site.whole;
     let kept = KeptPlaces { site };
     let mut bars = Vec::new(alloc);

@@ -1,6 +1,6 @@
 use Rattle.std.proofs.Common.{◌≤◌}
 use Rattle.proof_tree.specs.Shape.{tree_of, forest_of, tree_size, forest_size}
-use Rattle.search_moves.proofs.kernel_cells.KernelCells.+speaking.Given as goal
+use Rattle.tree_shaping.proofs.kernel_cells.KernelCells.+speaking.Given as goal
 
 abbrev pub decreases-spoken_by : goal.decreases-spoken_by
 decreases-spoken_by l = tree_size (tree_of l.tree)

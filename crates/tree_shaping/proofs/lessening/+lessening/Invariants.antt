@@ -1,5 +1,5 @@
 use Rattle.std.proofs.Common.{◌+◌, ◌*◌}
-use Rattle.search_moves.proofs.lessening.+lessening.Given as goal
+use Rattle.tree_shaping.proofs.lessening.+lessening.Given as goal
 
 abbrev pub decreases-lessened : goal.decreases-lessened
 decreases-lessened l = 2 * l.room

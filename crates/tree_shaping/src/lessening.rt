@@ -11,7 +11,7 @@ use proof_tree::{Bar, Below, Kids, Proof, wrap};
 use std::alloc::{AllocError, Global};
 
 /// A copy of the tree of a node without the kids that its branches can do without.
-pub(crate) fn without_needless_kids(
+pub fn without_needless_kids(
     alloc: Global,
     site: NodePlaces<'_>,
     tree: &Proof,

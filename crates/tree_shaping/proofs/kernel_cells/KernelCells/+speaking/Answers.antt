@@ -1,7 +1,7 @@
 use Rattle.std.proofs.Common.{List, ap, arith}
 use Rattle.proof_tree.specs.declared.proof.Proof.{Proof}
 use Rattle.proof_tree.specs.Shape.{tree_of, forest_of, tree_size, forest_size}
-use Rattle.search_moves.proofs.kernel_cells.KernelCells.+speaking.Goals as goal
+use Rattle.tree_shaping.proofs.kernel_cells.KernelCells.+speaking.Goals as goal
 
 pub spoken_by_all-loop-tree-init : goal.spoken_by_all-loop-tree-init
 spoken_by_all-loop-tree-init t c =

@@ -1,5 +1,5 @@
 use Rattle.std.proofs.Common.{◌+◌, ◌*◌}
-use Rattle.search_moves.proofs.pruning.+pruning.Given as goal
+use Rattle.tree_shaping.proofs.pruning.+pruning.Given as goal
 
 abbrev pub decreases-pruned : goal.decreases-pruned
 decreases-pruned l = 2 * l.room
