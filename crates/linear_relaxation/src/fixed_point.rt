@@ -1,5 +1,7 @@
 //! Numbers in fixed point, and lists of them. Sums wrap: nothing rests on them.
 
+use std::alloc::{AllocError, Global};
+
 /// One: so many bits stand behind the point.
 pub const BITS: u32 = 20;
 
@@ -75,6 +77,19 @@ pub(crate) fn sum(numbers: &[i64]) -> i64 {
         sum = sum.wrapping_add(*number);
     }
     sum
+}
+
+/// The numbers at these indices, 0 where there is none.
+pub(crate) fn numbers_at(
+    alloc: Global,
+    numbers: &[i64],
+    indices: &[u32],
+) -> Result<Vec<i64>, AllocError> {
+    let mut found = Vec::with_capacity(alloc, indices.len())?;
+    for index in indices {
+        found.push(at(numbers, *index as usize))?;
+    }
+    Ok(found)
 }
 
 /// Sets the numbers to the others.

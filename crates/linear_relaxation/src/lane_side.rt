@@ -43,6 +43,59 @@ impl LaneSide {
         })
     }
 
+    /// Those of the numbers that have these indices, each of which meets those of its list, of others that lanes have
+    /// as told here.
+    pub(crate) fn part(
+        &self,
+        alloc: Global,
+        indices: &[u32],
+        meets: &NumberLists,
+        others: &[f32x8],
+    ) -> Result<LaneSide, AllocError> {
+        let none = f32x8::splat(0.0);
+        let mut part = LaneSide::new(alloc, meets, others.len())?;
+        put_sums(part.sums.as_mut_slice(), others);
+        let numbers = part.numbers.as_mut_slice();
+        let counts = part.counts.as_mut_slice();
+        for (number, index) in indices.iter().enumerate() {
+            let index = *index as usize;
+            if number < numbers.len() && number < counts.len() {
+                let count = sum_of_runs(part.sums.as_slice(), part.runs.list(number));
+                let has_it = lanes_at(self.steps.as_slice(), index).simd_gt(none);
+                numbers[number] = lanes_at(self.numbers.as_slice(), index);
+                counts[number] = has_it.select(count, f32x8::splat(f32::INFINITY));
+            }
+        }
+        part.make_ready();
+        Ok(part)
+    }
+
+    /// Which lanes have the numbers at these indices: 1 where one has it, 0 where it doesn't.
+    pub(crate) fn presence(
+        &self,
+        alloc: Global,
+        indices: &[u32],
+    ) -> Result<Vec<f32x8>, AllocError> {
+        let none = f32x8::splat(0.0);
+        let mut found = Vec::with_capacity(alloc, indices.len())?;
+        for index in indices {
+            let has_it = lanes_at(self.steps.as_slice(), *index as usize).simd_gt(none);
+            found.push(has_it.select(f32x8::splat(1.0), none))?;
+        }
+        Ok(found)
+    }
+
+    /// Sets the numbers at these indices.
+    pub(crate) fn put_at(&mut self, indices: &[u32], numbers: &[f32x8]) {
+        let own = self.numbers.as_mut_slice();
+        for (number, index) in indices.iter().enumerate() {
+            let index = *index as usize;
+            if index < own.len() {
+                own[index] = lanes_at(numbers, number);
+            }
+        }
+    }
+
     /// Begins with these numbers in all lanes, each of which meets those of its list.
     pub(crate) fn begin(&mut self, numbers: &[f32], meets: &NumberLists) {
         let own = self.numbers.as_mut_slice();

@@ -3,14 +3,18 @@
 //! is promised of it but that it ends and stays in bounds: judges accept or refuse what is made of it.
 #![tactic(auto)]
 
+mod active_set;
 mod fewer_cells;
 mod fixed_point;
+mod lane_numbers;
 mod lane_side;
+mod lane_steps;
 mod lanes;
 mod relaxation;
 mod rounding;
 mod runs;
 mod side;
+mod sides;
 mod whole_weights;
 
 pub use fixed_point::{BITS, ONE, add_at, at, most_at, ones};

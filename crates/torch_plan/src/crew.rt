@@ -7,7 +7,6 @@ ghost use Rattle.search_traits.specs.Planning.{IsRegionPlan};
 ghost use Rattle.search_traits.specs.Turns.{IsWithin};
 ghost use Rattle.torch_plan.specs.Crew.{of_pool};
 
-use crate::slow_nodes::has_slow_nodes;
 use instance_regions::{Cover, Region};
 use plan_options::Workers;
 use search_core::{
@@ -26,10 +25,6 @@ use std::thread::Threads;
 
 /// A region of no more places is planned by many workers as it is: it makes few pieces.
 const FEW: usize = 128;
-
-/// So many turns of a larger region are one worker's alone where each takes long; else as many as are worked on before
-/// places are picked. What so many close one closes soonest.
-const SLOW_ALONE: u64 = 32;
 
 /// More workers than one, with their strategy, the handles for their threads, and an observer, who may hold them back.
 #[derive(Drop)]
@@ -69,12 +64,7 @@ impl<'e, X: Threads + Wait + Sync, S: Strategy + Send + Sync, O: Observer> Crew<
         if region.places().len() <= FEW {
             return self.plan_by_many(alloc, region, turns, None);
         }
-        let alone = if has_slow_nodes(region.as_ref()) {
-            SLOW_ALONE
-        } else {
-            BY_CELLS
-        };
-        let first = first_of(turns, alone);
+        let first = first_of(turns, BY_CELLS);
         match plan_by_one::<S, O>(alloc, region, Some(first), self.observer) {
             Ok(plan) => Ok(plan),
             Err(RegionFault::Stopped { cover, floor, .. }) => {

@@ -8,7 +8,6 @@ mod environment;
 mod memory;
 mod planner;
 mod runs;
-mod slow_nodes;
 mod status;
 mod system;
 

@@ -39,7 +39,8 @@ impl<'a> Shortfall<'a> {
                 kids.tell(&mut lanes, lane, *kid as usize, earlier);
             }
             lanes.make_ready();
-            run_lanes(&mut lanes, &vec![in alloc; short_of; some.len()]?, KID_RUNS);
+            let short_of_all = vec![in alloc; short_of; some.len()]?;
+            run_lanes(alloc, &mut lanes, &short_of_all, KID_RUNS)?;
             for (lane, kid) in some.iter().enumerate() {
                 let name = KidName {
                     place: *kid,

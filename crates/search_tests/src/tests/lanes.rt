@@ -35,7 +35,7 @@ fn each_lane_shows_its_own_value(rt: HostRuntime) -> Result<(), Fail> {
     lanes.light(2, 0);
     lanes.make_ready();
     for _ in 0..4u32 {
-        lanes.run();
+        lanes.run(alloc)?;
     }
     assert_eq!(rt; hundredths(&lanes, 0), 150);
     assert_eq!(rt; hundredths(&lanes, 1), 200);
