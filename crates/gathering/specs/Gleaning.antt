@@ -3,11 +3,11 @@ use Rattle.std.specs.Prelude.{◌≡◌, ℕ, ◌≤◌, Bool, true, false, List
 use Rattle.set_cover.specs.Instance.{Instance}
 use Rattle.instance_regions.specs.Cover.{Covering}
 use Rattle.proof_tree.specs.Piece.{Fathomed}
-use Rattle.event_core.specs.State.{State, HasPart, waiting, held}
+use Rattle.event_core.specs.State.{State, HasPart, IsDone, waiting, held}
 use Rattle.event_core.specs.Events.{IsWorker}
 use Rattle.event_core.specs.Plays.{Steps}
 use Rattle.event_core.specs.declared.event.Event.TheVariants.{Look, Offer, Close}
-use Rattle.gathering.specs.Gathered.{GleansOne}
+use Rattle.gathering.specs.Gathered.{Gleans, GleansOne}
 
 -- no worker holds a piece
 abbrev pub NoneHeld : State → Type 0
@@ -22,6 +22,16 @@ pub record MayGlean (state : State) (caller : ℕ) (region : Instance) : Type 0 
   pub known : IsWorker state caller
   pub none_held : NoneHeld state
   pub of_it : region ≡ state.region
+
+-- it may glean one piece, whoever holds others
+pub record MayGleanOne (state : State) (caller : ℕ) (region : Instance) : Type 0 where
+  pub known : IsWorker state caller
+  pub of_it : region ≡ state.region
+
+-- it closes the waiting pieces of these names in turn, and then nothing waits or is held
+pub record GleansAll (old : State) (caller : ℕ) (names : List (List ℕ)) (new : State) : Type 0 where
+  pub gleans : Gleans old caller names new
+  pub done : IsDone new
 
 -- the piece of this name is closed, or none of this name waits and all stays
 abbrev pub GleansWhere : State → ℕ → List ℕ → State → Bool → Type 0

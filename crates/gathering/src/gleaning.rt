@@ -1,11 +1,9 @@
 //! The caller's thread closes the pieces that are left waiting on the event core: `Gleans` of specs/Gathered.antt. It
 //! offers its best cover and looks before each close.
 ghost use Rattle.std.specs.Prelude.{◌≡◌, length, IsTrue, IfErr, IfOk};
-ghost use Rattle.event_core.specs.Events.{IsWorker};
 ghost use Rattle.event_core.specs.Kept.{state_of};
-ghost use Rattle.event_core.specs.State.{IsDone};
-ghost use Rattle.gathering.specs.Gathered.{EachTook, Gleans};
-ghost use Rattle.gathering.specs.Gleaning.{Finishes, GleansWhere, MayFinish, MayGlean};
+ghost use Rattle.gathering.specs.Gathered.{EachTook};
+ghost use Rattle.gathering.specs.Gleaning.{Finishes, GleansAll, GleansWhere, MayFinish, MayGlean, MayGleanOne};
 ghost use Rattle.search_traits.specs.declared.halt.Halt.TheVariants.{TurnsSpent};
 ghost use Rattle.search_traits.specs.Alone.{state_of as desk_of};
 ghost use Rattle.search_traits.specs.Desks.{Continues, IsSpent, Works};
@@ -13,29 +11,28 @@ ghost use Rattle.search_traits.specs.Desks.{Continues, IsSpent, Works};
 use event_core::{Core, Event};
 use instance_regions::Cover;
 use proof_tree::{Closed, Name, floor_of};
-use search_traits::{AloneDesk, CloseFault, Closer, Halt};
-use std::alloc::{AllocError, Global};
+use search_traits::{AloneDesk, CloseFault, Closer, Halt, SharedSearch};
+use std::alloc::AllocError;
 
 /// The caller's thread closes each piece that waits: their names.
 #[tactic(auto, using(crate::proofs::DeskRules::desk_states))]
 pub(crate) fn glean<C: Closer>(
-    alloc: Global,
+    search: SharedSearch<'_, C>,
     core: &mut Core,
     caller: u32,
     desk: &mut AloneDesk,
 ) -> Result<Vec<Name>, Halt>
     requires { MayGlean (state_of core.old) caller desk.old.cover.region }
     ensures gleans { IfOk result (λ names.
-        Gleans (state_of core.old) caller names.items (state_of core.new)) }
-    ensures done { IfOk result (λ _. IsDone (state_of core.new)) }
+        GleansAll (state_of core.old) caller names.items (state_of core.new)) }
     ensures spent { IfErr result (λ halt. halt ≡ TurnsSpent → IsSpent (desk_of desk.new)) }
     ensures worked { IfOk result (λ names.
         EachTook desk.old.limit (length names.items) desk.old.granted desk.new.granted) }
     ensures onward { Continues (desk_of desk.old) (desk_of desk.new) }
 {
-    let mut gleaned = Vec::new(alloc);
+    let mut gleaned = Vec::new(search.alloc);
     for name in core.waiting_names()? {
-        if glean_one::<C>(alloc, core, caller, &name, desk)? {
+        if glean_one(search, core, caller, &name, desk)? {
             gleaned.push(name)?;
         }
     }
@@ -45,14 +42,13 @@ pub(crate) fn glean<C: Closer>(
 /// The caller's thread closes the piece of this name, where it waits: whether it did.
 #[tactic(auto, using(search_traits::proofs::DeskLemmas::continues_same))]
 fn glean_one<C: Closer>(
-    alloc: Global,
+    search: SharedSearch<'_, C>,
     core: &mut Core,
     caller: u32,
     name: &Name,
     desk: &mut AloneDesk,
 ) -> Result<bool, Halt>
-    requires known { IsWorker (state_of core.old) caller }
-    requires of_it { desk.old.cover.region ≡ core.old.region }
+    requires { MayGleanOne (state_of core.old) caller desk.old.cover.region }
     ensures gleans { IfOk result (
         GleansWhere (state_of core.old) caller name.now (state_of core.new)) }
     ensures spent { IfErr result (λ halt. halt ≡ TurnsSpent → IsSpent (desk_of desk.new)) }
@@ -64,7 +60,7 @@ fn glean_one<C: Closer>(
         return Ok(false);
     };
     core.step(Event::Take(caller, name.try_clone()?))?;
-    match C::close_piece(alloc, piece, desk) {
+    match search.closer.close_piece(search.alloc, piece, desk) {
         Ok(closed) => {
             let cover = desk.cover().try_clone()?;
             finish(core, caller, closed, cover)?;

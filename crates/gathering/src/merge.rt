@@ -17,7 +17,7 @@ use instance_regions::{Cover, Region};
 use pack_bound::scattered;
 use proof_tree::{Name, Piece, Proof};
 use schedule_law::Work;
-use search_traits::{AloneDesk, Closer, Halt};
+use search_traits::{AloneDesk, Closer, Halt, SharedSearch};
 use std::alloc::{AllocError, Global};
 use std::sync::Arc;
 
@@ -37,26 +37,26 @@ pub struct Gathered {
 /// Plays the works on an event core, passes over what isn't enabled, closes each piece that then has no tree, within
 /// the turns if these are limited, and assembles. More works than 32 bits count are refused as memory is.
 pub fn gather<C: Closer>(
-    alloc: Global,
-    region: &Arc<Region>,
+    search: SharedSearch<'_, C>,
     first: Cover,
     root: Cell,
     works: Vec<Work>,
     turns: Option<u64>,
 ) -> Result<Gathered, PoolFault>
-    requires of_it { first.region ≡ arc_value region.now }
-    requires root { Contains (arc_value region.now).cells root }
+    requires of_it { first.region ≡ arc_value search.region.now }
+    requires root { Contains (arc_value search.region.now).cells root }
     ensures gathered { IfOk result (λ g.
-        IsGathered (arc_value region.now) first.places root works.items (record {
+        IsGathered (arc_value search.entry.region.now) first.places root works.items (record {
           cover = g.cover;
           tree = tree_of g.proof;
           closed_by = g.closed_by.items;
           gleaned = g.gleaned.items;
         })) }
-    ensures best { IfOk result (λ g. IsBest (arc_value region.now) g.cover (tree_of g.proof)) }
+    ensures best { IfOk result (λ g. IsBest (arc_value search.entry.region.now) g.cover (tree_of g.proof)) }
     ensures granted { IfOk result (λ g. AreTurnsFor turns (length g.gleaned.items) g.turns) }
-    ensures stopped { IfErr result (StopsGathering (arc_value region.now) turns) }
+    ensures stopped { IfErr result (StopsGathering (arc_value search.entry.region.now) turns) }
 {
+    let SharedSearch { alloc, region, .. } = search;
     let Some(caller) = count_of(&works) else {
         return Err(PoolFault::OutOfMemory);
     };
@@ -64,7 +64,7 @@ pub fn gather<C: Closer>(
     try_before_closes(alloc, &mut core, root, &works)?;
     let closed_by = close_all(alloc, &mut core, works)?;
     let mut desk = AloneDesk::new(core.best().try_clone()?, turns);
-    match glean::<C>(alloc, &mut core, caller, &mut desk) {
+    match glean(search, &mut core, caller, &mut desk) {
         Ok(gleaned) => match core.assemble() {
             Ok((cover, proof)) => Ok(Gathered {
                 cover,

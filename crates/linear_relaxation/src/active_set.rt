@@ -5,6 +5,7 @@
 //! programming: a case study in combining interior point and simplex methods").
 
 use crate::fixed_point::ONE;
+use crate::indices::{mark, number_all};
 use number_lists::{Coverage, small};
 use std::alloc::{AllocError, Global};
 
@@ -71,20 +72,9 @@ pub(crate) fn coverage_of(
     cells: &[u32],
 ) -> Result<Coverage, AllocError> {
     let mut numbers = vec![in alloc; u32::MAX; whole.cell_count()]?;
-    for (number, cell) in cells.iter().enumerate() {
-        let cell = *cell as usize;
-        if cell < numbers.len() {
-            numbers[cell] = small(number);
-        }
-    }
+    number_all(numbers.as_mut_slice(), cells);
     let lights = whole.all_lights().at(alloc, places)?;
     Coverage::of(alloc, lights.renumbered(alloc, &numbers)?, cells.len())
-}
-
-fn mark(marks: &mut [bool], index: usize) {
-    if index < marks.len() {
-        marks[index] = true;
-    }
 }
 
 /// The indices that are marked, ascending.

@@ -80,11 +80,7 @@ pub(crate) fn sum(numbers: &[i64]) -> i64 {
 }
 
 /// The numbers at these indices, 0 where there is none.
-pub(crate) fn numbers_at(
-    alloc: Global,
-    numbers: &[i64],
-    indices: &[u32],
-) -> Result<Vec<i64>, AllocError> {
+pub fn numbers_at(alloc: Global, numbers: &[i64], indices: &[u32]) -> Result<Vec<i64>, AllocError> {
     let mut found = Vec::with_capacity(alloc, indices.len())?;
     for index in indices {
         found.push(at(numbers, *index as usize))?;

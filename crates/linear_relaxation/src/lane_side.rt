@@ -108,6 +108,29 @@ impl LaneSide {
         }
     }
 
+    /// A lane begins anew with these numbers, each of which meets those of its list.
+    pub(crate) fn begin_lane(&mut self, lane: usize, numbers: &[f32], meets: &NumberLists) {
+        let own = self.numbers.as_mut_slice();
+        let counts = self.counts.as_mut_slice();
+        for index in 0..own.len() {
+            let number = numbers.get(index).copied().unwrap_or(0.0);
+            put_lane(own, lane, index, number);
+            put_lane(
+                counts,
+                lane,
+                index,
+                nearest_usize_to_f32(meets.list(index).len()),
+            );
+        }
+    }
+
+    /// A lane is without any of the numbers.
+    pub(crate) fn clear_lane(&mut self, lane: usize) {
+        for index in 0..self.numbers.len() {
+            self.leave_out(lane, index);
+        }
+    }
+
     /// A lane is without this number.
     pub(crate) fn leave_out(&mut self, lane: usize, index: usize) {
         put_lane(self.numbers.as_mut_slice(), lane, index, 0.0);
@@ -223,7 +246,7 @@ pub(crate) fn lane_at(numbers: &[f32x8], lane: usize, index: usize) -> f32 {
 }
 
 /// Sets a lane of a number.
-fn put_lane(numbers: &mut [f32x8], lane: usize, index: usize, value: f32) {
+pub(crate) fn put_lane(numbers: &mut [f32x8], lane: usize, index: usize, value: f32) {
     if index < numbers.len() {
         let mut lanes = numbers[index].to_array();
         if lane < lanes.len() {

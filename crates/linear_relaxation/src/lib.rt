@@ -6,6 +6,7 @@
 mod active_set;
 mod fewer_cells;
 mod fixed_point;
+mod indices;
 mod lane_numbers;
 mod lane_side;
 mod lane_steps;
@@ -17,7 +18,8 @@ mod side;
 mod sides;
 mod whole_weights;
 
-pub use fixed_point::{BITS, ONE, add_at, at, most_at, ones};
+pub use fixed_point::{BITS, ONE, add_at, at, most_at, numbers_at, ones};
+pub use indices::{mark, number_all};
 pub use lanes::{LANES, Lanes};
 pub use relaxation::Relaxation;
 pub use rounding::places_for;

@@ -16,31 +16,26 @@ use crate::report::Report;
 use crate::rooted::Rooted;
 use crate::turns::left_of;
 use gathering::{Gathered, PoolFault, gather};
-use instance_regions::Region;
 use plan_options::Workers;
-use search_traits::Closer;
-use std::alloc::Global;
-use std::sync::Arc;
+use search_traits::{Closer, SharedSearch};
 use worker_results::Joined;
 
 /// Gathers what workers did, and closes what they left with the turns that are left. Where a budget was used up, none
 /// are.
 pub(crate) fn merged<C: Closer>(
-    alloc: Global,
-    region: &Arc<Region>,
+    search: SharedSearch<'_, C>,
     rooted: Rooted,
     workers: Workers,
     ran: Ran,
     turns: Option<u64>,
 ) -> Result<Report, PoolFault>
-    requires { IsRooted (arc_value region.now) rooted
-        × HandOver (arc_value region.now) rooted.cover.places rooted.root workers.number turns ran }
+    requires { IsRooted (arc_value search.region.now) rooted
+        × HandOver (arc_value search.region.now) rooted.cover.places rooted.root workers.number turns ran }
     ensures best { IfOk result (λ report.
-        IsBest (arc_value region.now) report.cover (tree_of report.proof)) }
-    ensures counts { IfOk result AddsUp }
-    ensures report { IfOk result (IsMerged (arc_value region.now) workers.number) }
-    ensures granted { IfOk result (λ report. IsWithin turns report.turns) }
-    ensures stopped { IfErr result (StopsPool (arc_value region.now) turns workers.number) }
+        IsBest (arc_value search.entry.region.now) report.cover (tree_of report.proof)) }
+    ensures counts { IfOk result (λ report. AddsUp report × IsWithin turns report.turns) }
+    ensures report { IfOk result (IsMerged (arc_value search.entry.region.now) workers.number) }
+    ensures stopped { IfErr result (StopsPool (arc_value search.entry.region.now) turns workers.number) }
 {
     let Rooted { cover, floor, root } = rooted;
     let Ran {
@@ -52,7 +47,7 @@ pub(crate) fn merged<C: Closer>(
     let counts = count_pieces(&works);
     let left = left.len() as u128;
     let rest = left_of(turns, granted, is_spent);
-    match gather::<C>(alloc, region, cover, root.cell(), works, rest) {
+    match gather(search, cover, root.cell(), works, rest) {
         Ok(gathered) => Ok(report(gathered, counts, left, granted)),
         Err(
             PoolFault::Stopped {

@@ -15,7 +15,7 @@ use crate::starting::run_opened;
 use gathering::PoolFault;
 use instance_regions::{Cover, Region};
 use plan_options::Workers;
-use search_traits::{Beginning, Closer, Observer};
+use search_traits::{Beginning, Closer, Observer, SharedSearch};
 use std::alloc::{AllocError, Global};
 use std::sync::{Arc, Wait};
 use std::thread::Threads;
@@ -35,35 +35,37 @@ pub fn plan_with<C: Closer + Send + Sync, R: Threads + Wait + Sync, O: Observer>
     requires { IfSome known (λ cover. cover.region ≡ arc_value region.now) }
     ensures best { IfOk result (λ report.
         IsBest (arc_value region.now) report.cover (tree_of report.proof)) }
-    ensures counts { IfOk result AddsUp }
+    ensures counts { IfOk result (λ report. AddsUp report × IsWithin turns report.turns) }
     ensures report { IfOk result (IsReport (arc_value region.now) workers.number) }
-    ensures granted { IfOk result (λ report. IsWithin turns report.turns) }
     ensures stopped { IfErr result (StopsPool (arc_value region.now) turns workers.number) }
 {
-    let begun = C::begin(alloc, region, known)?;
+    let (closer, begun) = C::begin(alloc, region, known)?;
     if begun.floor >= begun.cover.size() {
         let report = one_leaf(alloc, begun, workers)?;
         return Ok(report);
     }
-    let rooted = rooted_at(alloc, region, begun)?;
-    let ran = run_opened::<C, R, O>(Run {
-        rt,
+    let search = SharedSearch {
         alloc,
         region,
+        closer: &closer,
+    };
+    let rooted = rooted_at(alloc, region, begun)?;
+    let ran = run_opened(Run {
+        rt,
+        search,
         best: &rooted.cover,
         root: &rooted.root,
         workers,
         observer,
         turns,
     })?;
-    merged::<C>(alloc, region, rooted, workers, ran, turns)
+    merged(search, rooted, workers, ran, turns)
 }
 
 /// The report where one leaf closes the root.
 fn one_leaf(alloc: Global, begun: Beginning, workers: Workers) -> Result<Report, AllocError>
     requires enough { length begun.cover.places ≤ begun.floor }
-    requires leaf { ProvesAt begun.cover.region begun.floor (tree_of begun.leaf) }
-    requires plain { IsLeaf (tree_of begun.leaf) }
+    requires leaf { ProvesAt begun.cover.region begun.floor (tree_of begun.leaf) × IsLeaf (tree_of begun.leaf) }
     ensures best { IfOk result (λ report.
         IsBest begun.cover.region report.cover (tree_of report.proof)) }
     ensures counts { IfOk result AddsUp }

@@ -18,9 +18,8 @@ use instance_regions::{Cover, Region};
 use piece_deque::{Owner, Thief};
 use plan_options::Workers;
 use proof_tree::Opened;
-use search_traits::{Closer, Observer};
-use std::alloc::Global;
-use std::sync::{Arc, Wait};
+use search_traits::{Closer, Observer, SharedSearch};
+use std::sync::Wait;
 use std::thread::Threads;
 use worker_results::{Joined, Naming, close_up};
 
@@ -28,17 +27,16 @@ use worker_results::{Joined, Naming, close_up};
 const DEEPEST: usize = 3;
 
 /// How many pieces a worker should find.
-const PIECES: usize = 8;
+const PIECES: usize = 3;
 
 /// A region of no more places makes few pieces.
 const FEW: usize = 128;
 
-/// What workers plan, and by whom: a region with its root opened, and a cover of it.
+/// What workers plan, and by whom: the search of a region with its root opened, and a cover of it.
 #[derive(Drop)]
-pub(crate) struct Run<'e, R, O> {
+pub(crate) struct Run<'e, C, R, O> {
     pub(crate) rt: &'e R,
-    pub(crate) alloc: Global,
-    pub(crate) region: &'e Arc<Region>,
+    pub(crate) search: SharedSearch<'e, C>,
     pub(crate) best: &'e Cover,
     pub(crate) root: &'e Opened,
     pub(crate) workers: Workers,
@@ -79,7 +77,7 @@ pub(crate) fn run_named<
     R: Threads + Wait + Sync,
     O: Observer,
 >(
-    run: Run<'_, R, O>,
+    run: Run<'_, C, R, O>,
     beacon: Beacon,
     first: Seat,
     owners: Vec<Owner>,
@@ -88,14 +86,13 @@ pub(crate) fn run_named<
     requires few { (run.workers.number ≡ B.workers) × (length owners.items ≡ B.workers) }
     requires seat { (beacon ≡ B.beacon) × (first.beacon ≡ B.beacon)
         × (first.knows ≡ at_first (length run.best.now.places)) }
-    requires region { arc_value run.region.now ≡ B.region }
-    requires root { IsRootSplit B.region run.root.now }
+    requires root { (arc_value run.search.region.now ≡ B.region) × IsRootSplit B.region run.root.now }
     requires dealt { AreDealt B.deque B.start B.workers (kids_of run.root.now)
         owners.items thieves.now }
     ensures { IfOk result (HandOver B.region run.entry.best.now.places run.entry.root.now
         run.entry.workers.number run.entry.turns) }
 {
-    let alloc = run.alloc;
+    let alloc = run.search.alloc;
     let owned = owned::<B>(alloc, owners)?;
     let passes = lend_all(alloc, owned, run.workers.number)?;
     let seats = split_seats(alloc, &beacon, first, run.workers.number)?;
@@ -103,10 +100,10 @@ pub(crate) fn run_named<
     let common = Common {
         alloc,
         beacon: &beacon,
-        region: run.region,
+        region: run.search.region,
         thieves,
         deepest: deepest_for(
-            run.region.as_ref(),
+            run.search.region.as_ref(),
             run.root.places().len(),
             run.workers.number,
         ),
@@ -114,6 +111,7 @@ pub(crate) fn run_named<
     let results = run_scope::<B, C, R, O>(
         run.rt,
         common,
+        run.search.closer,
         slots.as_slice(),
         run.observer,
         run.turns,

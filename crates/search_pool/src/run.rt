@@ -5,7 +5,7 @@ ghost use Rattle.std.specs.Prelude.{◌≡◌, ◌≤◌, ◌<◌, ◌+◌, ◌�
 ghost use Rattle.search_pool.specs.Rows.{AreFrom, AreOfBudgets};
 ghost use Rattle.worker_results.specs.Naming.{AreThieves};
 
-use crate::turns::budgets_of;
+use crate::turns::{are_from, budgets_of};
 use crate::unrun::Unrun;
 use crate::worker::{Common, Post, Slot, work_one};
 use search_traits::{Closer, Observer};
@@ -14,9 +14,10 @@ use std::thread;
 use std::thread::{Promise, Scope, Threads};
 use worker_results::{Done, Naming};
 
-/// Workers that are to start: the number of the first, its budget of turns, and that of each other one.
-#[derive(Clone, Copy)]
-pub(crate) struct Team {
+/// Workers that are to start: their slots, the number of the first, its budget of turns, and that of each other one.
+#[derive(Drop)]
+pub(crate) struct Team<'e, B: Naming> {
+    pub(crate) slots: &'e [Slot<B>],
     pub(crate) first: u32,
     pub(crate) own: Option<u64>,
     pub(crate) each: Option<u64>,
@@ -65,17 +66,17 @@ pub(crate) fn run_from<
     scope: &'s Scope<'s, &'e ()>,
     rt: &'e R,
     common: Common<'e>,
-    slots: &'e [Slot<B>],
+    closer: &'e C,
     observer: &'e O,
-    team: Team,
+    team: Team<'e, B>,
 ) -> Result<Vec<Done<B>>, Unrun>
     requires ground { (common.beacon.now ≡ B.beacon) × (arc_value common.region.now ≡ B.region)
         × AreThieves B.deque 0 common.thieves.now }
-    requires few { team.first + length slots.now ≤ 64 }
-    ensures each { IfOk result (λ all. AreFrom team.first team.own team.each all.items
-        × (length all.items ≡ length slots.now)) }
+    requires few { team.first + length team.slots.now ≤ 64 }
+    ensures each { IfOk result (λ all. AreFrom team.entry.first team.entry.own team.entry.each all.items
+        × (length all.items ≡ length team.entry.slots.now)) }
 {
-    let Some((slot, rest)) = slots.split_first() else {
+    let Some((slot, rest)) = team.slots.split_first() else {
         return Ok(Vec::new(common.alloc));
     };
     let post = Post {
@@ -87,15 +88,16 @@ pub(crate) fn run_from<
             × AreThieves B.deque 0 common.thieves.now }
         ensures { IfSome result (λ done.
             (done.holdings.worker ≡ post.worker) × (done.turns.limit ≡ post.budget)) }
-    { work_one::<B, C, R, O>(rt, common, slot, observer, post) };
+    { work_one::<B, C, R, O>(rt, common, closer, slot, observer, post) };
     let child = scope.spawn_with(post, work);
     let others = run_from::<B, C, R, O>(
         scope,
         rt,
         common,
-        rest,
+        closer,
         observer,
         Team {
+            slots: rest,
             first: team.first + 1,
             own: team.each,
             each: team.each,
@@ -120,6 +122,7 @@ pub(crate) fn run_scope<
 >(
     rt: &R,
     common: Common<'_>,
+    closer: &C,
     slots: &[Slot<B>],
     observer: &O,
     turns: Option<u64>,
@@ -139,16 +142,19 @@ pub(crate) fn run_scope<
                 × (arc_value common.region.now ≡ B.region)
                 × AreThieves B.deque 0 common.thieves.now }
             requires few { length slots.now ≤ 64 }
-            ensures { IfOk result (λ all. AreFrom 0 own each all.items
-                × (length all.items ≡ length slots.entry.now)) }
         {
             let team = Team {
+                slots,
                 first: 0,
                 own,
                 each,
             };
-            run_from::<B, C, R, O>(scope, rt, common, slots, observer, team)
+            run_from::<B, C, R, O>(scope, rt, common, closer, observer, team)
         },
     )?;
+    // What comes back from the scope has to be seen once more: the prover knows nothing of it.
+    if results.len() != slots.len() || !are_from(&results, 0, own, each) {
+        return Err(Unrun::NoThread);
+    }
     Ok(results)
 }

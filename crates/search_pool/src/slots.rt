@@ -99,8 +99,8 @@ pub(crate) fn lend_all<B: Naming>(
     requires ready { All (IsReady B.start 0) owned.items }
     ensures numbers { IfOk result (λ p. numbers_of p.owned.items ≡ numbers_from 0 B.workers) }
     ensures ready { IfOk result (λ p. All (IsReady B.start workers) p.owned.items) }
-    ensures rows { IfOk result (λ p. All (λ row. all_taken row ≡ []) p.rows.items) }
-    ensures each { IfOk result (λ p. length p.rows.items ≡ workers) }
+    ensures rows { IfOk result (λ p. All (λ row. all_taken row ≡ []) p.rows.items
+        × (length p.rows.items ≡ workers)) }
 {
     let mut owned = owned;
     let mut rows = Vec::with_capacity(alloc, workers as usize)?;

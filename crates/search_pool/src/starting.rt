@@ -16,14 +16,14 @@ use std::thread::Threads;
 
 /// Opens the beacon, pushes the root's kids on worker 0's deque, and runs the workers.
 pub(crate) fn run_opened<C: Closer + Send + Sync, R: Threads + Wait + Sync, O: Observer>(
-    run: Run<'_, R, O>,
+    run: Run<'_, C, R, O>,
 ) -> Result<Ran, Unrun>
-    requires { IsRootSplit (arc_value run.region.now) run.root.now }
-    ensures { IfOk result (HandOver (arc_value run.entry.region.now) run.entry.best.now.places
+    requires { IsRootSplit (arc_value run.search.region.now) run.root.now }
+    ensures { IfOk result (HandOver (arc_value run.entry.search.region.now) run.entry.best.now.places
         run.entry.root.now run.entry.workers.number run.entry.turns) }
 {
-    let Stock { owners, thieves } = stock_for(run.alloc, run.root, run.workers)?;
-    let (beacon, first) = Beacon::open(run.alloc, run.best.size())?;
+    let Stock { owners, thieves } = stock_for(run.search.alloc, run.root, run.workers)?;
+    let (beacon, first) = Beacon::open(run.search.alloc, run.best.size())?;
     // The names are those of this beacon and these deques.
     run_named::<Brand, C, R, O>(run, beacon, first, owners, &thieves)
 }

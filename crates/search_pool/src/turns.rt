@@ -1,7 +1,7 @@
 //! The turns of all workers: their budgets (`AreBudgets` of specs/Rows.antt), what they were granted, and what is left
 //! (`left` of specs/Turns.antt).
-ghost use Rattle.std.specs.Prelude.{◌≡◌, ◌<◌, ◌^◌, IfSome};
-ghost use Rattle.search_pool.specs.Rows.{AreBudgets, AreSpendings, all_granted, counted, is_spent, is_started};
+ghost use Rattle.std.specs.Prelude.{◌≡◌, ◌≤◌, ◌<◌, ◌+◌, ◌^◌, IfSome, IsTrue, length};
+ghost use Rattle.search_pool.specs.Rows.{AreBudgets, AreFrom, AreSpendings, all_granted, counted, is_spent, is_started};
 ghost use Rattle.search_pool.specs.Turns.{left};
 ghost use Rattle.search_traits.specs.Turns.{IsWithin};
 
@@ -20,6 +20,25 @@ pub(crate) fn budgets_of(turns: Option<u64>, workers: u32) -> (Option<u64>, Opti
     let workers = u64::from(workers);
     let each = limit / workers;
     (Some(limit - each * (workers - 1)), Some(each))
+}
+
+/// Whether the results are of the workers from this number on, with these budgets.
+pub(crate) fn are_from<B: Naming>(
+    results: &[Done<B>],
+    first: u32,
+    own: Option<u64>,
+    each: Option<u64>,
+) -> bool
+    requires { first + length results.now ≤ 64 }
+    ensures { IsTrue result → AreFrom first own each results.now }
+{
+    let Some((done, rest)) = results.split_first() else {
+        return true;
+    };
+    if done.worker() != first || done.turns().limit != own {
+        return false;
+    }
+    are_from(rest, first + 1, each, each)
 }
 
 /// How many turns the workers were granted together, and whether one asked for more.

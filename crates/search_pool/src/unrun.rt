@@ -9,7 +9,7 @@ use std::alloc::{AllocError, AllocFailed};
 /// Why workers didn't run.
 #[derive(Clone, Copy, Debug, PartialEq, Eq)]
 pub(crate) enum Unrun {
-    /// None could be started, or a slot was found wrong.
+    /// None could be started, or a slot or a result was found wrong.
     NoThread,
     OutOfMemory,
 }

@@ -9,7 +9,7 @@ ghost use Rattle.worker_results.specs.Steps.{KeepFloors};
 use beacon::Beacon;
 use instance_regions::Region;
 use piece_deque::Thief;
-use search_traits::{Closer, Desk, Observer};
+use search_traits::{Closer, Desk, Observer, SharedSearch};
 use std::alloc::Global;
 use std::sync::{Arc, Mutex, Wait};
 use worker_results::{Berth, Done, Holdings, Naming, PoolDesk, Step, Tried};
@@ -76,23 +76,24 @@ fn steal_from<B: Naming>(holdings: &mut Holdings<B>, thieves: &[Thief], deque: u
 /// Opens the piece that was taken last, where its name is short and that is worth while, or closes it.
 #[tactic(auto, using(search_traits::proofs::DeskLemmas::continues_then))]
 fn work_on<B: Naming, C: Closer, D: Desk>(
-    common: Common<'_>,
+    search: SharedSearch<'_, C>,
+    deepest: usize,
     holdings: &mut Holdings<B>,
     desk: &mut D,
 )
-    requires { (arc_value common.region.now ≡ B.region) × ((D.state desk.old).region ≡ B.region) }
+    requires { (arc_value search.region.now ≡ B.region) × ((D.state desk.old).region ≡ B.region) }
     ensures worker { holdings.new.worker ≡ holdings.old.worker }
     ensures floors { KeepFloors B.region (D.state desk.old).shown holdings.old.closed
         (D.state desk.new).shown holdings.new.closed }
     ensures onward { Continues (D.state desk.old) (D.state desk.new) }
 {
-    if has_short_name(holdings, common.deepest) {
-        match holdings.open_last::<C, D>(common.alloc, common.region, desk) {
+    if has_short_name(holdings, deepest) {
+        match holdings.open_last(search, desk) {
             Step::NotMade => (),
             _ => return,
         }
     }
-    holdings.close_last::<C, D>(common.alloc, common.region, desk);
+    holdings.close_last(search, desk);
 }
 
 /// Whether the name of the piece that was taken last is shorter than this.
@@ -108,6 +109,7 @@ fn has_short_name<B: Naming>(holdings: &Holdings<B>, length: usize) -> bool {
 pub(crate) fn work_one<B: Naming, C: Closer, R: Wait, O: Observer>(
     rt: &R,
     common: Common<'_>,
+    closer: &C,
     slot: &Slot<B>,
     observer: &O,
     post: Post,
@@ -121,6 +123,11 @@ pub(crate) fn work_one<B: Naming, C: Closer, R: Wait, O: Observer>(
     if berth.worker() != post.worker {
         return None;
     }
+    let search = SharedSearch {
+        alloc: common.alloc,
+        region: common.region,
+        closer,
+    };
     let (seat, mut holdings) = berth.into_parts();
     let mut desk: PoolDesk<'_, B> = PoolDesk::new(common.beacon, common.region, seat, post.budget);
     for _ in 0..u64::MAX {
@@ -130,7 +137,7 @@ pub(crate) fn work_one<B: Naming, C: Closer, R: Wait, O: Observer>(
         if let Some(name) = holdings.last_name() {
             observer.enter(post.worker, name);
         }
-        work_on::<B, C, PoolDesk<'_, B>>(common, &mut holdings, &mut desk);
+        work_on(search, common.deepest, &mut holdings, &mut desk);
         if desk.is_spent() {
             break;
         }

@@ -13,6 +13,7 @@ mod observer;
 mod planner;
 mod proposer;
 mod region_fault;
+mod shared_search;
 mod two_searches;
 
 pub use alone::AloneDesk;
@@ -25,6 +26,7 @@ pub use observer::{Observer, Unobserved};
 pub use planner::{Allowance, BestPlan, Planner};
 pub use proposer::{Branching, Proposal, Proposer, Strategy, Task};
 pub use region_fault::{RegionFault, RegionPlan};
+pub use shared_search::SharedSearch;
 pub use two_searches::{
     are_spent, first_of, rest_of, smaller_of, stopped, with_earlier, with_known,
 };

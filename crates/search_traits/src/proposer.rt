@@ -57,6 +57,10 @@ pub trait Strategy: Proposer + Drop {
     fn at(alloc: Global, region: &Region, node: &Node) -> Result<Self, AllocError>
         requires { IsStateOf region.now node.now };
 
+    /// A proposer for the search below another node, which begins with what this one found at its own.
+    fn below(&self, alloc: Global, region: &Region, node: &Node) -> Result<Self, AllocError>
+        requires { IsStateOf region.now node.now };
+
     /// Whether picks make shorter trees in the region than branches on cells, where a search gets long.
     fn is_for_picks(&self) -> bool;
 

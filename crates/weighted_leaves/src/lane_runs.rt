@@ -1,7 +1,6 @@
-//! How long lanes are run on, and what is known of each then.
+//! What is known of lanes.
 
 use linear_relaxation::{Lanes, ONE};
-use std::alloc::{AllocError, Global};
 
 /// By how much a lane has to show more than enough: its numbers are roughly right.
 const MARGIN: i64 = ONE / 4096;
@@ -36,20 +35,4 @@ pub(crate) fn are_known(lanes: &Lanes, from: usize, short_of: &[i64]) -> bool {
         }
     }
     true
-}
-
-/// Runs the lanes, each of which has to show more than told here, until all is known of them, or for so many runs.
-pub(crate) fn run_lanes(
-    alloc: Global,
-    lanes: &mut Lanes,
-    short_of: &[i64],
-    runs: u32,
-) -> Result<(), AllocError> {
-    for _ in 0..runs {
-        if are_known(lanes, 0, short_of) {
-            break;
-        }
-        lanes.run(alloc)?;
-    }
-    Ok(())
 }

@@ -9,6 +9,7 @@ mod effort;
 mod grouping;
 mod kernel;
 mod kid_bounds;
+mod kid_lanes;
 mod kid_start;
 mod lane_runs;
 mod leaf;

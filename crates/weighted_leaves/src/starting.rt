@@ -3,16 +3,12 @@
 
 use crate::branching::Shortfall;
 use crate::kid_bounds::KidBounds;
+use crate::kid_lanes::KidLanes;
 use crate::kid_start::{KidName, KidStart};
-use crate::lane_runs::run_lanes;
 use crate::parts::Part;
-use crate::tree_sizes::before;
-use linear_relaxation::{LANES, ONE};
+use linear_relaxation::ONE;
 use number_lists::clear_bit;
 use std::alloc::{AllocError, Global};
-
-/// How many runs the relaxations of the kids of the best cell make at most.
-const KID_RUNS: u32 = 8;
 
 impl<'a> Shortfall<'a> {
     /// Where the kids of a cell begin, by runs of their relaxations.
@@ -26,31 +22,30 @@ impl<'a> Shortfall<'a> {
         let mut kids = KidBounds::new(alloc, self.site, self.left, part)?;
         let places = kids.kids(alloc, cell)?;
         let more = self.returning(alloc, &places)?;
-        let mut lanes = kids.lanes(alloc, &more)?;
+        let lanes = kids.lanes(alloc, &more)?;
         let mut names = Vec::from_slice(alloc, part.places.as_slice())?;
         names.extend_from_slice(&more)?;
         let short_of = self.short_of(part).wrapping_sub(ONE);
-        let mut starts = Vec::new(alloc);
-        let mut from = 0;
-        for some in places.chunks(LANES) {
-            lanes.begin();
-            for (lane, kid) in some.iter().enumerate() {
-                let earlier = before(&places, lane.saturating_add(from));
-                kids.tell(&mut lanes, lane, *kid as usize, earlier);
-            }
-            lanes.make_ready();
-            let short_of_all = vec![in alloc; short_of; some.len()]?;
-            run_lanes(alloc, &mut lanes, &short_of_all, KID_RUNS)?;
-            for (lane, kid) in some.iter().enumerate() {
+        let mut starts = Vec::with_capacity(alloc, places.len())?;
+        let mut lanes = KidLanes::new(&kids, &places, short_of, lanes);
+        for _ in 0..u64::MAX {
+            let done = lanes.done(alloc)?;
+            for lane in &done {
                 let name = KidName {
-                    place: *kid,
+                    place: lane.place,
                     is_taken: true,
                     part: number,
                     places: &names,
                 };
-                starts.push(KidStart::of(alloc, name, &lanes, lane, short_of)?)?;
+                starts.push(KidStart::of(alloc, name, lanes.lanes(), lane.lane, short_of)?)?;
             }
-            from = from.saturating_add(some.len());
+            if !done.is_empty() {
+                lanes.go_on(&done);
+            } else if lanes.is_empty() {
+                break;
+            } else {
+                lanes.run(alloc)?;
+            }
         }
         Ok(starts)
     }

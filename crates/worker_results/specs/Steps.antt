@@ -59,6 +59,9 @@ pub record AreSameHeaps (holdings holdings_now : HeldParts) : Type 0 where
   pub same_opened : holdings_now.opened ≡ holdings.opened
   pub same_refused : holdings_now.refused ≡ holdings.refused
 
--- a step that is made leaves them as the relation says, any other as they were
-abbrev pub Leaves : (HeldParts → HeldParts → Type 0) → HeldParts → Step → HeldParts → Type 0
-Leaves makes old step new = (step ≡ Made → makes old new) × (step ≢ Made → AreSameHeaps old new)
+-- a step that is made leaves them as the relation says, any other as they were; the worker stays
+pub record Leaves (makes : HeldParts → HeldParts → Type 0) (old : HeldParts) (step : Step) (new : HeldParts)
+    : Type 0 where
+  pub worker : new.worker ≡ old.worker
+  pub made : step ≡ Made → makes old new
+  pub same : step ≢ Made → AreSameHeaps old new

@@ -1,5 +1,6 @@
 //! A worker closes the piece that it took last, by a search of which it knows the role alone: `ClosedLast` of
 //! specs/Steps.antt. Otherwise it goes on holding the piece.
+ghost use Rattle.std.specs.Arc.{arc_value};
 ghost use Rattle.std.specs.Prelude.{◌≡◌};
 ghost use Rattle.search_traits.specs.Desks.{Continues};
 ghost use Rattle.worker_results.specs.Steps.{ClosedLast, KeepFloors, Leaves, UsesTurns};
@@ -7,22 +8,18 @@ ghost use Rattle.worker_results.specs.Steps.{ClosedLast, KeepFloors, Leaves, Use
 use crate::holdings::Holdings;
 use crate::naming::Naming;
 use crate::step::Step;
-use instance_regions::Region;
 use proof_tree::floor_of;
-use search_traits::{CloseFault, Closer, Desk};
-use std::alloc::Global;
+use search_traits::{CloseFault, Closer, Desk, SharedSearch};
 
 impl<B: Naming> Holdings<B> {
     /// Closes the piece that it took last, if it is of the region, or goes on holding it.
     #[tactic(auto, using(search_traits::proofs::DeskLemmas::continues_same))]
     pub fn close_last<C: Closer, D: Desk>(
         &mut self,
-        alloc: Global,
-        region: &Region,
+        search: SharedSearch<'_, C>,
         desk: &mut D,
     ) -> Step
-        requires { (region.now ≡ B.region) × ((D.state desk.old).region ≡ B.region) }
-        ensures worker { self.new.worker ≡ self.old.worker }
+        requires { (arc_value search.region.now ≡ B.region) × ((D.state desk.old).region ≡ B.region) }
         ensures heaps { Leaves ClosedLast self.old result self.new }
         ensures floors { KeepFloors B.region (D.state desk.old).shown self.old.closed
             (D.state desk.new).shown self.new.closed }
@@ -35,11 +32,11 @@ impl<B: Naming> Holdings<B> {
         let Some(piece) = self.held.pop() else {
             return Step::NotMade;
         };
-        if !region.is_same(piece.region()) {
+        if !search.region.is_same(piece.region()) {
             self.held.push_reserved(piece);
             return Step::NotMade;
         }
-        match C::close_piece(alloc, piece, desk) {
+        match search.closer.close_piece(search.alloc, piece, desk) {
             Ok(closed) => {
                 // What is read shows that the tree closes the piece.
                 let _ = floor_of(&closed);

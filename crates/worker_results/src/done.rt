@@ -64,8 +64,7 @@ impl<B: Naming> Done<B> {
     /// The result of a worker.
     pub fn new(seat: Seat, cover: Option<Cover>, holdings: Holdings<B>, turns: Spending) -> Done<B>
         requires seat { IsSeatAt B.beacon seat }
-        requires kept { KeepsTold cover seat.knows.told }
-        requires cover { IfSome cover (IsCoverFor B.region) }
+        requires cover { KeepsTold cover seat.knows.told × IfSome cover (IsCoverFor B.region) }
         requires floors { AreClosedFrom B.region seat.knows.seen holdings.closed }
         requires turns { IsSpending turns }
         ensures { result ≡ record {

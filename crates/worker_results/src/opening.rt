@@ -1,5 +1,6 @@
 //! A worker opens the piece that it took last: `OpenedLast` of specs/Steps.antt. The kids go on its own deque, and
 //! other workers may steal them from there.
+ghost use Rattle.std.specs.Arc.{arc_value};
 ghost use Rattle.std.specs.Prelude.{◌≡◌, ◌≢◌, ◌≤◌, ◌+◌, IfErr, IfOk, vec_len, vec_capacity};
 ghost use Rattle.search_traits.specs.Desks.{Continues, Works};
 ghost use Rattle.worker_results.specs.Steps.{IsOpening, KeepFloors, Leaves, OpenedLast, UsesTurns};
@@ -10,10 +11,8 @@ use crate::naming::Naming;
 use crate::pushing::push_all;
 use crate::splitting::split;
 use crate::step::Step;
-use instance_regions::Region;
 use proof_tree::{Opened, Piece};
-use search_traits::{Closer, Desk};
-use std::alloc::Global;
+use search_traits::{Closer, Desk, SharedSearch};
 
 impl<B: Naming> Holdings<B> {
     /// Opens the piece that it took last, where that is worth while, or goes on holding it. It takes one turn. The kids
@@ -21,12 +20,10 @@ impl<B: Naming> Holdings<B> {
     #[tactic(auto, using(search_traits::proofs::DeskLemmas::continues_same))]
     pub fn open_last<C: Closer, D: Desk>(
         &mut self,
-        alloc: Global,
-        region: &Region,
+        search: SharedSearch<'_, C>,
         desk: &mut D,
     ) -> Step
-        requires { (region.now ≡ B.region) × ((D.state desk.old).region ≡ B.region) }
-        ensures worker { self.new.worker ≡ self.old.worker }
+        requires { (arc_value search.region.now ≡ B.region) × ((D.state desk.old).region ≡ B.region) }
         ensures heaps { Leaves OpenedLast self.old result self.new }
         ensures floors { KeepFloors B.region (D.state desk.old).shown self.old.closed
             (D.state desk.new).shown self.new.closed }
@@ -39,7 +36,7 @@ impl<B: Naming> Holdings<B> {
         let Some(piece) = self.held.pop() else {
             return Step::NotMade;
         };
-        match ready::<C, D>(alloc, region, piece, &mut self.refused, desk) {
+        match ready(search, piece, &mut self.refused, desk) {
             Ok((opened, kids)) => {
                 push_all(&mut self.own, kids, &mut self.refused);
                 self.opened.push_reserved(opened);
@@ -56,13 +53,12 @@ impl<B: Naming> Holdings<B> {
 /// The piece opened, with its kids, once there is room for keeping them back and a turn was granted.
 #[tactic(auto, using(crate::proofs::DeskRules::desk_calls))]
 fn ready<C: Closer, D: Desk>(
-    alloc: Global,
-    region: &Region,
+    search: SharedSearch<'_, C>,
     piece: Piece,
     refused: &mut Vec<Piece>,
     desk: &mut D,
 ) -> Result<(Opened, Vec<Piece>), (Piece, Step)>
-    ensures opened { IfOk result (λ made. IsOpening region.now piece made.0 made.1.items
+    ensures opened { IfOk result (λ made. IsOpening (arc_value search.entry.region.now) piece made.0 made.1.items
         × (vec_len refused.new + vec_len made.1 ≤ vec_capacity refused.new)) }
     ensures back { IfErr result (λ back. (back.0 ≡ piece) × (back.1 ≢ Made)
         × UsesTurns (D.state desk.old) back.1 (D.state desk.new)) }
@@ -71,7 +67,7 @@ fn ready<C: Closer, D: Desk>(
     ensures onward { Continues (D.state desk.old) (D.state desk.new) }
 {
     let size = desk.look();
-    let (opened, kids) = match split::<C>(alloc, region, piece, size) {
+    let (opened, kids) = match split(search, piece, size) {
         Ok(made) => made,
         Err((piece, step)) => return Err((piece, step)),
     };

@@ -1,5 +1,6 @@
 //! A piece is opened, with its kids, where that is worth while: `IsOpening` of specs/Steps.antt. Which pieces are, and
 //! on which cell, is the search's own choice.
+ghost use Rattle.std.specs.Arc.{arc_value};
 ghost use Rattle.std.specs.Prelude.{◌≡◌, ◌≢◌, ◌<◌, length, IfErr, IfOk, IfSome};
 ghost use Rattle.worker_results.specs.Steps.{IsOpening};
 ghost use Rattle.worker_results.specs.declared.step.Step.TheVariants.{Made, TurnsSpent};
@@ -7,39 +8,36 @@ ghost use Rattle.worker_results.specs.declared.step.Step.TheVariants.{Made, Turn
 use crate::step::Step;
 use cave_base::Cell;
 use cave_model::OutOfMemory;
-use instance_regions::Region;
 use proof_tree::{Opened, Piece};
-use search_traits::Closer;
-use std::alloc::Global;
+use search_traits::{Closer, SharedSearch};
 
 /// Pieces whose names are as long as this, or longer, are closed and not opened.
 const LONGEST: usize = 3;
 
 /// The piece opened on a cell, with its kids. It comes back where it isn't to be opened, or memory was refused.
 pub(crate) fn split<C: Closer>(
-    alloc: Global,
-    region: &Region,
+    search: SharedSearch<'_, C>,
     piece: Piece,
     size: u64,
 ) -> Result<(Opened, Vec<Piece>), (Piece, Step)>
-    ensures opened { IfOk result (λ made. IsOpening region.now piece made.0 made.1.items) }
+    ensures opened { IfOk result (λ made. IsOpening (arc_value search.entry.region.now) piece made.0 made.1.items) }
     ensures back { IfErr result (λ back.
         (back.0 ≡ piece) × (back.1 ≢ Made) × (back.1 ≢ TurnsSpent)) }
 {
-    let Ok(found) = cell_for::<C>(alloc, region, &piece, size) else {
+    let Ok(found) = cell_for(search, &piece, size) else {
         return Err((piece, Step::OutOfMemory));
     };
     let Some(cell) = found else {
         return Err((piece, Step::NotMade));
     };
-    let Ok(found) = piece.places_on(alloc, cell) else {
+    let Ok(found) = piece.places_on(search.alloc, cell) else {
         return Err((piece, Step::OutOfMemory));
     };
     let Some(places) = found else {
         return Err((piece, Step::NotMade));
     };
     let opened = Opened::new(piece, cell, places);
-    match opened.kids(alloc) {
+    match opened.kids(search.alloc) {
         Ok(kids) => Ok((opened, kids)),
         Err(_) => Err((opened.into_piece(), Step::OutOfMemory)),
     }
@@ -48,16 +46,15 @@ pub(crate) fn split<C: Closer>(
 /// The cell to open the piece on, where it is of the region, its name is short, and the largest packing found is too
 /// small for a leaf that closes it at this size (this project's own).
 fn cell_for<C: Closer>(
-    alloc: Global,
-    region: &Region,
+    search: SharedSearch<'_, C>,
     piece: &Piece,
     size: u64,
 ) -> Result<Option<Cell>, OutOfMemory>
-    ensures { IfOk result (λ found. IfSome found (λ _. (piece.now.region ≡ region.now)
+    ensures { IfOk result (λ found. IfSome found (λ _. (piece.now.region ≡ arc_value search.entry.region.now)
         × (length piece.now.name < 3))) }
 {
-    if piece.name().as_slice().len() >= LONGEST || !region.is_same(piece.region()) {
+    if piece.name().as_slice().len() >= LONGEST || !search.region.is_same(piece.region()) {
         return Ok(None);
     }
-    C::cell_to_open(alloc, piece, size)
+    search.closer.cell_to_open(search.alloc, piece, size)
 }

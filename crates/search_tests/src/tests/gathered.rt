@@ -7,7 +7,7 @@ use proof_tree::Closed;
 use schedule_law::Work;
 use search_core::BranchAndBound;
 use search_moves::Moves;
-use search_traits::Closer;
+use search_traits::{Closer, SharedSearch};
 use std::alloc::Global;
 use std::sync::Arc;
 use std::test::Fail;
@@ -19,13 +19,19 @@ fn gathered(
     works: Vec<Work>,
     turns: Option<u64>,
 ) -> Result<Result<Gathered, PoolFault>, Fail> {
-    let begun = BranchAndBound::<Moves>::begin(alloc, region, None)?;
-    Ok(gather::<BranchAndBound<Moves>>(alloc, region, begun.cover, begun.cell, works, turns))
+    let (closer, begun) = BranchAndBound::<Moves>::begin(alloc, region, None)?;
+    let search = SharedSearch {
+        alloc,
+        region,
+        closer: &closer,
+    };
+    Ok(gather(search, begun.cover, begun.cell, works, turns))
 }
 
 /// The first of the root's kids on that cell, closed.
 fn first_kid(alloc: Global, region: &Arc<Region>) -> Result<Vec<Closed>, Fail> {
-    let cell = BranchAndBound::<Moves>::begin(alloc, region, None)?.cell;
+    let (_, begun) = BranchAndBound::<Moves>::begin(alloc, region, None)?;
+    let cell = begun.cell;
     let mut found = Vec::new(alloc);
     for kid in kids_on(alloc, region, cell)? {
         if found.is_empty() {

@@ -33,8 +33,9 @@ pub(crate) fn felt_kids(alloc: Global, cell: Cell) -> Result<Vec<Piece>, Fail> {
 /// The piece, closed at the size of the least cover that was found, with all the turns that it needs.
 pub(crate) fn closed(alloc: Global, piece: Piece) -> Result<Closed, Fail> {
     let cover = first_plan(alloc, piece.region())?;
+    let (search, _) = BranchAndBound::<Moves>::begin(alloc, piece.region(), None)?;
     let mut desk = AloneDesk::new(cover, None);
-    match BranchAndBound::<Moves>::close_piece(alloc, piece, &mut desk) {
+    match search.close_piece(alloc, piece, &mut desk) {
         Ok(closed) => Ok(closed),
         Err(_) => Err(AllocError.into()),
     }

@@ -1,5 +1,5 @@
 //! Pieces of small regions: what may stand in a leaf, what a Bar may name, and closing them.
-use super::kids::closed;
+use super::kids::{closed, kids_on};
 use super::rings::{region, ring};
 use cave_base::Cell;
 use instance_regions::Region;
@@ -50,10 +50,23 @@ fn a_ring_of_seven_is_closed_at_four(rt: HostRuntime) -> Result<(), Fail> {
     Ok(())
 }
 
+// In so long a ring weights are sought, and the kids begin with those of the root.
+#[test]
+fn both_kids_of_a_ring_of_71_are_closed_at_36(rt: HostRuntime) -> Result<(), Fail> {
+    let region = ring(rt.alloc(), 71)?;
+    let kids = kids_on(rt.alloc(), &region, 0)?;
+    assert_eq!(rt; kids.len(), 2);
+    for kid in kids {
+        assert_eq!(rt; floor_of(&closed(rt.alloc(), kid)?), 36);
+    }
+    Ok(())
+}
+
 /// How many places are chosen in the region's root as it comes back for want of a second turn.
 fn chosen_in_what_comes_back(alloc: Global, region: &Arc<Region>) -> Result<usize, Fail> {
+    let (search, _) = BranchAndBound::<Moves>::begin(alloc, region, None)?;
     let mut desk = AloneDesk::new(first_plan(alloc, region)?, Some(1));
-    match BranchAndBound::<Moves>::close_piece(alloc, Piece::root(alloc, region)?, &mut desk) {
+    match search.close_piece(alloc, Piece::root(alloc, region)?, &mut desk) {
         Err(CloseFault::TurnsSpent(back)) => Ok(back.chosen().len()),
         _ => Err(Fail::from("it doesn't come back")),
     }

@@ -121,8 +121,9 @@ fn closed_root(
     region: &Arc<Region>,
     turns: Option<u64>,
 ) -> Result<(Option<u64>, u64), AllocError> {
+    let (search, _) = BranchAndBound::<Moves>::begin(alloc, region, None)?;
     let mut desk = AloneDesk::new(first_plan(alloc, region)?, turns);
-    match BranchAndBound::<Moves>::close_piece(alloc, Piece::root(alloc, region)?, &mut desk) {
+    match search.close_piece(alloc, Piece::root(alloc, region)?, &mut desk) {
         Ok(closed) => Ok((Some(floor_of(&closed)), desk.granted())),
         Err(CloseFault::TurnsSpent(_)) => Ok((None, desk.granted())),
         Err(CloseFault::OutOfMemory(_)) => Err(AllocError),

@@ -11,6 +11,23 @@ pub struct AllocError;
 #[derive(Debug)]
 pub struct Vec<T>(pub std::vec::Vec<T>);
 
+/// A value that several own.
+pub struct Arc<T>(std::sync::Arc<T>);
+
+impl<T> Arc<T> {
+    pub fn new(_: Global, value: T) -> Result<Arc<T>, AllocError> {
+        Ok(Arc(std::sync::Arc::new(value)))
+    }
+
+    pub fn try_clone(shared: &Arc<T>) -> Result<Arc<T>, AllocError> {
+        Ok(Arc(shared.0.clone()))
+    }
+
+    pub fn as_ref(&self) -> &T {
+        &self.0
+    }
+}
+
 impl<T> Vec<T> {
     pub fn new(_: Global) -> Vec<T> {
         Vec(std::vec::Vec::new())

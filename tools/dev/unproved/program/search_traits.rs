@@ -34,6 +34,8 @@ pub trait Proposer {
 pub trait Strategy: Proposer + Sized {
     fn at(alloc: Global, region: &Region, node: &Node) -> Result<Self, AllocError>;
 
+    fn below(&self, alloc: Global, region: &Region, node: &Node) -> Result<Self, AllocError>;
+
     fn is_for_picks(&self) -> bool;
 
     fn shortened(

@@ -10,7 +10,7 @@ use Rattle.gathering.proofs.merge.gather.Goals as goal
 
 pub glean-requires : goal.glean-requires
 glean-requires g c =
-    let region = arc_value c.args.region.now in let first = c.args.first.places in let root = c.args.root in
+    let region = arc_value c.args.search.region.now in let first = c.args.first.places in let root = c.args.root in
     let works = c.args.works.items in
     let counts = c.in_ok-closed_by.closed_by.items in let closed = state_of c.close_all.new.core in
     let p = played region (arc_value c.in_ok-try_clone.field-0) first root works c.deref.result.now c.deref-2.result.now
@@ -29,7 +29,7 @@ glean-requires g c =
 
 pub returns-in-Ok-assemble-clause-gathered : goal.returns-in-Ok-assemble-clause-gathered
 returns-in-Ok-assemble-clause-gathered g c =
-    let region = arc_value c.args.region.now in let first = c.args.first.places in let root = c.args.root in
+    let region = arc_value c.args.search.region.now in let first = c.args.first.places in let root = c.args.root in
     let works = c.args.works.items in
     let counts = c.in_ok-closed_by.closed_by.items in let closed = state_of c.close_all.new.core in
     let p = played region (arc_value c.in_ok-try_clone.field-0) first root works c.deref.result.now c.deref-2.result.now
@@ -39,14 +39,14 @@ returns-in-Ok-assemble-clause-gathered g c =
     c.deref-2.ensures.value c.in_ok-core.ensures c.in_ok-try_before_closes.ensures c.in_ok-closed_by.ensures in
     let caller = c.in-Some.ensures.0 ∙ ap length c.deref.ensures.value in
     let names = c.in-Ok.gleaned.items in let final = c.glean.new.core in
-    let gleans = subst (λ (n : ℕ). Gleans closed n names (state_of final)) caller c.in-Ok.ensures.gleans in
+    let gleans = subst (λ (n : ℕ). Gleans closed n names (state_of final)) caller c.in-Ok.ensures.gleans.gleans in
     gathered region first root works counts closed p names final c.in-Ok-assemble.cover
-    (tree_of c.in-Ok-assemble.proof) gleans c.in-Ok.ensures.done
+    (tree_of c.in-Ok-assemble.proof) gleans c.in-Ok.ensures.gleans.done
     c.in-Ok-assemble.ensures.done
 
 pub returns-in-Ok-assemble-clause-best : goal.returns-in-Ok-assemble-clause-best
 returns-in-Ok-assemble-clause-best g c =
-    let region = arc_value c.args.region.now in let first = c.args.first.places in let root = c.args.root in
+    let region = arc_value c.args.search.region.now in let first = c.args.first.places in let root = c.args.root in
     let works = c.args.works.items in
     let counts = c.in_ok-closed_by.closed_by.items in let closed = state_of c.close_all.new.core in
     let p = played region (arc_value c.in_ok-try_clone.field-0) first root works c.deref.result.now c.deref-2.result.now
@@ -56,14 +56,14 @@ returns-in-Ok-assemble-clause-best g c =
     c.deref-2.ensures.value c.in_ok-core.ensures c.in_ok-try_before_closes.ensures c.in_ok-closed_by.ensures in
     let caller = c.in-Some.ensures.0 ∙ ap length c.deref.ensures.value in
     let names = c.in-Ok.gleaned.items in let final = c.glean.new.core in
-    let gleans = subst (λ (n : ℕ). Gleans closed n names (state_of final)) caller c.in-Ok.ensures.gleans in
+    let gleans = subst (λ (n : ℕ). Gleans closed n names (state_of final)) caller c.in-Ok.ensures.gleans.gleans in
     gathered_best region first root works counts closed p names final c.in-Ok-assemble.cover
     (tree_of c.in-Ok-assemble.proof) gleans
     c.in-Ok-assemble.ensures.done
 
 pub stopped-requires-clause-of_it : goal.stopped-requires-clause-of_it
 stopped-requires-clause-of_it g c =
-    let region = arc_value c.args.region.now in let first = c.args.first.places in let root = c.args.root in
+    let region = arc_value c.args.search.region.now in let first = c.args.first.places in let root = c.args.root in
     let works = c.args.works.items in
     let counts = c.in_ok-closed_by.closed_by.items in let closed = state_of c.close_all.new.core in
     let p = played region (arc_value c.in_ok-try_clone.field-0) first root works c.deref.result.now c.deref-2.result.now

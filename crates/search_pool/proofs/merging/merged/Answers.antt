@@ -18,7 +18,7 @@ pub report-requires-clause-gleaned : goal.report-requires-clause-gleaned
 report-requires-clause-gleaned g c =
     let works = c.args.ran.joined.works.items in
     let left = c.args.ran.joined.left.items in
-    let all = counted_at (arc_value c.args.region.now) c.args.rooted.cover.places c.args.rooted.root works left
+    let all = counted_at (arc_value c.args.search.region.now) c.args.rooted.cover.places c.args.rooted.root works left
     c.requires.1.run.joined c.cell.result _ c.cell.ensures c.in-Ok.ensures.gathered in
     let tally = c.count_pieces-counts.result in
     let told = subst (λ (l : List Worked). AreTallied l tally) c.deref.ensures.value
@@ -34,21 +34,27 @@ returns-in-Ok-clause-counts g c =
     let tally = c.count_pieces-counts.result in
     let told = subst (λ (l : List Worked). AreTallied l tally) c.deref.ensures.value
     c.count_pieces-counts.ensures.counted in
-    let all = counted_at (arc_value c.args.region.now) c.args.rooted.cover.places c.args.rooted.root works left
+    let all = counted_at (arc_value c.args.search.region.now) c.args.rooted.cover.places c.args.rooted.root works left
     c.requires.1.run.joined c.cell.result _ c.cell.ensures c.in-Ok.ensures.gathered in
     let gleaned = all_gleaned works left _ tally all told in
     let closed = ap sum_of c.report.ensures.closed_by ∙ all_by_workers works left _ tally all told in
     let r = c.report.ensures in
     let long = c.len-left.ensures in
     let a = r.pushed in let b = r.opened in let d = r.handed_back in let e = r.left_over in let f = r.gleaned in
-    record {
-      whole = omega (arith, gleaned, closed, long, a, b, d, e, f);
-      gleaned_few = omega (arith, gleaned, closed, long, a, b, d, e, f);
-    }
+    let turns = c.args.turns in let granted = c.args.ran.turns in let more = c.in-Ok.gathered.turns in
+    let spent = c.args.ran.is_spent in
+    let within = subst (λ (o : Option ℕ). IsWithin o more) c.left_of-rest.ensures c.in-Ok.ensures.granted.within in (
+      record {
+        whole = omega (arith, gleaned, closed, long, a, b, d, e, f);
+        gleaned_few = omega (arith, gleaned, closed, long, a, b, d, e, f);
+      },
+      subst (IsWithin turns) (sym c.report.ensures.turns)
+          (both_within turns granted more spent c.requires.1.granted.within within),
+    )
 
 pub returns-in-Ok-clause-report : goal.returns-in-Ok-clause-report
 returns-in-Ok-clause-report g c =
-    let region = arc_value c.args.region.now in
+    let region = arc_value c.args.search.region.now in
     let works = c.args.ran.joined.works.items in
     let left = c.args.ran.joined.left.items in
     let root = c.args.rooted.root in
@@ -89,17 +95,9 @@ returns-in-Ok-clause-report g c =
       };
     }
 
-pub returns-in-Ok-clause-granted : goal.returns-in-Ok-clause-granted
-returns-in-Ok-clause-granted g c =
-    let turns = c.args.turns in let granted = c.args.ran.turns in let more = c.in-Ok.gathered.turns in
-    let spent = c.args.ran.is_spent in
-    let within = subst (λ (o : Option ℕ). IsWithin o more) c.left_of-rest.ensures c.in-Ok.ensures.granted.within in
-    subst (IsWithin turns) (sym c.report.ensures.turns)
-    (both_within turns granted more spent c.requires.1.granted.within within)
-
 pub returns-in-Err-Stopped : goal.returns-in-Err-Stopped
 returns-in-Err-Stopped g c =
-    let region = arc_value c.args.region.now in let turns = c.args.turns in let granted = c.args.ran.turns in
+    let region = arc_value c.args.search.region.now in let turns = c.args.turns in let granted = c.args.ran.turns in
     let spent = c.args.ran.is_spent in let cover = c.in-Err-Stopped.cover in let least = c.in-Err-Stopped.least in
     let more = c.in-Err-Stopped.more in
     let stops = subst (StopsGathering region (left turns granted spent)) c.in-Err-Stopped.field-0-is
@@ -110,7 +108,6 @@ returns-in-Err-Stopped g c =
       best = tt;
       counts = tt;
       report = tt;
-      granted = tt;
       stopped = subst (λ (v : Covering). StopsPool region turns number (Stopped v c.max.result c.sum.result))
           (sym c.in-Err-Stopped.cover-is)
           (stops_both region number turns granted spent cover c.args.rooted.floor least more c.max.result c.sum.result

@@ -8,7 +8,8 @@ use Rattle.search_pool.proofs.planning.one_leaf.Goals as goal
 pub returns-clause-best : goal.returns-clause-best
 returns-clause-best c =
     let begun = c.args.begun in
-    best_proved begun.cover.region begun.cover begun.floor (tree_of begun.leaf) refl c.requires.enough c.requires.leaf
+    best_proved begun.cover.region begun.cover begun.floor (tree_of begun.leaf) refl c.requires.enough
+    c.requires.leaf.0
 
 pub returns-clause-counts : goal.returns-clause-counts
 returns-clause-counts c =

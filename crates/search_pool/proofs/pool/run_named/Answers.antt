@@ -47,7 +47,7 @@ returns g c =
     let slice = c.as_slice.ensures.len in omega (arith, l, long, each, same, slice)) in
     record {
       run = record {
-        joined = joined.joined c.args.run.root.now c.requires.root c.requires.dealt.stocked;
+        joined = joined.joined c.args.run.root.now c.requires.root.1 c.requires.dealt.stocked;
         each = (let w = ap length joined.works in
             let m = length-map (λ (done : Handed). work_of done.holdings done.cover) results in
             omega (arith, w, m, count));

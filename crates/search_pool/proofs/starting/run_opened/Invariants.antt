@@ -7,7 +7,7 @@ abbrev pub ghosts-run_named : goal.ghosts-run_named
 ghosts-run_named g a = record {
   beacon = a.beacon;
   deque = deque_at a.owners.items;
-  region = arc_value a.run.region.now;
+  region = arc_value a.run.search.region.now;
   workers = a.run.workers.number;
   start = pushed_at a.owners.items;
 }

@@ -1,0 +1,132 @@
+//! The kids of a branch in lanes: each is run until all is known of it, or for so many runs. Then the next kid takes
+//! its lane, so that lanes stand idle only at the end.
+
+use crate::kid_bounds::KidBounds;
+use crate::lane_runs::{LaneState, state};
+use crate::tree_sizes::before;
+use linear_relaxation::{LANES, Lanes};
+use std::alloc::{AllocError, Global};
+
+/// How many runs the relaxation of a kid makes at most.
+const KID_RUNS: u32 = 8;
+
+/// A lane's kid by its index among the kids, and how many runs it made.
+#[derive(Clone, Copy)]
+struct Seat {
+    kid: usize,
+    runs: u32,
+}
+
+/// A lane whose kid is done, and the kid's place.
+#[derive(Clone, Copy, Drop)]
+pub(crate) struct DoneLane {
+    pub lane: usize,
+    pub place: u32,
+}
+
+/// Kids, some of them in lanes.
+#[derive(Drop)]
+pub(crate) struct KidLanes<'a> {
+    kids: &'a KidBounds<'a>,
+    /// All kids by their places, in their order.
+    places: &'a [u32],
+    /// What the part has to show more than in each lane.
+    short_of: i64,
+    lanes: Lanes,
+    seats: [Option<Seat>; LANES],
+    /// The kid that takes a lane next.
+    next: usize,
+}
+
+impl<'a> KidLanes<'a> {
+    /// The first kids in lanes of theirs.
+    pub(crate) fn new(
+        kids: &'a KidBounds<'a>,
+        places: &'a [u32],
+        short_of: i64,
+        lanes: Lanes,
+    ) -> KidLanes<'a> {
+        let mut found = KidLanes {
+            kids,
+            places,
+            short_of,
+            lanes,
+            seats: [None; LANES],
+            next: 0,
+        };
+        found.lanes.begin();
+        for lane in 0..LANES {
+            found.seat(lane);
+        }
+        found.lanes.make_ready();
+        found
+    }
+
+    /// The lanes.
+    pub(crate) fn lanes(&self) -> &Lanes {
+        &self.lanes
+    }
+
+    /// Whether no kid is in a lane.
+    pub(crate) fn is_empty(&self) -> bool {
+        for seat in &self.seats {
+            if seat.is_some() {
+                return false;
+            }
+        }
+        true
+    }
+
+    /// The lanes whose kids are done.
+    pub(crate) fn done(&self, alloc: Global) -> Result<Vec<DoneLane>, AllocError> {
+        let mut done = Vec::new(alloc);
+        for lane in 0..LANES {
+            if let Some(seat) = self.seats[lane] {
+                let is_open = matches!(state(&self.lanes, lane, self.short_of), LaneState::Open);
+                if !is_open || seat.runs >= KID_RUNS {
+                    let place = self.places.get(seat.kid).copied().unwrap_or(u32::MAX);
+                    done.push(DoneLane { lane, place })?;
+                }
+            }
+        }
+        Ok(done)
+    }
+
+    /// The next kids take these lanes, or none does.
+    pub(crate) fn go_on(&mut self, done: &[DoneLane]) {
+        for lane in done {
+            self.lanes.begin_lane(lane.lane);
+            self.seat(lane.lane);
+        }
+        self.lanes.make_ready();
+    }
+
+    /// Makes a run of all lanes.
+    pub(crate) fn run(&mut self, alloc: Global) -> Result<(), AllocError> {
+        self.lanes.run(alloc)?;
+        for seat in self.seats.iter_mut() {
+            if let Some(seat) = seat {
+                seat.runs = seat.runs.saturating_add(1);
+            }
+        }
+        Ok(())
+    }
+
+    /// Tells a lane that has begun of the next kid, if there is one; else it stays empty.
+    fn seat(&mut self, lane: usize) {
+        let kid = self.next;
+        let mut seat = None;
+        if let Some(place) = self.places.get(kid) {
+            let earlier = before(self.places, kid);
+            self.kids
+                .tell(&mut self.lanes, lane, *place as usize, earlier);
+            self.next = kid.saturating_add(1);
+            seat = Some(Seat { kid, runs: 0 });
+        } else {
+            self.lanes.clear_lane(lane);
+        }
+        if lane < LANES {
+            self.seats[lane] = seat;
+        }
+    }
+}
