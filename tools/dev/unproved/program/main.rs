@@ -24,7 +24,7 @@ mod weighted_leaves;
 use instance_regions::{Region, add};
 use std::io::Read;
 
-/// Usage: unproved TURNS CERTIFICATE, with the regions on standard input as `run` writes them.
+/// Usage: unproved TURNS CERTIFICATE [pieces], with the regions on standard input as `run` writes them.
 fn main() {
     let words: Vec<String> = std::env::args().collect();
     let limit = words[1].parse().expect("a number of turns");
@@ -41,6 +41,13 @@ fn main() {
     let mut body = String::new();
     for _ in 0..count {
         let region = region_of(&mut next);
+        if words.len() > 3 {
+            if let Some(pieces) = search::pieces(&region, limit) {
+                let search::Pieces { count, turns, most } = pieces;
+                println!("{count} pieces, {turns} turns in all, {most} the largest");
+            }
+            continue;
+        }
         let plan = search::plan(&region, limit);
         least += plan.floor;
         most += plan.places.len() as u64;
@@ -59,6 +66,9 @@ fn main() {
         "torchproof {version}\nbox {x} {y} {z}\nheadroom {headroom}\n{need}regions {count}\n"
     );
     let whole = format!("{head}{body}end\n");
+    if words.len() > 3 {
+        return;
+    }
     println!(
         "{least} to {most} torches, {turns} turns, {} bytes",
         whole.len()
