@@ -5,6 +5,7 @@ mod dark_streams;
 mod entering;
 mod faults;
 mod gates;
+mod helped;
 mod in_memory;
 mod large_certificates;
 mod limits;

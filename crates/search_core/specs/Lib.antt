@@ -3,3 +3,4 @@ pub mod Alone
 -- private
 pub mod Aimed
 pub mod AtNode
+pub mod Sharing

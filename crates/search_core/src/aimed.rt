@@ -1,6 +1,7 @@
 //! The desk of a search in one thread that is after a size below that of its cover: what is proved then is a floor.
-ghost use Rattle.std.specs.Prelude.{◌≡◌, ◌≤◌, IsTrue, length, min};
+ghost use Rattle.std.specs.Prelude.{◌≡◌, ◌≤◌, IfOk, IsTrue, OnOk, length, min};
 ghost use Rattle.search_core.specs.Aimed.{aimed_state};
+ghost use Rattle.search_traits.specs.Desks.{Continues};
 
 use cave_model::OutOfMemory;
 use instance_regions::Cover;
@@ -19,6 +20,7 @@ impl AimedDesk {
     /// The desk, which shows at most this size.
     pub(crate) fn new(desk: AloneDesk, aim: u64) -> AimedDesk
         ensures desk { result.desk ≡ desk }
+        ensures shown { result.shown ≡ aim }
     {
         AimedDesk {
             desk,
@@ -27,9 +29,36 @@ impl AimedDesk {
         }
     }
 
+    /// A desk for a part of the search: it shows what this one showed last, and grants any number of turns.
+    pub(crate) fn apart(&self) -> Result<AimedDesk, OutOfMemory>
+        ensures shown { IfOk result (λ desk. desk.shown ≡ self.now.shown) }
+        ensures region { IfOk result (λ desk. desk.desk.cover.region ≡ self.now.desk.cover.region) }
+    {
+        let cover = self.desk.cover().try_clone()?;
+        Ok(AimedDesk::new(AloneDesk::new(cover, None), self.shown))
+    }
+
+    /// Takes over what a part of the search came to: its turns, its cover where that is smaller, and that no more was
+    /// shown than there.
+    pub(crate) fn take(&mut self, part: AimedDesk) -> Result<(), OutOfMemory>
+        requires { part.desk.cover.region ≡ self.old.desk.cover.region }
+        ensures less { OnOk result (self.new.shown ≤ part.shown) }
+        ensures onward { Continues (aimed_state self.old.shown self.old.desk)
+            (aimed_state self.new.shown self.new.desk) }
+    {
+        let AimedDesk { desk, shown, .. } = part;
+        count_turns(self, desk.granted());
+        self.offer(desk.cover())?;
+        if shown < self.shown {
+            self.aim_at(shown);
+        }
+        Ok(())
+    }
+
     /// From now on it shows at most this size.
     pub(crate) fn aim_at(&mut self, aim: u64)
         ensures desk { self.new.desk ≡ self.old.desk }
+        ensures shown { self.new.shown ≡ aim }
     {
         self.aim = aim;
         self.shown = aim;
@@ -60,6 +89,15 @@ impl AimedDesk {
     {
         let AimedDesk { desk, .. } = self;
         desk
+    }
+}
+
+/// Asks the desk for so many turns that were taken elsewhere.
+pub(crate) fn count_turns<D: Desk>(desk: &mut D, turns: u64)
+    ensures { Continues (D.state desk.old) (D.state desk.new) }
+{
+    for _ in 0..turns {
+        desk.enter();
     }
 }
 

@@ -9,6 +9,9 @@ use std::sync::Arc;
 /// How many places that were picked may be barred above a node: each stands for a frame of the stack.
 const MOST_PICKS: u32 = 1024;
 
+/// How often what is left of a branch may go to a thread of its own above a node: each stands for a thread that waits.
+const MOST_SPLITS: u32 = 1024;
+
 /// The allocator and the region of a search, and the region once more as covers and pieces share it; how many places
 /// that were picked are barred here, and how many may be: none where places aren't picked.
 #[derive(Clone, Copy)]
@@ -18,6 +21,8 @@ pub(crate) struct Ground<'a> {
     pub(crate) shared: &'a Arc<Region>,
     pub(crate) refused: u32,
     pub(crate) picks: u32,
+    /// How often what is left of a branch may go to a thread of its own here.
+    pub(crate) splits: u32,
     ghost same: { arc_value shared.now ≡ region.now },
 }
 
@@ -32,6 +37,7 @@ impl<'a> Ground<'a> {
             shared,
             refused: 0,
             picks: if may_pick { MOST_PICKS } else { 0 },
+            splits: MOST_SPLITS,
         }
     }
 
@@ -48,6 +54,7 @@ impl<'a> Ground<'a> {
         ensures same { result.region.now ≡ self.now.region.now }
         ensures one_more { result.refused ≡ self.now.refused + 1 }
         ensures picks { result.picks ≡ self.now.picks }
+        ensures splits { result.splits ≡ self.now.splits }
     {
         Ground {
             alloc: self.alloc,
@@ -55,6 +62,24 @@ impl<'a> Ground<'a> {
             shared: self.shared,
             refused: self.refused + 1,
             picks: self.picks,
+            splits: self.splits,
+        }
+    }
+
+    /// The same where what is left of one more branch went to a thread of its own.
+    pub(crate) fn split(&self) -> Ground<'a>
+        requires { 0 < self.now.splits }
+        ensures same { result.region.now ≡ self.now.region.now }
+        ensures one_less { result.splits + 1 ≡ self.now.splits }
+        ensures picks { (result.picks ≡ self.now.picks) × (result.refused ≡ self.now.refused) }
+    {
+        Ground {
+            alloc: self.alloc,
+            region: self.region,
+            shared: self.shared,
+            refused: self.refused,
+            picks: self.picks,
+            splits: self.splits - 1,
         }
     }
 }

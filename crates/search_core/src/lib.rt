@@ -8,13 +8,18 @@ mod branch_and_bound;
 mod carrying;
 mod core_rounds;
 mod ground;
+mod helpers;
 mod one_worker;
 mod pieces;
 mod rounds;
+mod shared_rounds;
+mod sharing;
 mod steps;
 mod told;
 
 pub use carrying::{carried_cover, carried_plan, core_region, cover_in_core};
 pub use core_rounds::{goes_on_by_picks, plan_by_picks};
+pub use helpers::Helpers;
 pub use one_worker::{AloneFault, BY_CELLS, plan_alone, plan_by_one};
 pub use pieces::BranchAndBound;
+pub use shared_rounds::plan_by_helpers;

@@ -1,6 +1,9 @@
 //! A proposer whose nodes an observer is told of.
+ghost use Rattle.pack_bound.specs.Nodes.{IsStateOf};
 
-use search_traits::{Observer, Proposal, Proposer, Task};
+use instance_regions::Region;
+use pack_bound::Node;
+use search_traits::{Observer, Proposal, Proposer, Strategy, Task};
 use std::alloc::{AllocError, Global};
 
 /// It proposes what the inner one does, and tells of each node.
@@ -32,6 +35,24 @@ impl<'o, P: Proposer, O: Observer> Told<'o, P, O> {
 
     pub(crate) fn observer(&self) -> &'o O {
         self.observer
+    }
+}
+
+impl<'o, S: Strategy, O: Observer> Told<'o, S, O> {
+    /// The same for the search below a node, which begins with what was found above it.
+    pub(crate) fn below(
+        &self,
+        alloc: Global,
+        region: &Region,
+        node: &Node,
+    ) -> Result<Told<'o, S, O>, AllocError>
+        requires { IsStateOf region.now node.now }
+    {
+        Ok(Told {
+            inner: self.inner.below(alloc, region, node)?,
+            observer: self.observer,
+            size: self.size,
+        })
     }
 }
 

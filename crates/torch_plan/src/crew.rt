@@ -1,19 +1,19 @@
 //! Many workers, who plan regions in threads of their own. What they answer of a region is `IsRegionPlan` of
 //! search_traits' specs/Planning.antt.
 ghost use Rattle.std.specs.Arc.{arc_value};
-ghost use Rattle.std.specs.Prelude.{◌≡◌, ◌<◌, IfOk, IfSome};
+ghost use Rattle.std.specs.Prelude.{◌≡◌, ◌<◌, IfOk, IfSome, None};
 ghost use Rattle.search_traits.specs.Planned.{IsFloor};
 ghost use Rattle.search_traits.specs.Planning.{IsRegionPlan};
 ghost use Rattle.search_traits.specs.Turns.{IsWithin};
-ghost use Rattle.torch_plan.specs.Crew.{of_pool};
 
+use crate::pool_answers::{plan_of, told};
 use instance_regions::{Cover, Region};
 use plan_options::Workers;
 use search_core::{
-    BY_CELLS, BranchAndBound, carried_cover, carried_plan, core_region, cover_in_core,
-    goes_on_by_picks, plan_by_one, plan_by_picks,
+    BY_CELLS, BranchAndBound, Helpers, carried_cover, carried_plan, core_region, cover_in_core,
+    goes_on_by_picks, plan_by_helpers, plan_by_one, plan_by_picks,
 };
-use search_pool::{PoolFault, Report, plan_with};
+use search_pool::{PoolFault, plan_with};
 use search_traits::{
     BestPlan, Observer, RegionFault, RegionPlan, Strategy, are_spent, first_of, rest_of,
     smaller_of, stopped, with_earlier, with_known,
@@ -51,8 +51,7 @@ impl<'e, X: Threads + Wait + Sync, S: Strategy + Send + Sync, O: Observer> Crew<
     }
 
     /// The fewest places that light every cell of the region, and a tree that proves it. One turn is one node worked
-    /// on. A large region is planned by one worker first, and with the turns that are left by many, or where that goes
-    /// on by picks by one: pieces are shared out by cells, which suit such a region far less.
+    /// on. A large region is planned by one worker first. With any number of turns all go on with one search.
     pub(crate) fn plan_region(
         &self,
         alloc: Global,
@@ -67,12 +66,62 @@ impl<'e, X: Threads + Wait + Sync, S: Strategy + Send + Sync, O: Observer> Crew<
         let first = first_of(turns, BY_CELLS);
         match plan_by_one::<S, O>(alloc, region, Some(first), self.observer) {
             Ok(plan) => Ok(plan),
-            Err(RegionFault::Stopped { cover, floor, .. }) => {
-                if goes_on_by_picks::<S>(alloc, region.as_ref())? {
-                    return self.plan_picking(alloc, region, turns, first, cover, floor);
-                }
-                self.plan_further(alloc, region, turns, first, cover, floor)
-            }
+            Err(RegionFault::Stopped { cover, floor, .. }) => match turns {
+                None => self.plan_helped(alloc, region, first, cover, floor),
+                Some(_) => self.plan_limited(alloc, region, turns, first, cover, floor),
+            },
+            Err(fault) => Err(fault),
+        }
+    }
+
+    /// The plan with the turns that are left, where so many were granted before and this cover and floor came of them.
+    /// Pieces are shared out with a budget each; where the search goes on by picks one worker goes on, since pieces are
+    /// of cells, which suit such a region far less.
+    fn plan_limited(
+        &self,
+        alloc: Global,
+        region: &Arc<Region>,
+        turns: Option<u64>,
+        granted: u64,
+        cover: Cover,
+        floor: u64,
+    ) -> RegionPlan
+        requires within { IsWithin turns granted }
+        requires cover { cover.region ≡ arc_value region.now }
+        requires floor { IsFloor (arc_value region.now) floor }
+        ensures { IsRegionPlan self.now.workers.number turns (arc_value region.now) result }
+    {
+        if goes_on_by_picks::<S>(alloc, region.as_ref())? {
+            return self.plan_picking(alloc, region, turns, granted, cover, floor);
+        }
+        self.plan_further(alloc, region, turns, granted, cover, floor)
+    }
+
+    /// The plan by all workers at one search with any number of turns, where so many were granted before and this cover
+    /// and floor came of them.
+    fn plan_helped(
+        &self,
+        alloc: Global,
+        region: &Arc<Region>,
+        granted: u64,
+        cover: Cover,
+        floor: u64,
+    ) -> RegionPlan
+        requires cover { cover.region ≡ arc_value region.now }
+        requires floor { IsFloor (arc_value region.now) floor }
+        ensures { IsRegionPlan self.now.workers.number None (arc_value region.now) result }
+    {
+        let helpers = Helpers::new(self.rt, self.workers.number);
+        let observer = self.observer;
+        match plan_by_helpers::<S, O, X>(alloc, region, granted, cover, floor, observer, &helpers) {
+            Ok(plan) => Ok(plan),
+            Err(
+                RegionFault::Stopped {
+                    cover,
+                    floor,
+                    turns,
+                },
+            ) => self.plan_further(alloc, region, None, turns, cover, floor),
             Err(fault) => Err(fault),
         }
     }
@@ -234,41 +283,5 @@ impl<'e, X: Threads + Wait + Sync, S: Strategy + Send + Sync, O: Observer> Crew<
         let known = known.try_clone()?;
         let plan = self.plan_by_many(alloc, region, rest_of(turns, granted), Some(known));
         with_earlier(region, self.workers.number, turns, granted, plan)
-    }
-}
-
-/// The plan of a report.
-fn plan_of(report: Report) -> BestPlan
-    ensures { (result.cover ≡ report.cover) × (result.proof ≡ report.proof) × (result.turns ≡ report.turns) }
-{
-    let Report {
-        cover,
-        proof,
-        turns,
-        ..
-    } = report;
-    BestPlan {
-        cover,
-        proof,
-        turns,
-    }
-}
-
-/// Why many workers have no plan of a region, as any planner tells it.
-fn told(fault: PoolFault) -> RegionFault
-    ensures { result ≡ of_pool fault }
-{
-    match fault {
-        PoolFault::Stopped {
-            cover,
-            floor,
-            turns,
-        } => RegionFault::Stopped {
-            cover,
-            floor,
-            turns,
-        },
-        PoolFault::NoThread => RegionFault::NoThread,
-        PoolFault::OutOfMemory => RegionFault::OutOfMemory,
     }
 }

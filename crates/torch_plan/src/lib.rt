@@ -7,6 +7,7 @@ mod crew;
 mod environment;
 mod memory;
 mod planner;
+mod pool_answers;
 mod runs;
 mod status;
 mod system;

@@ -23,6 +23,10 @@ impl<T> Arc<T> {
         Ok(Arc(shared.0.clone()))
     }
 
+    pub fn into_inner(shared: Arc<T>) -> Option<T> {
+        std::sync::Arc::into_inner(shared.0)
+    }
+
     pub fn as_ref(&self) -> &T {
         &self.0
     }
