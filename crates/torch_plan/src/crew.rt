@@ -51,7 +51,8 @@ impl<'e, X: Threads + Wait + Sync, S: Strategy + Send + Sync, O: Observer> Crew<
     }
 
     /// The fewest places that light every cell of the region, and a tree that proves it. One turn is one node worked
-    /// on. A large region is planned by one worker first. With any number of turns all go on with one search.
+    /// on. With any number of turns all workers help one search of a large region; with so many alone they share out
+    /// pieces of it.
     pub(crate) fn plan_region(
         &self,
         alloc: Global,
@@ -63,13 +64,40 @@ impl<'e, X: Threads + Wait + Sync, S: Strategy + Send + Sync, O: Observer> Crew<
         if region.places().len() <= FEW {
             return self.plan_by_many(alloc, region, turns, None);
         }
+        match turns {
+            None => self.plan_helped(alloc, region),
+            Some(_) => self.plan_limited(alloc, region, turns),
+        }
+    }
+
+    /// The plan by all workers at one search, with any number of turns.
+    fn plan_helped(&self, alloc: Global, region: &Arc<Region>) -> RegionPlan
+        ensures { IsRegionPlan self.now.workers.number None (arc_value region.now) result }
+    {
+        let helpers = Helpers::new(self.rt, self.workers.number);
+        match plan_by_helpers::<S, O, X>(alloc, region, self.observer, &helpers) {
+            Ok(plan) => Ok(plan),
+            Err(
+                RegionFault::Stopped {
+                    cover,
+                    floor,
+                    turns,
+                },
+            ) => self.plan_further(alloc, region, None, turns, cover, floor),
+            Err(fault) => Err(fault),
+        }
+    }
+
+    /// The plan where turns are limited: by one worker first, then by all.
+    fn plan_limited(&self, alloc: Global, region: &Arc<Region>, turns: Option<u64>) -> RegionPlan
+        ensures { IsRegionPlan self.now.workers.number turns (arc_value region.now) result }
+    {
         let first = first_of(turns, BY_CELLS);
         match plan_by_one::<S, O>(alloc, region, Some(first), self.observer) {
             Ok(plan) => Ok(plan),
-            Err(RegionFault::Stopped { cover, floor, .. }) => match turns {
-                None => self.plan_helped(alloc, region, first, cover, floor),
-                Some(_) => self.plan_limited(alloc, region, turns, first, cover, floor),
-            },
+            Err(RegionFault::Stopped { cover, floor, .. }) => {
+                self.plan_on(alloc, region, turns, first, cover, floor)
+            }
             Err(fault) => Err(fault),
         }
     }
@@ -77,7 +105,7 @@ impl<'e, X: Threads + Wait + Sync, S: Strategy + Send + Sync, O: Observer> Crew<
     /// The plan with the turns that are left, where so many were granted before and this cover and floor came of them.
     /// Pieces are shared out with a budget each; where the search goes on by picks one worker goes on, since pieces are
     /// of cells, which suit such a region far less.
-    fn plan_limited(
+    fn plan_on(
         &self,
         alloc: Global,
         region: &Arc<Region>,
@@ -95,35 +123,6 @@ impl<'e, X: Threads + Wait + Sync, S: Strategy + Send + Sync, O: Observer> Crew<
             return self.plan_picking(alloc, region, turns, granted, cover, floor);
         }
         self.plan_further(alloc, region, turns, granted, cover, floor)
-    }
-
-    /// The plan by all workers at one search with any number of turns, where so many were granted before and this cover
-    /// and floor came of them.
-    fn plan_helped(
-        &self,
-        alloc: Global,
-        region: &Arc<Region>,
-        granted: u64,
-        cover: Cover,
-        floor: u64,
-    ) -> RegionPlan
-        requires cover { cover.region ≡ arc_value region.now }
-        requires floor { IsFloor (arc_value region.now) floor }
-        ensures { IsRegionPlan self.now.workers.number None (arc_value region.now) result }
-    {
-        let helpers = Helpers::new(self.rt, self.workers.number);
-        let observer = self.observer;
-        match plan_by_helpers::<S, O, X>(alloc, region, granted, cover, floor, observer, &helpers) {
-            Ok(plan) => Ok(plan),
-            Err(
-                RegionFault::Stopped {
-                    cover,
-                    floor,
-                    turns,
-                },
-            ) => self.plan_further(alloc, region, None, turns, cover, floor),
-            Err(fault) => Err(fault),
-        }
     }
 
     /// One worker's plan by picks, where so many turns were granted before and this cover and floor came of them.

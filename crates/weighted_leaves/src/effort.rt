@@ -8,7 +8,10 @@ const SHORT_SEARCH: u64 = 400;
 
 const SHORT_IN_HALL: u64 = 32;
 
-/// How many runs of steps there are at the first node, below it, and in a long search.
+/// How many runs of steps there are at the first node before a cover is sought, and after it, below that node, and in a
+/// long search.
+const RUNS_BEFORE_COVERS: u32 = 6;
+
 const FIRST_RUNS: u32 = 16;
 
 const RUNS: u32 = 8;
@@ -24,6 +27,14 @@ pub(crate) struct Effort {
 }
 
 impl Effort {
+    /// That at the first node before a cover is sought.
+    pub(crate) fn before_covers() -> Effort {
+        Effort {
+            runs: RUNS_BEFORE_COVERS,
+            is_long: false,
+        }
+    }
+
     /// That at a node where so many came before it. A search that may pick is long below its first node, and one that
     /// is part of a longer one is so from there on.
     pub(crate) fn at(sought: Sought, nodes: u64) -> Effort {

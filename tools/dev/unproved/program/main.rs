@@ -24,10 +24,11 @@ mod weighted_leaves;
 use instance_regions::{Region, add};
 use std::io::Read;
 
-/// Usage: unproved TURNS CERTIFICATE [pieces], with the regions on standard input as `run` writes them.
+/// Usage: unproved TURNS CERTIFICATE THREADS, with the regions on standard input as `run` writes them.
 fn main() {
     let words: Vec<String> = std::env::args().collect();
     let limit = words[1].parse().expect("a number of turns");
+    let crew = search::Crew::new(words[3].parse().expect("a number of threads"));
     let mut text = String::new();
     std::io::stdin()
         .read_to_string(&mut text)
@@ -41,14 +42,7 @@ fn main() {
     let mut body = String::new();
     for _ in 0..count {
         let region = region_of(&mut next);
-        if words.len() > 3 {
-            if let Some(pieces) = search::pieces(&region, limit) {
-                let search::Pieces { count, turns, most } = pieces;
-                println!("{count} pieces, {turns} turns in all, {most} the largest");
-            }
-            continue;
-        }
-        let plan = search::plan(&region, limit);
+        let plan = search::plan(&region, limit, &crew);
         least += plan.floor;
         most += plan.places.len() as u64;
         turns += plan.turns;
@@ -66,9 +60,6 @@ fn main() {
         "torchproof {version}\nbox {x} {y} {z}\nheadroom {headroom}\n{need}regions {count}\n"
     );
     let whole = format!("{head}{body}end\n");
-    if words.len() > 3 {
-        return;
-    }
     println!(
         "{least} to {most} torches, {turns} turns, {} bytes",
         whole.len()

@@ -17,6 +17,7 @@ const NO_LOAD: Load = Load {
     weight: 0,
 };
 
+#[derive(Clone)]
 pub struct Judge<'a> {
     pub region: &'a Region,
     /// For each cell the places that light it, ascending.
