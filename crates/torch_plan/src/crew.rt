@@ -18,13 +18,17 @@ use search_traits::{
     BestPlan, Observer, RegionFault, RegionPlan, Strategy, are_spent, first_of, rest_of,
     smaller_of, stopped, with_earlier, with_known,
 };
-use std::alloc::Global;
+use std::alloc::{AllocError, Global};
 use std::marker::PhantomData;
 use std::sync::{Arc, Wait};
 use std::thread::Threads;
 
 /// A region of no more places is planned by many workers as it is: it makes few pieces.
 const FEW: usize = 128;
+
+/// In a region of more cells a strategy for a part of the search begins with a reduction of all of it, unless places are
+/// picked: so many strategies would take too much memory.
+const MANY: usize = 6000;
 
 /// More workers than one, with their strategy, the handles for their threads, and an observer, who may hold them back.
 #[derive(Drop)]
@@ -51,8 +55,8 @@ impl<'e, X: Threads + Wait + Sync, S: Strategy + Send + Sync, O: Observer> Crew<
     }
 
     /// The fewest places that light every cell of the region, and a tree that proves it. One turn is one node worked
-    /// on. With any number of turns all workers help one search of a large region; with so many alone they share out
-    /// pieces of it.
+    /// on. With any number of turns all workers help one search of a large region; with so many alone, and in a very
+    /// large region where no places are picked, they share out pieces of it.
     pub(crate) fn plan_region(
         &self,
         alloc: Global,
@@ -64,10 +68,20 @@ impl<'e, X: Threads + Wait + Sync, S: Strategy + Send + Sync, O: Observer> Crew<
         if region.places().len() <= FEW {
             return self.plan_by_many(alloc, region, turns, None);
         }
-        match turns {
-            None => self.plan_helped(alloc, region),
-            Some(_) => self.plan_limited(alloc, region, turns),
+        if let None = turns {
+            if Crew::<X, S, O>::is_shared(alloc, region.as_ref())? {
+                return self.plan_helped(alloc, region);
+            }
         }
+        self.plan_limited(alloc, region, turns)
+    }
+
+    /// Whether threads may share one search of the region.
+    fn is_shared(alloc: Global, region: &Region) -> Result<bool, AllocError> {
+        if region.cells().len() <= MANY {
+            return Ok(true);
+        }
+        goes_on_by_picks::<S>(alloc, region)
     }
 
     /// The plan by all workers at one search, with any number of turns.
@@ -88,7 +102,7 @@ impl<'e, X: Threads + Wait + Sync, S: Strategy + Send + Sync, O: Observer> Crew<
         }
     }
 
-    /// The plan where turns are limited: by one worker first, then by all.
+    /// The plan by one worker first, then by all, in pieces.
     fn plan_limited(&self, alloc: Global, region: &Arc<Region>, turns: Option<u64>) -> RegionPlan
         ensures { IsRegionPlan self.now.workers.number turns (arc_value region.now) result }
     {
