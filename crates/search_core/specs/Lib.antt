@@ -1,6 +1,5 @@
 -- public clauses cite
 pub mod Alone
--- private
 pub mod Aimed
+pub mod SoFar
 pub mod AtNode
-pub mod Sharing

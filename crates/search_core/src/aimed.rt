@@ -9,16 +9,18 @@ use search_traits::{AloneDesk, Desk};
 
 /// The desk of a search in one thread, which shows no more than the size that the search is after.
 #[derive(Drop)]
-pub(crate) struct AimedDesk {
-    desk: AloneDesk,
-    aim: u64,
-    shown: u64,
+pub struct AimedDesk {
+    pub desk: AloneDesk,
+    /// The size that the search is after.
+    pub aim: u64,
+    /// The size that was shown last.
+    pub shown: u64,
     ghost kept: { min aim desk.shown ≤ shown },
 }
 
 impl AimedDesk {
     /// The desk, which shows at most this size.
-    pub(crate) fn new(desk: AloneDesk, aim: u64) -> AimedDesk
+    pub fn new(desk: AloneDesk, aim: u64) -> AimedDesk
         ensures desk { result.desk ≡ desk }
         ensures shown { result.shown ≡ aim }
     {
@@ -30,7 +32,7 @@ impl AimedDesk {
     }
 
     /// A desk for a part of the search: it shows what this one showed last, and grants any number of turns.
-    pub(crate) fn apart(&self) -> Result<AimedDesk, OutOfMemory>
+    pub fn apart(&self) -> Result<AimedDesk, OutOfMemory>
         ensures shown { IfOk result (λ desk. desk.shown ≡ self.now.shown) }
         ensures region { IfOk result (λ desk. desk.desk.cover.region ≡ self.now.desk.cover.region) }
     {
@@ -40,7 +42,7 @@ impl AimedDesk {
 
     /// Takes over what a part of the search came to: its turns, its cover where that is smaller, and that no more was
     /// shown than there.
-    pub(crate) fn take(&mut self, part: AimedDesk) -> Result<(), OutOfMemory>
+    pub fn take(&mut self, part: AimedDesk) -> Result<(), OutOfMemory>
         requires { part.desk.cover.region ≡ self.old.desk.cover.region }
         ensures less { OnOk result (self.new.shown ≤ part.shown) }
         ensures onward { Continues (aimed_state self.old.shown self.old.desk)
@@ -56,7 +58,7 @@ impl AimedDesk {
     }
 
     /// From now on it shows at most this size.
-    pub(crate) fn aim_at(&mut self, aim: u64)
+    pub fn aim_at(&mut self, aim: u64)
         ensures desk { self.new.desk ≡ self.old.desk }
         ensures shown { self.new.shown ≡ aim }
     {
@@ -65,26 +67,26 @@ impl AimedDesk {
     }
 
     /// The size that it showed last.
-    pub(crate) fn shown(&self) -> u64
+    pub fn shown(&self) -> u64
         ensures { result ≡ self.now.shown }
     {
         self.shown
     }
 
     /// The size of its smallest cover.
-    pub(crate) fn size(&self) -> u64 {
+    pub fn size(&self) -> u64 {
         self.desk.size()
     }
 
     /// Whether its cover has no more places than it showed last.
-    pub(crate) fn is_met(&self) -> bool
+    pub fn is_met(&self) -> bool
         ensures { IsTrue result → length self.now.desk.cover.places ≤ self.now.shown }
     {
         self.desk.size() <= self.shown
     }
 
     /// The desk alone.
-    pub(crate) fn into_desk(self) -> AloneDesk
+    pub fn into_desk(self) -> AloneDesk
         ensures { result ≡ self.desk }
     {
         let AimedDesk { desk, .. } = self;
@@ -93,7 +95,7 @@ impl AimedDesk {
 }
 
 /// Asks the desk for so many turns that were taken elsewhere.
-pub(crate) fn count_turns<D: Desk>(desk: &mut D, turns: u64)
+pub fn count_turns<D: Desk>(desk: &mut D, turns: u64)
     ensures { Continues (D.state desk.old) (D.state desk.new) }
 {
     for _ in 0..turns {

@@ -12,23 +12,25 @@ const MOST_PICKS: u32 = 1024;
 /// How often what is left of a branch may go to a thread of its own above a node: each stands for a thread that waits.
 const MOST_SPLITS: u32 = 1024;
 
-/// The allocator and the region of a search, and the region once more as covers and pieces share it; how many places
-/// that were picked are barred here, and how many may be: none where places aren't picked.
+/// The allocator and the region of a search, and the region once more as covers and pieces share it; and how far the
+/// search may go on by picks, none where places aren't picked, and by threads.
 #[derive(Clone, Copy)]
-pub(crate) struct Ground<'a> {
-    pub(crate) alloc: Global,
-    pub(crate) region: &'a Region,
-    pub(crate) shared: &'a Arc<Region>,
-    pub(crate) refused: u32,
-    pub(crate) picks: u32,
+pub struct Ground<'a> {
+    pub alloc: Global,
+    pub region: &'a Region,
+    pub shared: &'a Arc<Region>,
+    /// How many places that were picked are barred here.
+    pub refused: u32,
+    /// How many may be.
+    pub picks: u32,
     /// How often what is left of a branch may go to a thread of its own here.
-    pub(crate) splits: u32,
+    pub splits: u32,
     ghost same: { arc_value shared.now ≡ region.now },
 }
 
 impl<'a> Ground<'a> {
     /// The region that is shared, and whether places are picked in it.
-    pub(crate) fn of(alloc: Global, shared: &'a Arc<Region>, may_pick: bool) -> Ground<'a>
+    pub fn of(alloc: Global, shared: &'a Arc<Region>, may_pick: bool) -> Ground<'a>
         ensures { result.region.now ≡ arc_value shared.now }
     {
         Ground {
@@ -42,14 +44,14 @@ impl<'a> Ground<'a> {
     }
 
     /// Whether one more place may be picked, and barred in the second tree of the pick.
-    pub(crate) fn may_pick(&self) -> bool
+    pub fn may_pick(&self) -> bool
         ensures { IsTrue result ↔ self.now.refused < self.now.picks }
     {
         self.refused < self.picks
     }
 
     /// The same where one more place that was picked is barred.
-    pub(crate) fn refusing(&self) -> Ground<'a>
+    pub fn refusing(&self) -> Ground<'a>
         requires { self.now.refused < self.now.picks }
         ensures same { result.region.now ≡ self.now.region.now }
         ensures one_more { result.refused ≡ self.now.refused + 1 }
@@ -67,7 +69,7 @@ impl<'a> Ground<'a> {
     }
 
     /// The same where what is left of one more branch went to a thread of its own.
-    pub(crate) fn split(&self) -> Ground<'a>
+    pub fn split(&self) -> Ground<'a>
         requires { 0 < self.now.splits }
         ensures same { result.region.now ≡ self.now.region.now }
         ensures one_less { result.splits + 1 ≡ self.now.splits }

@@ -8,7 +8,7 @@ use std::alloc::{AllocError, Global};
 
 /// It proposes what the inner one does, and tells of each node.
 #[derive(Drop)]
-pub(crate) struct Told<'o, P, O> {
+pub struct Told<'o, P, O> {
     inner: P,
     observer: &'o O,
     /// The size of the smallest cover as the round began.
@@ -16,7 +16,8 @@ pub(crate) struct Told<'o, P, O> {
 }
 
 impl<'o, P: Proposer, O: Observer> Told<'o, P, O> {
-    pub(crate) fn new(inner: P, observer: &'o O) -> Told<'o, P, O> {
+    /// The observer is told of the nodes that this one proposes for.
+    pub fn new(inner: P, observer: &'o O) -> Told<'o, P, O> {
         Told {
             inner,
             observer,
@@ -25,22 +26,24 @@ impl<'o, P: Proposer, O: Observer> Told<'o, P, O> {
     }
 
     /// A round begins with a cover of this size.
-    pub(crate) fn begin(&mut self, size: u64) {
+    pub fn begin(&mut self, size: u64) {
         self.size = size;
     }
 
-    pub(crate) fn inner(&self) -> &P {
+    /// What proposes.
+    pub fn inner(&self) -> &P {
         &self.inner
     }
 
-    pub(crate) fn observer(&self) -> &'o O {
+    /// Who is told.
+    pub fn observer(&self) -> &'o O {
         self.observer
     }
 }
 
 impl<'o, S: Strategy, O: Observer> Told<'o, S, O> {
     /// The same for the search below a node, which begins with what was found above it.
-    pub(crate) fn below(
+    pub fn below(
         &self,
         alloc: Global,
         region: &Region,

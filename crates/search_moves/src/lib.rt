@@ -4,6 +4,7 @@
 
 mod branching;
 mod covers;
+mod leaves;
 mod moves;
 mod strategy;
 

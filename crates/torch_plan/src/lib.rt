@@ -4,6 +4,7 @@
 mod advance;
 mod answering;
 mod crew;
+mod crew_pieces;
 mod environment;
 mod memory;
 mod planner;

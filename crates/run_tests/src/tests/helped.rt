@@ -1,6 +1,6 @@
 //! A search that several threads share.
 use super::ring_caves::stone_ring;
-use search_core::{Helpers, plan_by_helpers};
+use parallel_search::{Helpers, plan_by_helpers};
 use search_moves::Moves;
 use search_traits::{BestPlan, Unobserved};
 use std::alloc::AllocError;

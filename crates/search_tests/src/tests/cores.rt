@@ -2,7 +2,7 @@
 use super::rings::{region, ring};
 use proof_tree::Proof;
 use search_core::{
-    AloneFault, carried_cover, carried_plan, core_region, goes_on_by_picks, plan_alone,
+    AloneFault, SoFar, carried_cover, carried_plan, core_region, goes_on_by_picks, plan_alone,
     plan_by_picks,
 };
 use search_moves::Moves;
@@ -78,25 +78,21 @@ fn a_stopped_search_goes_on_by_picks(rt: HostRuntime) -> Result<(), Fail> {
     let ring = ring(rt.alloc(), 9)?;
     // Picks are for larger regions; asked for, they close this one too.
     assert!(rt; !goes_on_by_picks::<Moves>(rt.alloc(), ring.as_ref())?);
-    let (cover, floor, turns) = match plan_alone::<Moves>(rt.alloc(), &ring, Some(2)) {
+    let found = match plan_alone::<Moves>(rt.alloc(), &ring, Some(2)) {
         Err(
             AloneFault::Stopped {
                 cover,
                 floor,
                 turns,
             },
-        ) => (cover, floor, turns),
+        ) => SoFar {
+            cover,
+            floor,
+            granted: turns,
+        },
         _ => return Err(AllocError.into()),
     };
-    let plan = plan_by_picks::<Moves, Unobserved>(
-        rt.alloc(),
-        &ring,
-        None,
-        turns,
-        cover,
-        floor,
-        &Unobserved,
-    );
+    let plan = plan_by_picks::<Moves, Unobserved>(rt.alloc(), &ring, None, found, &Unobserved);
     match plan {
         Ok(BestPlan { cover, .. }) => assert_eq!(rt; cover.size(), 5),
         Err(_) => return Err(AllocError.into()),

@@ -1,0 +1,2 @@
+-- private
+pub mod Sharing
