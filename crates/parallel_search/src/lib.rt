@@ -8,4 +8,4 @@ mod shared_rounds;
 mod sharing;
 
 pub use helpers::Helpers;
-pub use shared_rounds::plan_by_helpers;
+pub use shared_rounds::{plan_by_helpers, plan_on_by_helpers};

@@ -6,11 +6,11 @@ ghost use Rattle.search_core.specs.SoFar.{IsSoFar};
 ghost use Rattle.search_traits.specs.Planning.{IsRegionPlan};
 
 use instance_regions::Region;
-use parallel_search::{Helpers, plan_by_helpers};
+use parallel_search::{Helpers, plan_by_helpers, plan_on_by_helpers};
 use plan_options::Workers;
 use search_core::{BY_CELLS, SoFar, goes_on_by_picks, plan_by_one, plan_by_picks};
 use search_traits::{Observer, RegionFault, RegionPlan, Strategy, first_of};
-use std::alloc::{AllocError, Global};
+use std::alloc::Global;
 use std::marker::PhantomData;
 use std::sync::{Arc, Wait};
 use std::thread::Threads;
@@ -47,7 +47,7 @@ impl<'e, X: Threads + Wait + Sync, S: Strategy + Send + Sync, O: Observer> Crew<
     }
 
     /// The fewest places that light every cell of the region, and a tree that proves it. One turn is one node worked
-    /// on. With any number of turns all workers help one search of a large region; with so many alone, and in a very
+    /// on. With any number of turns all workers share one search of a large region; with so many alone, and in a very
     /// large region where no places are picked, they share out pieces of it.
     pub(crate) fn plan_region(
         &self,
@@ -61,19 +61,11 @@ impl<'e, X: Threads + Wait + Sync, S: Strategy + Send + Sync, O: Observer> Crew<
             return self.plan_by_many(alloc, region, turns, None);
         }
         if let None = turns {
-            if Crew::<X, S, O>::is_shared(alloc, region.as_ref())? {
+            if region.cells().len() <= MANY {
                 return self.plan_helped(alloc, region);
             }
         }
-        self.plan_limited(alloc, region, turns)
-    }
-
-    /// Whether threads may share one search of the region.
-    fn is_shared(alloc: Global, region: &Region) -> Result<bool, AllocError> {
-        if region.cells().len() <= MANY {
-            return Ok(true);
-        }
-        goes_on_by_picks::<S>(alloc, region)
+        self.plan_after_one(alloc, region, turns)
     }
 
     /// The plan by all workers at one search, with any number of turns.
@@ -81,7 +73,26 @@ impl<'e, X: Threads + Wait + Sync, S: Strategy + Send + Sync, O: Observer> Crew<
         ensures { IsRegionPlan self.now.workers.number None (arc_value region.now) result }
     {
         let helpers = Helpers::new(self.rt, self.workers.number);
-        match plan_by_helpers::<S, O, X>(alloc, region, self.observer, &helpers) {
+        let plan = plan_by_helpers::<S, O, X>(alloc, region, self.observer, &helpers);
+        self.plan_of_all(alloc, region, plan)
+    }
+
+    /// The same by picks, where this was found before.
+    fn plan_on_helped(&self, alloc: Global, region: &Arc<Region>, found: SoFar) -> RegionPlan
+        requires { IsSoFar (arc_value region.now) None found }
+        ensures { IsRegionPlan self.now.workers.number None (arc_value region.now) result }
+    {
+        let helpers = Helpers::new(self.rt, self.workers.number);
+        let plan = plan_on_by_helpers::<S, O, X>(alloc, region, found, self.observer, &helpers);
+        self.plan_of_all(alloc, region, plan)
+    }
+
+    /// What is planned as by one worker with any number of turns, as a plan by all.
+    fn plan_of_all(&self, alloc: Global, region: &Arc<Region>, plan: RegionPlan) -> RegionPlan
+        requires { IsRegionPlan 1 None (arc_value region.now) plan }
+        ensures { IsRegionPlan self.now.workers.number None (arc_value region.now) result }
+    {
+        match plan {
             Ok(plan) => Ok(plan),
             Err(
                 RegionFault::Stopped {
@@ -101,8 +112,8 @@ impl<'e, X: Threads + Wait + Sync, S: Strategy + Send + Sync, O: Observer> Crew<
         }
     }
 
-    /// The plan by one worker first, then by all, in pieces.
-    fn plan_limited(&self, alloc: Global, region: &Arc<Region>, turns: Option<u64>) -> RegionPlan
+    /// The plan by one worker first, then by all.
+    fn plan_after_one(&self, alloc: Global, region: &Arc<Region>, turns: Option<u64>) -> RegionPlan
         ensures { IsRegionPlan self.now.workers.number turns (arc_value region.now) result }
     {
         let first = first_of(turns, BY_CELLS);
@@ -120,8 +131,9 @@ impl<'e, X: Threads + Wait + Sync, S: Strategy + Send + Sync, O: Observer> Crew<
         }
     }
 
-    /// The plan with the turns that are left, where this was found before. Pieces are shared out with a budget each; where the search goes on by picks one worker goes on, since pieces are
-    /// of cells, which suit such a region far less.
+    /// The plan with the turns that are left, where this was found before. By cells pieces are shared out, with a budget
+    /// each. By picks all share one search, or one worker goes on where turns are limited: pieces are of cells, which
+    /// suit such a region far less.
     fn plan_on(
         &self,
         alloc: Global,
@@ -133,7 +145,10 @@ impl<'e, X: Threads + Wait + Sync, S: Strategy + Send + Sync, O: Observer> Crew<
         ensures { IsRegionPlan self.now.workers.number turns (arc_value region.now) result }
     {
         if goes_on_by_picks::<S>(alloc, region.as_ref())? {
-            return self.plan_picking(alloc, region, turns, found);
+            return match turns {
+                None => self.plan_on_helped(alloc, region, found),
+                Some(_) => self.plan_picking(alloc, region, turns, found),
+            };
         }
         self.plan_further(alloc, region, turns, found)
     }
