@@ -1,6 +1,7 @@
 //! A search that several threads share.
 use super::ring_caves::stone_ring;
-use parallel_search::{Helpers, plan_by_helpers};
+use parallel_search::{Helpers, plan_by_helpers, plan_on_by_helpers};
+use search_core::{AloneFault, SoFar, plan_alone};
 use search_moves::Moves;
 use search_traits::{BestPlan, Unobserved};
 use std::alloc::AllocError;
@@ -21,6 +22,41 @@ fn one_thread_and_eight_share_the_search_of_the_ring(rt: HostRuntime) -> Result<
             Ok(BestPlan { cover, .. }) => assert_eq!(rt; cover.size(), 2),
             Err(_) => return Err(AllocError.into()),
         }
+    }
+    Ok(())
+}
+
+#[test]
+fn eight_threads_go_on_where_one_turn_stopped_the_search_of_the_ring(
+    rt: HostRuntime,
+) -> Result<(), Fail> {
+    let alloc = rt.alloc();
+    let region = stone_ring(alloc)?;
+    let found = match plan_alone::<Moves>(alloc, &region, Some(1)) {
+        Err(
+            AloneFault::Stopped {
+                cover,
+                floor,
+                turns,
+            },
+        ) => SoFar {
+            cover,
+            floor,
+            granted: turns,
+        },
+        _ => return Err(AllocError.into()),
+    };
+    let helpers = Helpers::new(&rt, 8);
+    let plan = plan_on_by_helpers::<Moves, Unobserved, HostRuntime>(
+        alloc,
+        &region,
+        found,
+        &Unobserved,
+        &helpers,
+    );
+    match plan {
+        Ok(BestPlan { cover, .. }) => assert_eq!(rt; cover.size(), 2),
+        Err(_) => return Err(AllocError.into()),
     }
     Ok(())
 }
