@@ -95,9 +95,9 @@ impl Course {
     }
 
     /// Takes what is planned of one region more.
-    fn add_next<F: Fn(&Arc<Region>) -> RegionPlan>(
+    fn add_next<F: Fn(&Arc<Region>) -> RegionPlan, O>(
         &mut self,
-        planner: &Planner<F>,
+        planner: &Planner<'_, F, O>,
         region: Arc<Region>,
     ) -> Result<(), PlanFault>
         requires callable { F.IsAlwaysCallable planner.now.plan }
@@ -122,12 +122,11 @@ impl Course {
     }
 }
 
-/// The plans of all regions, each with all the turns.
+/// The plans of all regions, each with all the turns. Before each the planner's observer is told.
 pub(crate) fn plan_regions<F: Fn(&Arc<Region>) -> RegionPlan, O: Observer>(
     alloc: Global,
     regions: Vec<Region>,
-    planner: &Planner<F>,
-    observer: &O,
+    planner: &Planner<'_, F, O>,
 ) -> Result<Course, PlanFault>
     requires callable { F.IsAlwaysCallable planner.now.plan }
     requires plans { PlansRegions (λ region. arc_value region.now) planner.now.allowance
@@ -141,7 +140,7 @@ pub(crate) fn plan_regions<F: Fn(&Arc<Region>) -> RegionPlan, O: Observer>(
     let mut number: usize = 0;
     for region in regions {
         number = number.saturating_add(1);
-        observer.region(number, count);
+        planner.observer.region(number, count);
         let region = Arc::new(alloc, region)?;
         course.add_next(planner, region)?;
     }

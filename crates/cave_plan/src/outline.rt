@@ -102,8 +102,7 @@ fn regions_of(alloc: Global, world: &World) -> Result<(Vec<Region>, usize), Plan
 pub fn plan_cave<F: Fn(&Arc<Region>) -> RegionPlan, O: Observer>(
     alloc: Global,
     world: &World,
-    planner: &Planner<F>,
-    observer: &O,
+    planner: &Planner<'_, F, O>,
 ) -> Result<Outline, PlanFault>
     requires callable { F.IsAlwaysCallable planner.now.plan }
     requires plans { PlansRegions (λ region. arc_value region.now) planner.now.allowance
@@ -120,7 +119,7 @@ pub fn plan_cave<F: Fn(&Arc<Region>) -> RegionPlan, O: Observer>(
     ensures refused { (e : PlanFault) → NamesUnlightable world.now e → IsRefusedPlan result e }
 {
     let (regions, dark) = regions_of(alloc, world)?;
-    let plans = plan_regions(alloc, regions, planner, observer)?;
+    let plans = plan_regions(alloc, regions, planner)?;
     let outline = outline_from(alloc, world, plans, dark, planner.allowance)?;
     Ok(outline)
 }

@@ -12,6 +12,13 @@ use Rattle.cave_problem.specs.Reach.{AreLinked, AreOnce, BeginsWith, IsNumberOf,
 
 -- ---- lists that go on
 
+-- by one cell
+pub begins_push : (cells : List ℕ) (cell : ℕ) → BeginsWith cells (cells ++ cell ∷ [])
+begins_push cells cell = record {
+  longer = omega (arith, length_push cells cell);
+  same = λ k h. get_or_append_left cells (cell ∷ []) 0 k h;
+}
+
 -- going on twice
 pub begins_on : (old middle new : List ℕ) → BeginsWith old middle → BeginsWith middle new → BeginsWith old new
 begins_on old middle new b c = record {

@@ -7,7 +7,7 @@ use Rattle.set_cover.specs.Bits.{Has, IsRowOf}
 use Rattle.set_cover.specs.Buckets.{AreBucketsOf, AreNone}
 use Rattle.set_cover.specs.Instance.{words_for}
 use Rattle.cave_model.specs.Cave.{Cave}
-use Rattle.cave_model.specs.Torches.{Lights}
+use Rattle.cave_model.specs.Torches.{ArePlaces, Lights}
 
 -- for each of so many cells its index in the list, where it stands there
 pub record AreIndices (count : ℕ) (cells indices : List ℕ) : Type 0 where
@@ -40,3 +40,8 @@ pub record AreUnfilled (cells places : List ℕ) (lit : List (List ℕ)) (covere
 pub record IsListed (cave : Cave) (cells : List ℕ) : Type 0 where
   pub ascending : IsStrictlyIncreasing cells
   pub inside : All (λ cell. cell < cell_count cave.size) cells
+
+-- the legal places, ascending, which are cells of the box
+pub record AreListedPlaces (cave : Cave) (places : List ℕ) : Type 0 where
+  pub legal : ArePlaces cave places
+  pub inside : All (λ cell. cell < cell_count cave.size) places

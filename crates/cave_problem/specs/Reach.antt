@@ -56,6 +56,11 @@ pub record BeginsWith (old new : List ℕ) : Type 0 where
   pub longer : length old ≤ length new
   pub same : (k : ℕ) → k < length old → slice_index new k ≡ slice_index old k
 
+-- a reach that begins with the old one
+pub record IsLongerReach (old local reach : List ℕ) : Type 0 where
+  pub found : IsReach local reach
+  pub kept : BeginsWith old reach
+
 -- the numbers of the sides of the first so many cells
 pub record AreLinked (sides reach near : List ℕ) (count : ℕ) : Type 0 where
   pub each : (number face : ℕ) → number < count → face < 6

@@ -1,8 +1,7 @@
 //! What each place lights, block by block of the dark cells, from floods of light: specs/Filling.antt.
 ghost use Rattle.std.specs.Prelude.{◌≡◌, ◌<◌, ◌^◌, length, IfOk, OnOk};
 ghost use Rattle.cave_base.specs.Box.{cell_count};
-ghost use Rattle.cave_model.specs.Torches.{ArePlaces};
-ghost use Rattle.cave_problem.specs.Filling.{AreUnfilled, IsFilling, IsListed};
+ghost use Rattle.cave_problem.specs.Filling.{AreListedPlaces, AreUnfilled, IsFilling, IsListed};
 ghost use Rattle.set_cover.specs.Instance.{words_for};
 
 use crate::block_flood::BlockFlood;
@@ -30,8 +29,7 @@ pub fn lists_of(
     places: &[Cell],
 ) -> Result<Lighting, OutOfMemory>
     requires cells { IsListed world.now cells.now }
-    requires places { IsListed world.now places.now }
-    requires legal { ArePlaces world.now places.now }
+    requires places { AreListedPlaces world.now places.now }
     requires small { cell_count world.now.size < 2 ^ 32 }
     ensures filled { IfOk result (λ r. IsFilling world.now cells.now places.now r.lit r.covered.items) }
     ensures wide { IfOk result (λ r. length r.covered.items ≡ words_for (length cells.now)) }
@@ -52,8 +50,7 @@ fn fill(
     lighting: &mut Lighting,
 ) -> Result<(), OutOfMemory>
     requires cells { IsListed world.now cells.now }
-    requires places { IsListed world.now places.now }
-    requires legal { ArePlaces world.now places.now }
+    requires places { AreListedPlaces world.now places.now }
     requires blank { AreUnfilled cells.now places.now lighting.old.lit lighting.old.covered.items }
     ensures filled { OnOk result (IsFilling world.now cells.now places.now lighting.new.lit
         lighting.new.covered.items) }

@@ -1,7 +1,8 @@
 //! The legal places of a cave, ascending.
-ghost use Rattle.std.specs.Prelude.{◌<◌, ◌^◌, ◌↔◌, All, IfOk, IsTrue};
+ghost use Rattle.std.specs.Prelude.{◌<◌, ◌^◌, ◌↔◌, IfOk, IsTrue};
 ghost use Rattle.cave_base.specs.Box as grid;
-ghost use Rattle.cave_model.specs.Torches.{ArePlaces, IsPlace};
+ghost use Rattle.cave_model.specs.Torches.{IsPlace};
+ghost use Rattle.cave_problem.specs.Filling.{AreListedPlaces};
 
 use cave_base::Cell;
 use cave_model::{OutOfMemory, World};
@@ -17,8 +18,7 @@ fn is_place(world: &World, cell: Cell) -> bool
 
 /// The cells into which a new torch may go, ascending.
 pub fn legal_places(alloc: Global, world: &World) -> Result<Vec<Cell>, OutOfMemory>
-    ensures places { IfOk result (λ v. ArePlaces world.now v.items) }
-    ensures in_box { IfOk result (λ v. All (λ cell. cell < grid.cell_count world.now.size) v.items) }
+    ensures places { IfOk result (λ v. AreListedPlaces world.now v.items) }
     ensures small { grid.cell_count world.now.size < 2 ^ 32 }
 {
     let mut places = Vec::new(alloc);

@@ -1,7 +1,8 @@
 //! The reach of a block: the cells that light from its cells can come to. They have numbers in the order in which they
 //! were found, so that what a flood reads and writes lies close together.
 ghost use Rattle.std.specs.Prelude.{◌≡◌, ◌<◌, ◌≤◌, ◌+◌, [], length, IfOk, OnOk};
-ghost use Rattle.cave_problem.specs.Reach.{AreSources, BeginsWith, HaveRoom, IsLinkedReach, IsNumberOf, IsReach};
+ghost use Rattle.cave_problem.specs.Reach.{AreSources, BeginsWith, HaveRoom, IsLinkedReach, IsLongerReach};
+ghost use Rattle.cave_problem.specs.Reach.{IsNumberOf, IsReach};
 
 use cave_base::Cell;
 use std::alloc::AllocError;
@@ -39,8 +40,7 @@ fn number_of(local: &mut [u32], reach: &mut Vec<Cell>, cell: Cell) -> Result<u32
     requires inside { cell < length local.old }
     requires small { length local.old ≤ 262144 }
     requires reach { IsReach local.old reach.old.items }
-    ensures reach { OnOk result (IsReach local.new reach.new.items) }
-    ensures kept { OnOk result (BeginsWith reach.old.items reach.new.items) }
+    ensures reach { OnOk result (IsLongerReach reach.old.items local.new reach.new.items) }
     ensures number { IfOk result (λ n. IsNumberOf reach.new.items cell n) }
 {
     if local[cell as usize] != NONE {

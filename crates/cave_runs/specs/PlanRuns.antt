@@ -94,7 +94,7 @@ pub record BeginsTexts (cave : Cave) (allowance : Allowance) (old new proof_old 
   pub written : AppendsFront old new text
   pub proved : AppendsPart proof_old proof_new proof
 
--- the same of the cave that the bytes tell
+-- such beginnings of the texts of a plan of the cave that the bytes tell
 pub record BeginsPlan (bytes : List ℕ) (table : Option (List ℕ)) (rule : Rule) (allowance : Allowance)
     (old new proof_old proof_new : Option (List ℕ)) : Type 0 where
   pub cave : Cave
@@ -121,7 +121,7 @@ LeavesIn faults.OutOfMemory cave allowance old new proof_old proof_new = Keeps o
     × BeginsTexts cave allowance old new proof_old proof_new
 LeavesIn other cave allowance old new proof_old proof_new = ⊥
 
--- the same whatever the turns are
+-- what a fault of writing leaves of this cave's plan, whatever the turns are
 pub record LeavesProved (fault : RunFault) (cave : Cave) (old new proof_old proof_new : Option (List ℕ)) : Type 0 where
   pub each : (allowance : Allowance) → LeavesIn fault cave allowance old new proof_old proof_new
 

@@ -23,7 +23,7 @@ fn line_of(alloc: Global, verdict: Verdict) -> Result<String, AllocError>
 /// Reads a structure and then a certificate to the ends of their readers, and writes what is to be said of the
 /// certificate: `accepted n`, or `rejected: ` and the reason. The rows are those of the user's table, where there is
 /// one, before the shipped ones. A certificate may have 1,073,741,824 bytes; one line of it is kept at a time.
-pub fn run_check<R: Read, C: Read, W: Write>(
+pub fn run_check<R, C, W>(
     alloc: Global,
     reader: &mut R,
     table: Option<&[u8]>,
@@ -31,6 +31,10 @@ pub fn run_check<R: Read, C: Read, W: Write>(
     certificate: &mut C,
     writer: &mut W,
 ) -> Result<Verdict, RunFault>
+where
+    R: Read,
+    C: Read,
+    W: Write,
     ensures { IsRunOfCheck (R.remaining reader.old) (R.remaining reader.new) (option_copied table.entry)
         (rule_of rule) (C.remaining certificate.old) (C.remaining certificate.new) result
         (W.contents writer.old) (W.contents writer.new) }

@@ -54,7 +54,7 @@ fn text_of<O: Watcher>(
 /// on a line of its own, in the order of their numbers. All is read before it is judged, and the whole text is made
 /// before its first byte is written. The rows are those of the user's table, where there is one, before the shipped
 /// ones. The observer is told where free cells lie at a side of the box.
-pub fn run_dark<R: Read, O: Watcher, W: Write>(
+pub fn run_dark<R, O, W>(
     alloc: Global,
     reader: &mut R,
     table: Option<&[u8]>,
@@ -62,6 +62,10 @@ pub fn run_dark<R: Read, O: Watcher, W: Write>(
     observer: &O,
     writer: &mut W,
 ) -> Result<(), RunFault>
+where
+    R: Read,
+    O: Watcher,
+    W: Write,
     ensures { IsRunOfDark (R.remaining reader.old) (R.remaining reader.new) (option_copied table.entry)
         (rule_of rule) result (W.contents writer.old) (W.contents writer.new) }
 {

@@ -39,8 +39,7 @@ fn plan_bytes<F: Fn(&Arc<Region>) -> RegionPlan, O: Watcher>(
     bytes: &[u8],
     table: Option<&[u8]>,
     rule: Rule,
-    planner: &Planner<F>,
-    observer: &O,
+    planner: &Planner<'_, F, O>,
 ) -> Result<(World, Outline), RunFault>
     requires callable { F.IsAlwaysCallable planner.now.plan }
     requires plans { PlansRegions (λ region. arc_value region.now) planner.now.allowance
@@ -54,19 +53,22 @@ fn plan_bytes<F: Fn(&Arc<Region>) -> RegionPlan, O: Watcher>(
         → IsRefusal RunFault.OutOfMemory result e }
 {
     let world = read_cave(alloc, bytes, table, rule)?;
-    tell_sides(&world, observer);
-    let outline = plan_cave(alloc, &world, planner, observer)?;
+    tell_sides(&world, planner.observer);
+    let outline = plan_cave(alloc, &world, planner)?;
     Ok((world, outline))
 }
 
 /// Writes the certificate of planned regions, and then the text of the plan.
-fn put_proved<W: Write, V: Write>(
+fn put_proved<W, V>(
     alloc: Global,
     world: &World,
     outline: &Outline,
     writer: &mut W,
     proof: &mut V,
 ) -> Result<(), RunFault>
+where
+    W: Write,
+    V: Write,
     requires { IsPlanned world.now (string_bytes outline.now.text) (plans_of outline.now.parts.items) }
     ensures done { OnOk result (WritesBest world.now (W.contents writer.old) (W.contents writer.new)
         (V.contents proof.old) (V.contents proof.new)) }
@@ -78,14 +80,17 @@ fn put_proved<W: Write, V: Write>(
 }
 
 /// Writes the text of a plan, and before it the certificate, where the search came to its end.
-fn put_plan<W: Write, V: Write>(
+fn put_plan<W, V>(
     alloc: Global,
     world: &World,
     outline: &Outline,
-    _allowance: Allowance,
+    _allowance: Allowance, // for the proof
     writer: &mut W,
     proof: &mut V,
 ) -> Result<Outcome, RunFault>
+where
+    W: Write,
+    V: Write,
     requires { IsOutlineOf world.now _allowance outline.now }
     ensures done { IfOk result (λ outcome. EndsIn outcome world.now _allowance
         (W.contents writer.old) (W.contents writer.new) (V.contents proof.old) (V.contents proof.new)) }
@@ -108,19 +113,24 @@ fn put_plan<W: Write, V: Write>(
 /// the proof's certificate to `proof` and the plan's text to `writer`. All is read before it is judged, all regions are
 /// planned before a byte is written, and the whole text of the plan is made before its first byte is. The rows are
 /// those of the user's table, where there is one, before the shipped ones. Where the turns of a region were spent, the
-/// text says how few torches there might be, and no certificate is written. Before the search the observer is told
-/// where free cells lie at a side of the box. Who plans the regions changes no promise: where that waits for nobody,
-/// this is proved to return.
-pub fn run_planner<F: Fn(&Arc<Region>) -> RegionPlan, R: Read, W: Write, V: Write, O: Watcher>(
+/// text says how few torches there might be, and no certificate is written. Before the search the planner's observer is
+/// told where free cells lie at a side of the box. Who plans the regions changes no promise: where that waits for
+/// nobody, this is proved to return.
+pub fn run_planner<F, O, R, W, V>(
     alloc: Global,
     reader: &mut R,
     table: Option<&[u8]>,
     rule: Rule,
-    planner: &Planner<F>,
-    observer: &O,
+    planner: &Planner<'_, F, O>,
     writer: &mut W,
     proof: &mut V,
 ) -> Result<Outcome, RunFault>
+where
+    F: Fn(&Arc<Region>) -> RegionPlan,
+    O: Watcher,
+    R: Read,
+    W: Write,
+    V: Write,
     requires callable { F.IsAlwaysCallable planner.now.plan }
     requires plans { PlansRegions (λ region. arc_value region.now) planner.now.allowance
         (F.post planner.now.plan) }
@@ -129,6 +139,6 @@ pub fn run_planner<F: Fn(&Arc<Region>) -> RegionPlan, R: Read, W: Write, V: Writ
         (W.contents writer.old) (W.contents writer.new) (V.contents proof.old) (V.contents proof.new) }
 {
     let bytes = read_all(alloc, reader, STRUCTURE_LIMIT, Input::StructureInput)?;
-    let (world, outline) = plan_bytes(alloc, &bytes, table, rule, planner, observer)?;
+    let (world, outline) = plan_bytes(alloc, &bytes, table, rule, planner)?;
     put_plan(alloc, &world, &outline, planner.allowance, writer, proof)
 }

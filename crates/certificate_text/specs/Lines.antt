@@ -10,7 +10,7 @@ use Rattle.proof_tree.specs.Order.{ordered_tree, ordered_trees}
 abbrev pub tree_text : Tree → List ℕ
 tree_text tree = ended (tree_lines (ordered_tree tree))
 
--- the same for each of the trees, one tree after another
+-- the lines of each of the trees, one tree after another
 abbrev pub forest_text : Forest → List ℕ
 forest_text trees = ended (forest_lines (ordered_trees trees))
 

@@ -20,7 +20,7 @@ unfoldable pub region_text : List ℕ → List ℕ → Tree → List ℕ
 region_text cells torches tree = cells_text (codes "region") (length cells ∷ length torches ∷ [])
     ++ (cells_text (codes "D") cells ++ proved_text torches tree)
 
--- the same as the certificate has it
+-- the lines of a planned region, as the certificate has them
 abbrev pub section_text : Plan → List ℕ
 section_text plan = ended (section_lines (section_of plan))
 

@@ -24,7 +24,7 @@ pub fn ordered(alloc: Global, cells: &[Cell]) -> Result<Vec<Cell>, AllocError>
     Ok(ordered)
 }
 
-/// The same numbers in more room.
+/// The numbers in words of 64 bits.
 pub fn widened(alloc: Global, cells: &[Cell]) -> Result<Vec<u64>, AllocError>
     ensures { IfOk result (λ v. v.items ≡ cells.now) }
 {

@@ -86,7 +86,8 @@ pub record IsParted (old : State) (name chosen barred : List ℕ) (cell : ℕ) (
       → ((number : ℕ) → number < length places → other ≢ name ++ number ∷ [])
       → new.part_at other ≡ old.part_at other
 
--- the same for all places that light the cell and aren't barred in the piece, ascending, and all else stays
+-- the piece is opened on the cell, with a kid for each place that lights it and isn't barred in the piece, ascending;
+-- all else stays
 pub record Opens (old : State) (name : List ℕ) (cell : ℕ) (new : State) : Type 0 where
   pub kept : new ≡ record old { part_at = new.part_at }
   pub parted : (chosen barred : List ℕ) (was : Status) → HasPart old name chosen barred was

@@ -39,7 +39,7 @@ pub record IsKept (kept : Kept) : Type 0 where
   pub cover : IsCoverOfRegion kept.region kept.best
   pub sound : IsSoundState (state_of kept)
 
--- the same with the new shape at this name
+-- the core with the new shape at this name
 abbrev pub put_kept : Kept → List ℕ → Shape → Kept
 put_kept kept name shape = record kept { root = put_in kept.root name shape }
 

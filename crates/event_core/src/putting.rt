@@ -6,7 +6,7 @@ ghost use Rattle.event_core.specs.Shape.{put_in};
 use crate::node::{PieceNode, Siblings};
 use std::mem;
 
-/// The same with the new node at this name, where there is a piece of this name.
+/// The node with the new one at this name, where there is a piece of this name.
 pub(crate) fn put(node: PieceNode, name: &[u32], new: PieceNode) -> PieceNode
     ensures { shape_of result ≡ put_in (shape_of node) name.now (shape_of new) }
 {

@@ -43,8 +43,8 @@ pub fn gather<C: Closer>(
     works: Vec<Work>,
     turns: Option<u64>,
 ) -> Result<Gathered, PoolFault>
-    requires of_it { first.region ≡ arc_value search.region.now }
-    requires root { Contains (arc_value search.region.now).cells root }
+    requires begun { (first.region ≡ arc_value search.region.now)
+        × Contains (arc_value search.region.now).cells root }
     ensures gathered { IfOk result (λ g.
         IsGathered (arc_value search.entry.region.now) first.places root works.items (record {
           cover = g.cover;

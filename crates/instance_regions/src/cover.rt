@@ -64,7 +64,7 @@ impl Cover {
         self.places.len() as u64
     }
 
-    /// The same cover once more.
+    /// A copy of the cover.
     pub fn try_clone(&self) -> Result<Cover, OutOfMemory>
         ensures { IfOk result (λ c. c ≡ self.now) }
     {

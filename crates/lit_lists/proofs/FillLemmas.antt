@@ -205,13 +205,12 @@ pub further_none : (next parts : List ℕ) → AreFurther next (take 0 parts) ne
 further_none next parts = record { each = λ part h. omega arith }
 
 -- there is room for the next
-pub room_next : (starts old new parts : List ℕ) (index : ℕ) → index < length parts
-    → slice_index parts index + 1 < length starts → length old ≡ length starts
+pub room_next : (starts old new parts : List ℕ) (index : ℕ) → index < length parts → length old ≡ length starts
     → HaveRoom starts old parts → AreFurther old (take index parts) new
     → HasRoom starts new (slice_index parts index)
-room_next starts old new parts index h there whole room s = record {
-  there = there;
-  room = (let part = slice_index parts index in
+room_next starts old new parts index h whole room s = record {
+  there = room.there index 0 h;
+  room = (let part = slice_index parts index in let there = room.there index 0 h in
       let free = room.each part there in let now = s.each part (omega (arith, whole, there)) in
       let more = times_next parts index h in
       let all : times (take (index + 1) parts) part ≤ times parts part =

@@ -12,7 +12,7 @@ use Rattle.cave_model.specs.Cells.{Face, west, east, north, south, below, above,
 use Rattle.cave_model.specs.Cave.{Cave}
 use Rattle.cave_model.specs.Light.{Path, entering_cost}
 use Rattle.cave_model.specs.Light.Path.{start, onward}
-use Rattle.lit_lists.specs.Relaxing.{AreLow, AreWaysFrom, IsPassed, HasPassed, Spreads, Grows}
+use Rattle.lit_lists.specs.Relaxing.{AreLow, AreWaysFrom, IsPassed, Spreads, Grows, PassesOn}
 
 -- ---- paths
 
@@ -99,6 +99,14 @@ grows_low cave f g from a b low x = record {
 -- entering a cell costs at least one
 pub entering_pos : (cave : Cave) (cell : ℕ) → 0 < entering_cost cave cell
 entering_pos cave cell = omega arith
+
+-- a level of at most one raises no neighbour
+pub passes_none : (cave : Cave) (f : ℕ → ℕ) (from : ℕ) (queue : List ℕ) → f from ≤ 1
+    → PassesOn cave from f queue f queue
+passes_none cave f from queue low = record {
+  grows = grows_none cave (f from) f queue;
+  passed = record { each = λ cell shared. (let p = entering_pos cave cell in omega arith) };
+}
 
 -- one neighbour is raised
 pub grows_raised : (cave : Cave) (levels queue : List ℕ) (from to brought : ℕ) → AreNeighbours cave.size from to
@@ -235,14 +243,17 @@ passing_none cave from f g a b around index s here = record {
 
 -- after the sixth the cell has passed its light to all its neighbours
 pub passing_end : (cave : Cave) (from : ℕ) (f g : ℕ → ℕ) (a b : List ℕ) (around : List (Option ℕ)) (index : ℕ)
-    → 6 ≤ index → PassingOn cave from f a g b around index → HasPassed cave g from
+    → 6 ≤ index → PassingOn cave from f a g b around index → PassesOn cave from f a g b
 passing_end cave from f g a b around index all s = record {
-  each = λ to shared.
-      (let low = index_below shared.face in
-      let there : get_or around (index_of shared.face) None ≡ Some to =
-      ap (λ (l : List (Option ℕ)). get_or l (index_of shared.face) None) s.whole
-      ∙ listed_at cave.size from shared.face ∙ shared.there in
-      s.offered (index_of shared.face) to (omega arith) there);
+  grows = s.grows;
+  passed = record {
+    each = λ to shared.
+        (let low = index_below shared.face in
+        let there : get_or around (index_of shared.face) None ≡ Some to =
+        ap (λ (l : List (Option ℕ)). get_or l (index_of shared.face) None) s.whole
+        ∙ listed_at cave.size from shared.face ∙ shared.there in
+        s.offered (index_of shared.face) to (omega arith) there);
+  };
 }
 
 -- ---- the neighbours that light can enter
@@ -278,12 +289,15 @@ listed_next cave from f g h a b c around index s grows passed =
 -- after the last the cell has passed its light to all its neighbours: of what is at most 15 nothing enters the others
 pub listed_end : (cave : Cave) (from : ℕ) (f g : ℕ → ℕ) (a b around : List ℕ) (index : ℕ) → f from ≤ 15
     → AreWaysFrom cave from around → length around ≤ index → ListedOn cave from f a g b around index
-    → HasPassed cave g from
+    → PassesOn cave from f a g b
 listed_end cave from f g a b around index low ways all s = record {
-  each = λ to shared. (elim (cases_lt (entering_cost cave to) 15) [
-    | inl lt ↦ (let has = (ways.exact to).1 (record { shared = shared; passes = lt }) in
-        let at : slice_index around has.0 ≡ to = sym (get_or_default_zero around has.0 to has.1) ∙ has.2 in
-        subst (IsPassed cave g from) at (s.offered has.0 (omega (arith, has.1))))
-    | inr le ↦ (let kept = from_kept cave f g from a b s.grows in omega arith)
-  ]);
+  grows = s.grows;
+  passed = record {
+    each = λ to shared. (elim (cases_lt (entering_cost cave to) 15) [
+      | inl lt ↦ (let has = (ways.exact to).1 (record { shared = shared; passes = lt }) in
+          let at : slice_index around has.0 ≡ to = sym (get_or_default_zero around has.0 to has.1) ∙ has.2 in
+          subst (IsPassed cave g from) at (s.offered has.0 (omega (arith, has.1))))
+      | inr le ↦ (let kept = from_kept cave f g from a b s.grows in omega arith)
+    ]);
+  };
 }

@@ -38,10 +38,22 @@ module _ (starts numbers : List ℕ) (whole : AreWhole starts numbers) (row : �
       ap (λ (l : List ℕ). times l number) behind in
       omega (arith, split, same)
 
+  -- its numbers are of the box
+  row_inside : (target : List ℕ) → AreOfOneBox (parts starts numbers) → length target ≡ length starts
+      → All (λ number. number + 1 < length target) (part starts numbers row)
+  row_inside target boxed long = λ k d lt.
+      (let cells = part starts numbers row in
+      let has = subst (λ (l : List ℕ). Contains l (slice_index cells k)) (sym (part_there starts numbers row h))
+      (element_of cells k lt) in
+      let low = boxed.inside row (slice_index cells k) has in
+      let same = get_or_default_zero cells k d lt in
+      omega (arith, low, same, long, length-parts starts numbers))
+
   -- where there is room for the list and those behind it, there is for the list
-  pub room_row : (target next : List ℕ) → AreOfSize target next (drop (slice_index starts row) numbers)
-      → HaveRoom target next (part starts numbers row)
-  room_row target next s = record {
+  pub room_row : (target next : List ℕ) → AreOfOneBox (parts starts numbers) → length target ≡ length starts
+      → AreOfSize target next (drop (slice_index starts row) numbers) → HaveRoom target next (part starts numbers row)
+  room_row target next boxed long s = record {
+    there = row_inside target boxed long;
     each = λ number low. (let size = s.each number low in let split = times_split number in
         omega (arith, size, split));
   }
@@ -55,17 +67,6 @@ module _ (starts numbers : List ℕ) (whole : AreWhole starts numbers) (row : �
     each = λ number low. (let size = s.each number low in let split = times_split number in
         let now = on.each number (omega (arith, long)) in omega (arith, size, split, now));
   }
-
-  -- its numbers are of the box
-  pub row_inside : (target : List ℕ) → AreOfOneBox (parts starts numbers) → length target ≡ length starts
-      → All (λ number. number + 1 < length target) (part starts numbers row)
-  row_inside target boxed long = λ k d lt.
-      (let cells = part starts numbers row in
-      let has = subst (λ (l : List ℕ). Contains l (slice_index cells k)) (sym (part_there starts numbers row h))
-      (element_of cells k lt) in
-      let low = boxed.inside row (slice_index cells k) has in
-      let same = get_or_default_zero cells k d lt in
-      omega (arith, low, same, long, length-parts starts numbers))
 
   -- each once
   pub row_once : AreOfOneBox (parts starts numbers) → AreDistinct (part starts numbers row)

@@ -1,5 +1,5 @@
 -- Numbers that are counted, and lists that are filled, each in its own part of one list. This is this project's own.
-use Rattle.std.specs.Prelude.{◌≡◌, ◌≤◌, ◌<◌, ◌+◌, ◌-◌, ◌==◌, ℕ, List, length, map, sum, take, slice_index}
+use Rattle.std.specs.Prelude.{◌≡◌, ◌≤◌, ◌<◌, ◌+◌, ◌-◌, ◌==◌, ℕ, List, length, map, sum, take, slice_index, All}
 use Rattle.std.specs.List.{count_by, range_with_len, slice_range}
 use Rattle.lit_lists.specs.Rows.{AreEmptyRows, AreWhole}
 
@@ -38,8 +38,9 @@ pub record HasRoom (starts next : List ℕ) (part : ℕ) : Type 0 where
   pub there : part + 1 < length starts
   pub room : slice_index next part < slice_index starts (part + 1)
 
--- each part has room for as many numbers as it stands in the list
+-- these are parts, and each has room for as many numbers as it stands in the list
 pub record HaveRoom (starts next parts : List ℕ) : Type 0 where
+  pub there : All (λ part. part + 1 < length starts) parts
   pub each : (part : ℕ) → part + 1 < length starts
       → slice_index next part + times parts part ≤ slice_index starts (part + 1)
 

@@ -42,6 +42,11 @@ pub record Grows (cave : Cave) (level : ℕ) (old : ℕ → ℕ) (queue : List �
   pub changed : (cell : ℕ) → (new cell ≡ old cell) ⊎ Contains more cell
   pub raised : (cell : ℕ) → Contains more cell → (cell < cell_count cave.size) × (new cell < level)
 
+-- the cell passes its light on, and what it raises stays below its own level
+pub record PassesOn (cave : Cave) (from : ℕ) (old : ℕ → ℕ) (queue : List ℕ) (new : ℕ → ℕ) (next : List ℕ) : Type 0 where
+  pub grows : Grows cave (old from) old queue new next
+  pub passed : HasPassed cave new from
+
 -- the index is none past the end of the queue, which has cells of the box alone
 pub record Queued (cave : Cave) (index : ℕ) (queue : List ℕ) : Type 0 where
   pub within : index ≤ length queue

@@ -1,5 +1,5 @@
 //! Lists that grow side by side in one vector: `IsFilling` of specs/Filling.antt.
-ghost use Rattle.std.specs.Prelude.{◌≡◌, ◌<◌, ◌+◌, ◌^◌, length, set, slice_index, sum, All, Contains, IfOk};
+ghost use Rattle.std.specs.Prelude.{◌≡◌, ◌<◌, ◌+◌, ◌^◌, set, slice_index, sum, Contains, IfOk};
 ghost use Rattle.cave_model.specs.Parts as grid;
 ghost use Rattle.cave_model.specs.Plan.{AreDistinct};
 ghost use Rattle.lit_lists.specs.Filling.{AreFull, AreFurther, AreReady, HasRoom, HaveRoom, IsFilling};
@@ -54,7 +54,6 @@ impl Filling {
 
     /// Puts a number at the end of the list in each of these parts.
     fn push_all(&mut self, parts: &[u32], number: u32)
-        requires there { All (λ part. part + 1 < length self.old.starts.items) parts.now }
         requires room { HaveRoom self.old.starts.items self.old.next.items parts.now }
         requires once { AreDistinct parts.now }
         ensures starts { self.new.starts.items ≡ self.old.starts.items }

@@ -5,7 +5,7 @@ ghost use Rattle.cave_base.specs.Box.{cell_count};
 ghost use Rattle.cave_model.specs.Cave.{IsSound};
 ghost use Rattle.cave_model.specs.Passages.{ArePassages};
 ghost use Rattle.lit_lists.specs.Lists.{AreLitCells};
-ghost use Rattle.lit_lists.specs.Reached.{AreReached, IsLightBack};
+ghost use Rattle.lit_lists.specs.Reached.{AreReached, IsLightBack, IsSource};
 ghost use Rattle.lit_lists.specs.Seeded.{AreTaken, AreUnlit, ArePutOut, IsScratch};
 
 use crate::relaxing::relax;
@@ -48,8 +48,7 @@ pub fn reach(
 ) -> Result<(), AllocError>
     requires passages { IfSome passages (λ p. ArePassages world.now p.now) }
     requires scratch { IsScratch world.now levels.old }
-    requires inside { source < cell_count world.now.size }
-    requires low { light ≤ 15 }
+    requires source { IsSource world.now source light }
     ensures reached { OnOk result (AreReached world.now source light reached.new.items) }
     ensures scratch { OnOk result (IsScratch world.now levels.new) }
 {

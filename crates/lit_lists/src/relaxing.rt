@@ -3,7 +3,7 @@ ghost use Rattle.std.specs.Prelude.{◌≡◌, ◌<◌, ◌≤◌, ◌-◌, leng
 ghost use Rattle.cave_base.specs.Box.{cell_count};
 ghost use Rattle.cave_model.specs.Cells.{AreNeighbours};
 ghost use Rattle.cave_model.specs.Passages.{ArePassages};
-ghost use Rattle.lit_lists.specs.Relaxing.{AreWaysFrom, Grows, HasPassed, IsBegun, IsSeeded, IsPassed, IsSettled};
+ghost use Rattle.lit_lists.specs.Relaxing.{AreWaysFrom, Grows, IsBegun, IsSeeded, IsPassed, IsSettled, PassesOn};
 ghost use Rattle.lit_lists.specs.Relaxing.{Relaxes};
 
 use cave_base::Cell;
@@ -53,9 +53,8 @@ fn pass_to_all(
 ) -> Result<(), AllocError>
     requires cells { length levels.old ≡ cell_count world.now.size }
     requires inside { from < cell_count world.now.size }
-    ensures grows { OnOk result (Grows world.now (slice_index levels.old from)
+    ensures { OnOk result (PassesOn world.now from
         (slice_index levels.old) queue.old.items (slice_index levels.new) queue.new.items) }
-    ensures passed { OnOk result (HasPassed world.now (slice_index levels.new) from) }
 {
     for to in world.neighbours(from) {
         if let Some(to) = to {
@@ -77,9 +76,8 @@ fn pass_to_these(
     requires inside { from < cell_count world.now.size }
     requires low { slice_index levels.old from ≤ 15 }
     requires these { AreWaysFrom world.now from these.now }
-    ensures grows { OnOk result (Grows world.now (slice_index levels.old from)
+    ensures { OnOk result (PassesOn world.now from
         (slice_index levels.old) queue.old.items (slice_index levels.new) queue.new.items) }
-    ensures passed { OnOk result (HasPassed world.now (slice_index levels.new) from) }
 {
     for to in these {
         offer(world, levels, queue, from, *to)?;
@@ -99,9 +97,8 @@ fn pass_on(
     requires cells { length levels.old ≡ cell_count world.now.size }
     requires inside { from < cell_count world.now.size }
     requires low { slice_index levels.old from ≤ 15 }
-    ensures grows { OnOk result (Grows world.now (slice_index levels.old from)
+    ensures { OnOk result (PassesOn world.now from
         (slice_index levels.old) queue.old.items (slice_index levels.new) queue.new.items) }
-    ensures passed { OnOk result (HasPassed world.now (slice_index levels.new) from) }
 {
     // Entering costs one at least, so of so little light nothing is left.
     if levels[from as usize] <= 1 {

@@ -14,7 +14,7 @@ four_fields a b c d t = (field a t, field b t, field c t, field d t)
 abbrev pub two_named : List ℕ → List ℕ → Members → Option Nbt × Option Nbt
 two_named a b ms = (last_named a ms, last_named b ms)
 
--- the same of these four names
+-- the last of the members with each of these four names
 abbrev pub four_named : List ℕ → List ℕ → List ℕ → List ℕ → Members
     → Option Nbt × Option Nbt × Option Nbt × Option Nbt
 four_named a b c d ms = (last_named a ms, last_named b ms, last_named c ms, last_named d ms)

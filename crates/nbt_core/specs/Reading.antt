@@ -20,7 +20,7 @@ abbrev pub ◌>>=◌ : {A B : Type 0} → Result A NbtFault → (A → Result B 
 (Ok x) >>= f = f x
 (Err e) >>= f = Err e
 
--- the same reading, with its value changed
+-- the reading with its value changed
 abbrev pub mapped : {A B : Type 0} → (A → B) → Reads A → Reads B
 mapped f (Ok x) = Ok (f x.0, x.1)
 mapped f (Err e) = Err e
@@ -35,7 +35,7 @@ abbrev pub Gives : {X Y : Type 0} → (X → Y) → Result X NbtFault → List �
 Gives view (Ok x) left read = read ≡ Ok (view x, left)
 Gives view (Err e) left read = Fails e read
 
--- the same of a call that leaves nothing to read on
+-- what a call that leaves nothing to read on returned is what reading gives, unless memory ran out
 abbrev pub GivesWhole : {X Y : Type 0} → (X → Y) → Result X NbtFault → Result Y NbtFault → Type 0
 GivesWhole view (Ok x) read = read ≡ Ok (view x)
 GivesWhole view (Err e) read = Fails e read

@@ -1,6 +1,7 @@
 -- The cells of claims, one claim after another.
 use Rattle.std.proofs.Common.{◌≡◌, ℕ, zero, suc, ◌+◌, ◌<◌, ◌≤◌, List, [], ◌∷◌, ◌++◌, length, take, slice_index}
 use Rattle.std.proofs.Common.{Contains, All, get_or, refl, sym, ap, subst, ◌∙◌, arith, inl, inr}
+use Rattle.std.specs.Prelude.{true, false}
 use Rattle.std.proofs.lemmas.Bool.{cases_eq}
 use Rattle.std.proofs.lemmas.List.{length-map, map-append, take_more, get_or-map}
 use Rattle.std.proofs.lemmas.List.Elements.{Contains-append_cases, Contains-push_cases, Contains-get_or}
@@ -12,7 +13,7 @@ use Rattle.proof_rules.proofs.ListLemmas.{distinct_append, no_more}
 use Rattle.weight_judge.specs.declared.claims.Claim.{Claim}
 use Rattle.weight_judge.proofs.ClaimLemmas.{to_map}
 use Rattle.node_judges.specs.Tests.{IsFree, AreLitBy}
-use Rattle.node_judges.specs.Weighed.{cells_claimed, AreFreeOnce, AreAllLeft}
+use Rattle.node_judges.specs.Weighed.{cells_claimed, AreFreeOnce, AreAllLeft, DecidesFreeOnce}
 
 -- ---- distinct numbers below a bound are few
 
@@ -99,6 +100,18 @@ module _ (lists : LitLists) (cells chosen : List ℕ) (claims : List Claim) (i :
         | inl has ↦ (s.free (get_or claims i d).cell cell_there).unlit ((l.each (get_or claims i d).cell).0 has)
         | inr before ↦ repeated before s
       ]
+
+-- ---- what is decided
+
+module _ (lists : LitLists) (cells chosen these : List ℕ) (most : ℕ) where
+  -- free cells below a number, each once, are no more than it
+  pub decides_once : AreFreeOnce lists cells chosen these → All (λ cell. cell < most) these
+      → DecidesFreeOnce lists cells chosen these most true
+  decides_once s below = record { decides = (λ t. s, λ is. refl); few = λ t. few_below most these s.distinct below }
+
+  -- others are refused
+  pub decides_not : (¬ AreFreeOnce lists cells chosen these) → DecidesFreeOnce lists cells chosen these most false
+  decides_not no_s = record { decides = (λ t. absurd cc, λ s. absurd (no_s s)); few = λ t. absurd cc }
 
 -- ---- places that are left
 

@@ -4,7 +4,7 @@ use Rattle.proof_rules.specs.Omitted.{left_without}
 use Rattle.weight_judge.specs.Rooms.{AreNoRooms}
 use Rattle.weight_judge.specs.declared.rooms.Room.{Room}
 use Rattle.node_judges.specs.Tally.{Tally}
-use Rattle.node_judges.specs.Tests.{AreAscending, AreInside, AreMatched}
+use Rattle.node_judges.specs.Tests.{AreAscendingBelow, AreMatched}
 use Rattle.node_judges.specs.declared.setting.Setting.{Setting}
 
 -- the cells of the region that aren't left out
@@ -14,8 +14,7 @@ left_in setting = left_without setting.omitted.now.items setting.region.now.item
 -- the lists and the region are those of a box of so many cells
 pub record IsOfBox (setting : Setting) (count : ℕ) : Type 0 where
   pub region : length setting.region.now.counts ≡ count
-  pub inside : AreInside setting.lists.now count
-  pub ascending : AreAscending setting.lists.now
+  pub places : AreAscendingBelow setting.lists.now count
   pub matched : AreMatched setting.lists.now count
 
 -- no cell is seen, and none of so many places has a room

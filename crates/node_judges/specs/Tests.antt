@@ -78,3 +78,8 @@ pub record AreLitBy (lists : LitLists) (places these : List ℕ) : Type 0 where
 -- the places of each cell ascend
 pub record AreAscending (lists : LitLists) : Type 0 where
   pub each : (cell : ℕ) → IsStrictlyIncreasing (lit_by lists cell)
+
+-- the places of each cell ascend, and each is below this number
+pub record AreAscendingBelow (lists : LitLists) (limit : ℕ) : Type 0 where
+  pub ascending : AreAscending lists
+  pub inside : AreInside lists limit

@@ -1,8 +1,9 @@
 -- The tests of weighted leaves, by the lists of who lights what. This is this project's own.
-use Rattle.std.specs.Prelude.{◌<◌, ◌⊎◌, ℕ, Bool, List, [], ◌∷◌, map, All, Contains, MatchBool}
+use Rattle.std.specs.Prelude.{◌<◌, ◌≤◌, ◌⊎◌, ◌↔◌, ℕ, Bool, List, [], ◌∷◌, length, map, All, Contains, IsTrue, MatchBool}
 use Rattle.cave_model.specs.Plan.{AreDistinct}
 use Rattle.lit_lists.specs.Lists.{LitLists}
 use Rattle.proof_rules.specs.declared.groups.Group.{Group}
+use Rattle.proof_rules.specs.Groups.{all_cells_of}
 use Rattle.weight_judge.specs.declared.claims.Claim.{Claim}
 use Rattle.weight_judge.specs.Claims.{claims_of}
 use Rattle.weight_judge.specs.Held.{AreAllKept}
@@ -16,6 +17,11 @@ cells_claimed claims = map (λ claim. claim.cell) claims
 pub record AreFreeOnce (lists : LitLists) (cells chosen these : List ℕ) : Type 0 where
   pub distinct : AreDistinct these
   pub free : (cell : ℕ) → Contains these cell → IsFree lists cells chosen cell
+
+-- whether these are free cells, each once; where they are, there are no more of them than this number
+pub record DecidesFreeOnce (lists : LitLists) (cells chosen these : List ℕ) (most : ℕ) (result : Bool) : Type 0 where
+  pub decides : IsTrue result ↔ AreFreeOnce lists cells chosen these
+  pub few : IsTrue result → length these ≤ most
 
 -- for each claim the places that light its cell and aren't barred
 abbrev pub AreAllLeft : LitLists → List ℕ → List Claim → List (List ℕ) → Type 0
@@ -44,7 +50,9 @@ MayNotBeWeighted lists cells chosen barred groups = (¬ HaveCapacities groups)
     ⊎ ((places : List (List ℕ)) × AreAllLeft lists barred (claims_of groups) places
     × (¬ AreAllKept (claims_of groups) places))
 
--- whether groups may stand in a weighted leaf
-abbrev pub DecidesWeighted : LitLists → List ℕ → List ℕ → List ℕ → List Group → Bool → Type 0
-DecidesWeighted lists cells chosen barred groups result = MatchBool result
-    (MayBeWeighted lists cells chosen barred groups) (MayNotBeWeighted lists cells chosen barred groups)
+-- whether groups may stand in a weighted leaf; where they may, they have no more cells than this number
+pub record DecidesWeighted (lists : LitLists) (cells chosen barred : List ℕ) (most : ℕ) (groups : List Group)
+    (result : Bool) : Type 0 where
+  pub decides : MatchBool result (MayBeWeighted lists cells chosen barred groups)
+      (MayNotBeWeighted lists cells chosen barred groups)
+  pub few : IsTrue result → length (all_cells_of groups) ≤ most

@@ -2,7 +2,7 @@
 ghost use Rattle.std.specs.Prelude.{◌<◌, All, length, MatchBool};
 ghost use Rattle.cave_model.specs.Plan.{AreDistinct};
 ghost use Rattle.node_judges.specs.Loads as loads;
-ghost use Rattle.node_judges.specs.Tests.{AreAscending, AreInside};
+ghost use Rattle.node_judges.specs.Tests.{AreAscendingBelow, AreInside};
 ghost use Rattle.weight_judge.specs.Claims.{AreClaims};
 ghost use Rattle.weight_judge.specs.Rooms.{AreNoRooms};
 
@@ -32,8 +32,7 @@ fn take_open(rooms: &mut Rooms, places: &[Cell], barred: &Tally, claim: Claim) -
 /// Takes all claims from the rooms of places of which none lights a cell, until one that isn't barred has less.
 fn take_all(rooms: &mut Rooms, lists: &Lists, barred: &Tally, claims: &[Claim]) -> bool
     requires claims { AreClaims claims.now }
-    requires ascending { AreAscending lists.now }
-    requires inside { AreInside lists.now (length rooms.old) }
+    requires places { AreAscendingBelow lists.now (length rooms.old) }
     requires none { AreNoRooms (length rooms.old) rooms.old }
     ensures kept { loads.DecidesKept lists.now barred.now.items claims.now result }
     ensures within { loads.AreWithin lists.now claims.now (length rooms.old) rooms.new }
@@ -71,8 +70,7 @@ fn clear_all(rooms: &mut Rooms, lists: &Lists, claims: &[Claim])
 /// room, and none has one after it.
 pub fn keep_open(rooms: &mut Rooms, lists: &Lists, barred: &Tally, claims: &[Claim]) -> bool
     requires claims { AreClaims claims.now }
-    requires ascending { AreAscending lists.now }
-    requires inside { AreInside lists.now (length rooms.old) }
+    requires places { AreAscendingBelow lists.now (length rooms.old) }
     requires none { AreNoRooms (length rooms.old) rooms.old }
     ensures kept { loads.DecidesKept lists.now barred.now.items claims.now result }
     ensures none { AreNoRooms (length rooms.old) rooms.new }

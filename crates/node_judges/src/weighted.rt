@@ -1,9 +1,8 @@
 //! Whether groups may stand in a weighted leaf.
-ghost use Rattle.std.specs.Prelude.{◌≡◌, ◌↔◌, ◌<◌, ◌≤◌, [], length, IsTrue, IfOk};
+ghost use Rattle.std.specs.Prelude.{◌≡◌, ◌↔◌, [], length, IsTrue, IfOk};
 ghost use Rattle.node_judges.specs.Settings.{AreClear, IsOfBox, left_in};
 ghost use Rattle.node_judges.specs.Tests.{AreMatched};
 ghost use Rattle.node_judges.specs.Weighed as weighed;
-ghost use Rattle.proof_rules.specs.Groups.{all_cells_of};
 
 use crate::loads::keep_open;
 use crate::setting::Setting;
@@ -30,9 +29,8 @@ fn are_free_once(setting: &Setting, seen: &mut Tally, claims: &[Claim]) -> Resul
     requires none { seen.old.items ≡ [] }
     requires wide { length setting.now.region.now.counts ≡ length seen.old.counts }
     requires matched { AreMatched setting.now.lists.now (length seen.old.counts) }
-    ensures once { IfOk result (λ yes. IsTrue yes ↔ weighed.AreFreeOnce setting.now.lists.now (left_in setting.now)
-        setting.now.chosen.now.items (weighed.cells_claimed claims.now)) }
-    ensures few { IfOk result (λ yes. IsTrue yes → length claims.now ≤ length seen.old.counts) }
+    ensures once { IfOk result (weighed.DecidesFreeOnce setting.now.lists.now (left_in setting.now)
+        setting.now.chosen.now.items (weighed.cells_claimed claims.now) (length seen.old.counts)) }
     ensures whole { length seen.new.counts ≡ length seen.old.counts }
 {
     mark_lit(setting.lists, setting.chosen, seen)?;
@@ -59,9 +57,8 @@ pub fn is_weighted(
 ) -> Result<bool, AllocError>
     requires setting { IsOfBox setting.now (length seen.old.counts) }
     requires clear { AreClear (length seen.old.counts) seen.old rooms.old }
-    ensures decides { IfOk result (weighed.DecidesWeighted setting.now.lists.now (left_in setting.now)
-        setting.now.chosen.now.items setting.now.barred.now.items groups.now) }
-    ensures few { IfOk result (λ yes. IsTrue yes → length (all_cells_of groups.now) ≤ length seen.old.counts) }
+    ensures weighted { IfOk result (weighed.DecidesWeighted setting.now.lists.now (left_in setting.now)
+        setting.now.chosen.now.items setting.now.barred.now.items (length seen.old.counts) groups.now) }
     ensures clear { IfOk result (λ _. AreClear (length seen.old.counts) seen.new rooms.new) }
     ensures whole { length seen.new.counts ≡ length seen.old.counts }
 {

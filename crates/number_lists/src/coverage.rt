@@ -17,7 +17,7 @@ impl Coverage {
         Ok(Coverage { lights, lit_by })
     }
 
-    /// The same once more.
+    /// A copy of the coverage.
     pub fn copied(&self, alloc: Global) -> Result<Coverage, AllocError> {
         Ok(Coverage {
             lights: self.lights.copied(alloc)?,

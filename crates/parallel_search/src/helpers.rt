@@ -1,7 +1,9 @@
-//! The threads that help a search: how many are at work at once, and how many wait for their turn. A thread that is
-//! started for a part of the search waits until one of those at work has come to its end, so that no part is kept from
-//! a thread that is free. When a thread starts, and when it waits, is all that comes of these numbers: no promise rests
-//! on them. Source: a counting semaphore (Dijkstra, "Cooperating sequential processes").
+//! The threads that help a search: how many are at work at once, and how many wait for their turn. A part of the search
+//! goes to a new thread while fewer wait than may be at work; otherwise it stays with the thread that came to it. A new
+//! thread begins as soon as there is a free place among those at work. A thread that needs what another one finds gives
+//! up its place, and takes one again afterwards. So a part that waits is taken up as soon as a place is free; one that
+//! stayed with its thread is not. No promise rests on these numbers: they say only when a thread starts, and when it
+//! waits. Source: a counting semaphore (Dijkstra, "Cooperating sequential processes").
 use std::sync::atomic::{AtomicUsize, Ordering};
 use std::sync::{Condvar, Mutex, Wait};
 

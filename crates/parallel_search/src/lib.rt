@@ -1,7 +1,8 @@
 //! The search for the fewest places by many threads, which share one search: fork and join over the steps of
 //! `search_core`. What is promised of a region's plan is what one thread promises.
-#![tactic(auto, using(search_traits::proofs::DeskLemmas::continues_same, search_traits::proofs::DeskLemmas::continues_then, search_traits::proofs::DeskLemmas::continues_look, search_traits::proofs::DeskLemmas::continues_take, search_traits::proofs::DeskLemmas::continues_enter, search_traits::proofs::DeskLemmas::works_enter, search_traits::proofs::DeskLemmas::works_then, search_core::proofs::AtNodeLemmas::still_at_node))]
+#![tactic(auto, using(search_core::proofs::StepRules::search_steps))]
 
+mod forks;
 mod hand;
 mod helpers;
 mod shared_rounds;

@@ -46,9 +46,9 @@ pub fn check(
     Ok(verdict)
 }
 
-/// The same over what the reader of the certificate has left, which is at most `limit` bytes. It is read to its end
-/// whatever is found on the way, so a failed read and too many bytes go before any fault of the structure or the table
-/// and before any verdict. One line of the certificate is kept at a time.
+/// Judges the certificate that the reader has left, which is at most `limit` bytes, as `check` judges a slice. It is
+/// read to its end whatever is found on the way. So a failed read and too many bytes go before any fault of the
+/// structure or the table, and before any verdict. One line of the certificate is kept at a time.
 pub fn check_from<C: Read>(
     alloc: Global,
     structure: &[u8],

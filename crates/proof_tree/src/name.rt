@@ -45,7 +45,7 @@ impl Name {
         Ok(Name { kids })
     }
 
-    /// The same name again.
+    /// A copy of the name.
     pub fn try_clone(&self) -> Result<Name, OutOfMemory>
         ensures { IfOk result (λ name. name ≡ self.now) }
     {

@@ -19,7 +19,7 @@ opens_as_long size worker (split ∷ splits) =
     then Take worker split.piece.name ∷ Open split.piece.name split.cell ∷ []
     else []) ++ opens_as_long size worker splits
 
--- the same for all workers from this number on
+-- the workers from this number on take pieces whose names are so long, and open each
 abbrev pub opens : ℕ → ℕ → List Worked → List Event
 opens size worker [] = []
 opens size worker (work ∷ works) = opens_as_long size worker work.opened ++ opens size (worker + 1) works
@@ -44,7 +44,7 @@ abbrev pub closes_of : ℕ → List Fathomed → List Event
 closes_of worker [] = []
 closes_of worker (closed ∷ rest) = Take worker closed.piece.name ∷ Close worker closed ∷ closes_of worker rest
 
--- the same for all workers from this number on
+-- the workers from this number on take pieces, and close each
 abbrev pub closes : ℕ → List Worked → List Event
 closes worker [] = []
 closes worker (work ∷ works) = closes_of worker work.closed ++ closes (worker + 1) works

@@ -1,3 +1,4 @@
 pub mod AloneLemmas
 pub mod AtNodeLemmas
 pub mod PieceLemmas
+pub mod StepRules

@@ -50,7 +50,7 @@ impl<'a> Ground<'a> {
         self.refused < self.picks
     }
 
-    /// The same where one more place that was picked is barred.
+    /// The ground below a node where one more place that was picked is barred.
     pub fn refusing(&self) -> Ground<'a>
         requires { self.now.refused < self.now.picks }
         ensures same { result.region.now ≡ self.now.region.now }
@@ -68,7 +68,7 @@ impl<'a> Ground<'a> {
         }
     }
 
-    /// The same where what is left of one more branch went to a thread of its own.
+    /// The ground below a node where what is left of one more branch went to a thread of its own.
     pub fn split(&self) -> Ground<'a>
         requires { 0 < self.now.splits }
         ensures same { result.region.now ≡ self.now.region.now }

@@ -1,7 +1,7 @@
 //! The search for the fewest places in one thread, as far as it is proved: branch and bound in which a strategy
 //! proposes and judges accept. It is generic over the strategy, of which nothing is promised. Its steps serve
 //! `parallel_search`, too.
-#![tactic(auto, using(search_traits::proofs::DeskLemmas::continues_same, search_traits::proofs::DeskLemmas::continues_then, search_traits::proofs::DeskLemmas::continues_look, search_traits::proofs::DeskLemmas::continues_take, search_traits::proofs::DeskLemmas::continues_enter, search_traits::proofs::DeskLemmas::works_enter, search_traits::proofs::DeskLemmas::works_then, crate::proofs::AtNodeLemmas::still_at_node))]
+#![tactic(auto, using(crate::proofs::StepRules::search_steps))]
 
 mod aimed;
 mod beginning;

@@ -42,7 +42,7 @@ impl<'o, P: Proposer, O: Observer> Told<'o, P, O> {
 }
 
 impl<'o, S: Strategy, O: Observer> Told<'o, S, O> {
-    /// The same for the search below a node, which begins with what was found above it.
+    /// A strategy for the search below a node, with its observer. It begins with what was found above the node.
     pub fn below(
         &self,
         alloc: Global,

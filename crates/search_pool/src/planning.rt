@@ -23,7 +23,7 @@ use std::thread::Threads;
 /// The fewest places that light every cell of the region, and a tree that proves it, by many workers, where a cover may
 /// be known. Where one leaf closes the root no worker starts. One turn is one node worked on, or one piece opened; the
 /// workers have even budgets of the turns, and where one budget is used up the search stops.
-pub fn plan_with<C: Closer + Send + Sync, R: Threads + Wait + Sync, O: Observer>(
+pub fn plan_with<C, R, O>(
     rt: &R,
     alloc: Global,
     region: &Arc<Region>,
@@ -32,6 +32,10 @@ pub fn plan_with<C: Closer + Send + Sync, R: Threads + Wait + Sync, O: Observer>
     turns: Option<u64>,
     known: Option<Cover>,
 ) -> Result<Report, PoolFault>
+where
+    C: Closer + Send + Sync,
+    R: Threads + Wait + Sync,
+    O: Observer,
     requires { IfSome known (λ cover. cover.region ≡ arc_value region.now) }
     ensures best { IfOk result (λ report.
         IsBest (arc_value region.now) report.cover (tree_of report.proof)) }

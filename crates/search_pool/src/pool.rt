@@ -71,18 +71,18 @@ fn deepest_for(region: &Region, kids: usize, workers: u32) -> usize {
 }
 
 /// Starts a worker for each deque, joins them, and closes the beacon and the deques.
-pub(crate) fn run_named<
-    B: Naming + Send + Sync,
-    C: Closer + Send + Sync,
-    R: Threads + Wait + Sync,
-    O: Observer,
->(
+pub(crate) fn run_named<B, C, R, O>(
     run: Run<'_, C, R, O>,
     beacon: Beacon,
     first: Seat,
     owners: Vec<Owner>,
     thieves: &[Thief],
 ) -> Result<Ran, Unrun>
+where
+    B: Naming + Send + Sync,
+    C: Closer + Send + Sync,
+    R: Threads + Wait + Sync,
+    O: Observer,
     requires few { (run.workers.number ≡ B.workers) × (length owners.items ≡ B.workers) }
     requires seat { (beacon ≡ B.beacon) × (first.beacon ≡ B.beacon)
         × (first.knows ≡ at_first (length run.best.now.places)) }

@@ -55,14 +55,7 @@ fn idle<B: Naming, R: Wait>(rt: &R, slot: &Slot<B>, post: Post) -> Option<Done<B
 
 /// Starts a worker for each slot, one after another, and joins them, the last first. A worker that can't be started
 /// gives an idle result.
-pub(crate) fn run_from<
-    's,
-    'e,
-    B: Naming + Send + Sync + 'e,
-    C: Closer + Send + Sync + 'e,
-    R: Threads + Wait + Sync + 'e,
-    O: Observer + 'e,
->(
+pub(crate) fn run_from<'s, 'e, B, C, R, O>(
     scope: &'s Scope<'s, &'e ()>,
     rt: &'e R,
     common: Common<'e>,
@@ -70,6 +63,11 @@ pub(crate) fn run_from<
     observer: &'e O,
     team: Team<'e, B>,
 ) -> Result<Vec<Done<B>>, Unrun>
+where
+    B: Naming + Send + Sync + 'e,
+    C: Closer + Send + Sync + 'e,
+    R: Threads + Wait + Sync + 'e,
+    O: Observer + 'e,
     requires ground { (common.beacon.now ≡ B.beacon) × (arc_value common.region.now ≡ B.region)
         × AreThieves B.deque 0 common.thieves.now }
     requires few { team.first + length team.slots.now ≤ 64 }
@@ -114,12 +112,7 @@ pub(crate) fn run_from<
 }
 
 /// Starts a worker for each slot, and joins them. Together they have all turns, if these are limited.
-pub(crate) fn run_scope<
-    B: Naming + Send + Sync,
-    C: Closer + Send + Sync,
-    R: Threads + Wait + Sync,
-    O: Observer,
->(
+pub(crate) fn run_scope<B, C, R, O>(
     rt: &R,
     common: Common<'_>,
     closer: &C,
@@ -127,6 +120,11 @@ pub(crate) fn run_scope<
     observer: &O,
     turns: Option<u64>,
 ) -> Result<Vec<Done<B>>, Unrun>
+where
+    B: Naming + Send + Sync,
+    C: Closer + Send + Sync,
+    R: Threads + Wait + Sync,
+    O: Observer,
     requires ground { (common.beacon.now ≡ B.beacon) × (arc_value common.region.now ≡ B.region)
         × AreThieves B.deque 0 common.thieves.now }
     requires count { (0 < length slots.now) × (length slots.now ≤ 64) }

@@ -15,9 +15,11 @@ use std::sync::Wait;
 use std::thread::Threads;
 
 /// Opens the beacon, pushes the root's kids on worker 0's deque, and runs the workers.
-pub(crate) fn run_opened<C: Closer + Send + Sync, R: Threads + Wait + Sync, O: Observer>(
-    run: Run<'_, C, R, O>,
-) -> Result<Ran, Unrun>
+pub(crate) fn run_opened<C, R, O>(run: Run<'_, C, R, O>) -> Result<Ran, Unrun>
+where
+    C: Closer + Send + Sync,
+    R: Threads + Wait + Sync,
+    O: Observer,
     requires { IsRootSplit (arc_value run.search.region.now) run.root.now }
     ensures { IfOk result (HandOver (arc_value run.entry.search.region.now) run.entry.best.now.places
         run.entry.root.now run.entry.workers.number run.entry.turns) }

@@ -75,12 +75,16 @@ fn steal_from<B: Naming>(holdings: &mut Holdings<B>, thieves: &[Thief], deque: u
 
 /// Opens the piece that was taken last, where its name is short and that is worth while, or closes it.
 #[tactic(auto, using(search_traits::proofs::DeskLemmas::continues_then))]
-fn work_on<B: Naming, C: Closer, D: Desk>(
+fn work_on<B, C, D>(
     search: SharedSearch<'_, C>,
     deepest: usize,
     holdings: &mut Holdings<B>,
     desk: &mut D,
 )
+where
+    B: Naming,
+    C: Closer,
+    D: Desk,
     requires { (arc_value search.region.now ≡ B.region) × ((D.state desk.old).region ≡ B.region) }
     ensures worker { holdings.new.worker ≡ holdings.old.worker }
     ensures floors { KeepFloors B.region (D.state desk.old).shown holdings.old.closed
@@ -106,7 +110,7 @@ fn has_short_name<B: Naming>(holdings: &Holdings<B>, length: usize) -> bool {
 
 /// Takes its seat and passes from the slot, and works until it finds no piece, or its budget is used up. None where the
 /// slot has nothing for it.
-pub(crate) fn work_one<B: Naming, C: Closer, R: Wait, O: Observer>(
+pub(crate) fn work_one<B, C, R, O>(
     rt: &R,
     common: Common<'_>,
     closer: &C,
@@ -114,6 +118,11 @@ pub(crate) fn work_one<B: Naming, C: Closer, R: Wait, O: Observer>(
     observer: &O,
     post: Post,
 ) -> Option<Done<B>>
+where
+    B: Naming,
+    C: Closer,
+    R: Wait,
+    O: Observer,
     requires { (common.beacon.now ≡ B.beacon) × (arc_value common.region.now ≡ B.region)
         × AreThieves B.deque 0 common.thieves.now }
     ensures { IfSome result (λ done.

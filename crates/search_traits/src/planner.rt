@@ -21,7 +21,9 @@ pub struct Allowance {
 /// What is promised of a plan doesn't tell who made it. `plan` plans one region, as `PlansRegions` says. Who makes it
 /// holds the handles for threads, if it starts some; so what is planned by one that starts none is proved to return.
 #[derive(Drop)]
-pub struct Planner<F> {
+pub struct Planner<'o, F, O> {
     pub allowance: Allowance,
     pub plan: F,
+    /// Who is told of each region before it is planned.
+    pub observer: &'o O,
 }

@@ -9,6 +9,7 @@ ghost use Rattle.torch_plan.specs.Status.{IsRefused, status};
 ghost use Rattle.torch_plan.specs.Usage.{explained_status};
 
 use crate::environment::Environment;
+use crate::resources::Resources;
 use crate::runs::{answer_check, answer_dark, answer_plan};
 use crate::status::status_of;
 use crate::system::System;
@@ -16,7 +17,6 @@ use cave_runs::{Outcome, RunFault, Verdict, Watcher};
 use clap::Error;
 use clap::error::ErrorKind;
 use command_words::{Request, request_of};
-use std::alloc::Global;
 use std::io::Write;
 use std::sync::Wait;
 use std::thread::Threads;
@@ -111,14 +111,17 @@ fn is_overwriting<S: System>(
 /// refused (this project's own). What is asked for is written to the output, help by the system. The file that was made
 /// for a proof, if one was, is handed back. The observer is told of a plan while it goes on, and where free cells lie
 /// at a side of the box, as of dark cells.
-pub fn answer<X: Threads + Wait + Sync, S: System, O: Watcher, W: Write>(
-    threads: &X,
-    alloc: Global,
+pub fn answer<X, O, S, W>(
+    resources: &Resources<'_, X, O>,
     system: &S,
-    observer: &O,
     words: &[String],
     output: &mut W,
 ) -> (u8, Option<S::Kept>)
+where
+    X: Threads + Wait + Sync,
+    O: Watcher,
+    S: System,
+    W: Write,
     // Where the words are well formed, what they ask for is done over the system's files, and the file that is handed
     // back holds the certificate; else help is explained where they ask for it, or the mistake in usage that they make.
     ensures does { Answers (S.sources system.now) (map (λ word. string_bytes word) words.now)
@@ -127,12 +130,10 @@ pub fn answer<X: Threads + Wait + Sync, S: System, O: Watcher, W: Write>(
     ensures silent { IsRefused result.0 → Keeps (W.contents output.old) (W.contents output.new) }
 {
     let environment = Environment {
-        threads,
-        alloc,
+        resources: &*resources,
         system,
-        observer,
     };
-    let request = match request_of(alloc, words) {
+    let request = match request_of(resources.alloc, words) {
         Ok(request) => request,
         Err(error) => return (explained(system, &error), None),
     };
@@ -168,7 +169,7 @@ pub fn answer<X: Threads + Wait + Sync, S: System, O: Watcher, W: Write>(
             table,
             rule,
         } => {
-            let ended = answer_check(alloc, system, file, proof, table, rule, output);
+            let ended = answer_check(&environment, file, proof, table, rule, output);
             (status_of_check(system, ended), None)
         }
     }

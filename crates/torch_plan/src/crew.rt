@@ -5,12 +5,12 @@ ghost use Rattle.std.specs.Prelude.{◌≡◌, ◌<◌, None};
 ghost use Rattle.search_core.specs.SoFar.{IsSoFar};
 ghost use Rattle.search_traits.specs.Planning.{IsRegionPlan};
 
+use crate::resources::Resources;
 use instance_regions::Region;
 use parallel_search::{Helpers, plan_by_helpers, plan_on_by_helpers};
 use plan_options::Workers;
 use search_core::{BY_CELLS, SoFar, goes_on_by_picks, plan_by_one, plan_by_picks};
 use search_traits::{Observer, RegionFault, RegionPlan, Strategy, first_of};
-use std::alloc::Global;
 use std::marker::PhantomData;
 use std::sync::{Arc, Wait};
 use std::thread::Threads;
@@ -22,73 +22,76 @@ const FEW: usize = 128;
 /// are picked: so many strategies would take too much memory.
 const MANY: usize = 6000;
 
-/// More workers than one, with their strategy, the handles for their threads, and an observer, who may hold them back.
+/// More workers than one, with their strategy and what they plan with. The observer may hold them back.
 #[derive(Drop)]
 pub(crate) struct Crew<'e, X, S, O> {
-    pub(crate) rt: &'e X,
+    pub(crate) resources: &'e Resources<'e, X, O>,
     pub(crate) workers: Workers,
     pub(crate) strategy: PhantomData<S>,
-    pub(crate) observer: &'e O,
     ghost many: { 1 < workers.number },
 }
 
 impl<'e, X: Threads + Wait + Sync, S: Strategy + Send + Sync, O: Observer> Crew<'e, X, S, O> {
     /// So many workers.
-    pub(crate) fn new(rt: &'e X, workers: Workers, observer: &'e O) -> Crew<'e, X, S, O>
+    pub(crate) fn new(resources: &'e Resources<'e, X, O>, workers: Workers) -> Crew<'e, X, S, O>
         requires { 1 < workers.number }
         ensures { result.workers ≡ workers }
     {
         Crew {
-            rt,
+            resources,
             workers,
             strategy: PhantomData,
-            observer,
         }
     }
 
     /// The fewest places that light every cell of the region, and a tree that proves it. One turn is one node worked
     /// on. With any number of turns all workers share one search of a large region; with so many alone, and in a very
     /// large region where no places are picked, they share out pieces of it.
-    pub(crate) fn plan_region(
-        &self,
-        alloc: Global,
-        region: &Arc<Region>,
-        turns: Option<u64>,
-    ) -> RegionPlan
+    pub(crate) fn plan_region(&self, region: &Arc<Region>, turns: Option<u64>) -> RegionPlan
         ensures { IsRegionPlan self.now.workers.number turns (arc_value region.now) result }
     {
         if region.places().len() <= FEW {
-            return self.plan_by_many(alloc, region, turns, None);
+            return self.plan_by_many(region, turns, None);
         }
         if let None = turns {
             if region.cells().len() <= MANY {
-                return self.plan_helped(alloc, region);
+                return self.plan_helped(region);
             }
         }
-        self.plan_after_one(alloc, region, turns)
+        self.plan_after_one(region, turns)
     }
 
     /// The plan by all workers at one search, with any number of turns.
-    fn plan_helped(&self, alloc: Global, region: &Arc<Region>) -> RegionPlan
+    fn plan_helped(&self, region: &Arc<Region>) -> RegionPlan
         ensures { IsRegionPlan self.now.workers.number None (arc_value region.now) result }
     {
-        let helpers = Helpers::new(self.rt, self.workers.number);
-        let plan = plan_by_helpers::<S, O, X>(alloc, region, self.observer, &helpers);
-        self.plan_of_all(alloc, region, plan)
+        let Resources {
+            threads,
+            alloc,
+            observer,
+        } = *self.resources;
+        let helpers = Helpers::new(threads, self.workers.number);
+        let plan = plan_by_helpers::<S, O, X>(alloc, region, observer, &helpers);
+        self.plan_of_all(region, plan)
     }
 
-    /// The same by picks, where this was found before.
-    fn plan_on_helped(&self, alloc: Global, region: &Arc<Region>, found: SoFar) -> RegionPlan
+    /// The plan by all workers at one search by picks, with any number of turns, where this was found before.
+    fn plan_on_helped(&self, region: &Arc<Region>, found: SoFar) -> RegionPlan
         requires { IsSoFar (arc_value region.now) None found }
         ensures { IsRegionPlan self.now.workers.number None (arc_value region.now) result }
     {
-        let helpers = Helpers::new(self.rt, self.workers.number);
-        let plan = plan_on_by_helpers::<S, O, X>(alloc, region, found, self.observer, &helpers);
-        self.plan_of_all(alloc, region, plan)
+        let Resources {
+            threads,
+            alloc,
+            observer,
+        } = *self.resources;
+        let helpers = Helpers::new(threads, self.workers.number);
+        let plan = plan_on_by_helpers::<S, O, X>(alloc, region, found, observer, &helpers);
+        self.plan_of_all(region, plan)
     }
 
     /// What is planned as by one worker with any number of turns, as a plan by all.
-    fn plan_of_all(&self, alloc: Global, region: &Arc<Region>, plan: RegionPlan) -> RegionPlan
+    fn plan_of_all(&self, region: &Arc<Region>, plan: RegionPlan) -> RegionPlan
         requires { IsRegionPlan 1 None (arc_value region.now) plan }
         ensures { IsRegionPlan self.now.workers.number None (arc_value region.now) result }
     {
@@ -106,18 +109,23 @@ impl<'e, X: Threads + Wait + Sync, S: Strategy + Send + Sync, O: Observer> Crew<
                     floor,
                     granted: turns,
                 };
-                self.plan_further(alloc, region, None, found)
+                self.plan_further(region, None, found)
             }
             Err(fault) => Err(fault),
         }
     }
 
     /// The plan by one worker first, then by all.
-    fn plan_after_one(&self, alloc: Global, region: &Arc<Region>, turns: Option<u64>) -> RegionPlan
+    fn plan_after_one(&self, region: &Arc<Region>, turns: Option<u64>) -> RegionPlan
         ensures { IsRegionPlan self.now.workers.number turns (arc_value region.now) result }
     {
         let first = first_of(turns, BY_CELLS);
-        match plan_by_one::<S, O>(alloc, region, Some(first), self.observer) {
+        let Resources {
+            alloc,
+            observer,
+            ..
+        } = *self.resources;
+        match plan_by_one::<S, O>(alloc, region, Some(first), observer) {
             Ok(plan) => Ok(plan),
             Err(RegionFault::Stopped { cover, floor, .. }) => {
                 let found = SoFar {
@@ -125,46 +133,39 @@ impl<'e, X: Threads + Wait + Sync, S: Strategy + Send + Sync, O: Observer> Crew<
                     floor,
                     granted: first,
                 };
-                self.plan_on(alloc, region, turns, found)
+                self.plan_on(region, turns, found)
             }
             Err(fault) => Err(fault),
         }
     }
 
-    /// The plan with the turns that are left, where this was found before. By cells pieces are shared out, with a budget
-    /// each. By picks all share one search, or one worker goes on where turns are limited: pieces are of cells, which
-    /// suit such a region far less.
-    fn plan_on(
-        &self,
-        alloc: Global,
-        region: &Arc<Region>,
-        turns: Option<u64>,
-        found: SoFar,
-    ) -> RegionPlan
+    /// The plan with the turns that are left, where this was found before. By cells, pieces are shared out, each with a
+    /// budget. By picks, all share one search; where turns are limited, one worker goes on, since pieces are of cells,
+    /// which suit such a region far less.
+    fn plan_on(&self, region: &Arc<Region>, turns: Option<u64>, found: SoFar) -> RegionPlan
         requires { IsSoFar (arc_value region.now) turns found }
         ensures { IsRegionPlan self.now.workers.number turns (arc_value region.now) result }
     {
-        if goes_on_by_picks::<S>(alloc, region.as_ref())? {
+        if goes_on_by_picks::<S>(self.resources.alloc, region.as_ref())? {
             return match turns {
-                None => self.plan_on_helped(alloc, region, found),
-                Some(_) => self.plan_picking(alloc, region, turns, found),
+                None => self.plan_on_helped(region, found),
+                Some(_) => self.plan_picking(region, turns, found),
             };
         }
-        self.plan_further(alloc, region, turns, found)
+        self.plan_further(region, turns, found)
     }
 
     /// One worker's plan by picks, where this was found before.
-    fn plan_picking(
-        &self,
-        alloc: Global,
-        region: &Arc<Region>,
-        turns: Option<u64>,
-        found: SoFar,
-    ) -> RegionPlan
+    fn plan_picking(&self, region: &Arc<Region>, turns: Option<u64>, found: SoFar) -> RegionPlan
         requires { IsSoFar (arc_value region.now) turns found }
         ensures { IsRegionPlan self.now.workers.number turns (arc_value region.now) result }
     {
-        match plan_by_picks::<S, O>(alloc, region, turns, found, self.observer) {
+        let Resources {
+            alloc,
+            observer,
+            ..
+        } = *self.resources;
+        match plan_by_picks::<S, O>(alloc, region, turns, found, observer) {
             Ok(plan) => Ok(plan),
             Err(
                 RegionFault::Stopped {
@@ -178,7 +179,7 @@ impl<'e, X: Threads + Wait + Sync, S: Strategy + Send + Sync, O: Observer> Crew<
                     floor,
                     granted,
                 };
-                self.plan_further(alloc, region, turns, found)
+                self.plan_further(region, turns, found)
             }
             Err(fault) => Err(fault),
         }

@@ -9,6 +9,7 @@ ghost use Rattle.search_traits.specs.Turns.{IsWithin};
 
 use crate::crew::Crew;
 use crate::pool_answers::{plan_of, told};
+use crate::resources::Resources;
 use instance_regions::{Cover, Region};
 use search_core::{BranchAndBound, SoFar, carried_cover, carried_plan, core_region, cover_in_core};
 use search_pool::{PoolFault, plan_with};
@@ -16,7 +17,6 @@ use search_traits::{
     BestPlan, Observer, RegionFault, RegionPlan, Strategy, are_spent, rest_of, smaller_of, stopped,
     with_earlier, with_known,
 };
-use std::alloc::Global;
 use std::sync::{Arc, Wait};
 use std::thread::Threads;
 
@@ -24,7 +24,6 @@ impl<'e, X: Threads + Wait + Sync, S: Strategy + Send + Sync, O: Observer> Crew<
     /// The plan by many workers, where this was found before.
     pub(crate) fn plan_further(
         &self,
-        alloc: Global,
         region: &Arc<Region>,
         turns: Option<u64>,
         found: SoFar,
@@ -42,7 +41,7 @@ impl<'e, X: Threads + Wait + Sync, S: Strategy + Send + Sync, O: Observer> Crew<
             return stopped(region, workers, turns, granted, cover, floor);
         }
         let left = rest_of(turns, granted);
-        let plan = self.plan_by_core(alloc, region, left, &cover, floor);
+        let plan = self.plan_by_core(region, left, &cover, floor);
         let plan = with_known(region, workers, left, plan, cover, floor);
         with_earlier(region, workers, turns, granted, plan)
     }
@@ -50,7 +49,6 @@ impl<'e, X: Threads + Wait + Sync, S: Strategy + Send + Sync, O: Observer> Crew<
     /// The plan by many workers, where a cover of the region may be known.
     pub(crate) fn plan_by_many(
         &self,
-        alloc: Global,
         region: &Arc<Region>,
         turns: Option<u64>,
         known: Option<Cover>,
@@ -58,12 +56,17 @@ impl<'e, X: Threads + Wait + Sync, S: Strategy + Send + Sync, O: Observer> Crew<
         requires known { IfSome known (λ cover. cover.region ≡ arc_value region.now) }
         ensures { IsRegionPlan self.now.workers.number turns (arc_value region.now) result }
     {
+        let Resources {
+            threads,
+            alloc,
+            observer,
+        } = *self.resources;
         match plan_with::<BranchAndBound<S>, X, O>(
-            self.rt,
+            threads,
             alloc,
             region,
             self.workers,
-            self.observer,
+            observer,
             turns,
             known,
         ) {
@@ -77,7 +80,6 @@ impl<'e, X: Threads + Wait + Sync, S: Strategy + Send + Sync, O: Observer> Crew<
     /// are left.
     fn plan_by_core(
         &self,
-        alloc: Global,
         region: &Arc<Region>,
         turns: Option<u64>,
         known: &Cover,
@@ -87,22 +89,27 @@ impl<'e, X: Threads + Wait + Sync, S: Strategy + Send + Sync, O: Observer> Crew<
         requires floor { IsFloor (arc_value region.now) floor }
         ensures { IsRegionPlan self.now.workers.number turns (arc_value region.now) result }
     {
+        let Resources {
+            threads,
+            alloc,
+            observer,
+        } = *self.resources;
         let Some(core) = core_region::<S>(alloc, region.as_ref())? else {
             let known = known.try_clone()?;
-            return self.plan_by_many(alloc, region, turns, Some(known));
+            return self.plan_by_many(region, turns, Some(known));
         };
         let core = Arc::new(alloc, core)?;
         let first = cover_in_core::<S>(alloc, region.as_ref(), &core, known)?;
         match plan_with::<BranchAndBound<S>, X, O>(
-            self.rt,
+            threads,
             alloc,
             &core,
             self.workers,
-            self.observer,
+            observer,
             turns,
             first,
         ) {
-            Ok(report) => self.plan_carried(alloc, region, turns, known, plan_of(report)),
+            Ok(report) => self.plan_carried(region, turns, known, plan_of(report)),
             Err(
                 PoolFault::Stopped {
                     cover,
@@ -125,7 +132,6 @@ impl<'e, X: Threads + Wait + Sync, S: Strategy + Send + Sync, O: Observer> Crew<
     /// the turns that are left.
     fn plan_carried(
         &self,
-        alloc: Global,
         region: &Arc<Region>,
         turns: Option<u64>,
         known: &Cover,
@@ -140,7 +146,12 @@ impl<'e, X: Threads + Wait + Sync, S: Strategy + Send + Sync, O: Observer> Crew<
             proof,
             turns: granted,
         } = plan;
-        if let Some((cover, proof)) = carried_plan::<S>(alloc, region, &cover, proof)? {
+        if let Some((cover, proof)) = carried_plan::<S>(
+            self.resources.alloc,
+            region,
+            &cover,
+            proof,
+        )? {
             return Ok(BestPlan {
                 cover,
                 proof,
@@ -148,7 +159,7 @@ impl<'e, X: Threads + Wait + Sync, S: Strategy + Send + Sync, O: Observer> Crew<
             });
         }
         let known = known.try_clone()?;
-        let plan = self.plan_by_many(alloc, region, rest_of(turns, granted), Some(known));
+        let plan = self.plan_by_many(region, rest_of(turns, granted), Some(known));
         with_earlier(region, self.workers.number, turns, granted, plan)
     }
 }

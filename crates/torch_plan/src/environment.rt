@@ -1,12 +1,10 @@
 //! What a command line runs in.
 
-use std::alloc::Global;
+use crate::resources::Resources;
 
-/// What a command line runs in: what starts its threads, its memory, its files, and who is told of it.
+/// What a command line runs in: its resources, and the system that opens its files.
 #[derive(Drop)]
 pub(crate) struct Environment<'e, X, S, O> {
-    pub(crate) threads: &'e X,
-    pub(crate) alloc: Global,
+    pub(crate) resources: &'e Resources<'e, X, O>,
     pub(crate) system: &'e S,
-    pub(crate) observer: &'e O,
 }

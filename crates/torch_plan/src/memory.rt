@@ -4,6 +4,7 @@ ghost use Rattle.torch_plan.specs.Memory.{AnswersInMemory, bytes_at};
 ghost use Rattle.torch_plan.specs.Status.{IsRefused};
 
 use crate::answering::answer;
+use crate::resources::Resources;
 use crate::system::System;
 use cave_runs::{RunFault, Watcher};
 use clap::Error;
@@ -92,11 +93,9 @@ impl<'a> System for Memory<'a> {
 
 /// `answer` over files in memory and these bytes of standard input. Two names are two files.
 pub fn answer_in_memory<X: Threads + Wait + Sync, O: Watcher>(
-    threads: &X,
-    alloc: Global,
+    resources: &Resources<'_, X, O>,
     files: &[NamedFile<'_>],
     input: &[u8],
-    observer: &O,
     words: &[String],
 ) -> Ended
     // What the words ask for was done over the bytes of the files that they name, or they were explained.
@@ -105,13 +104,14 @@ pub fn answer_in_memory<X: Threads + Wait + Sync, O: Watcher>(
     // A refused input, a mistake in usage, and refused memory or threads leave the output empty.
     ensures silent { IsRefused result.status → result.output.items ≡ [] }
 {
+    let alloc = resources.alloc;
     let memory = Memory {
         alloc,
         files,
         input,
     };
     let mut output = Vec::new(alloc);
-    let (status, proof) = answer(threads, alloc, &memory, observer, words, &mut output);
+    let (status, proof) = answer(resources, &memory, words, &mut output);
     Ended {
         status,
         output,

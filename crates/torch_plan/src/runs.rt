@@ -47,19 +47,23 @@ fn table_of<S: System>(
 }
 
 /// The dark cells of a structure.
-pub(crate) fn answer_dark<X, S: System, O: Watcher, W: Write>(
+pub(crate) fn answer_dark<X, S, O, W>(
     environment: &Environment<'_, X, S, O>,
     file: &str,
     table: Option<&str>,
     rule: Rule,
     output: &mut W,
 ) -> Result<(), RunFault>
+where
+    S: System,
+    O: Watcher,
+    W: Write,
     ensures { AnswersDark (S.sources environment.now.system.now) file.now (option_copied table.entry)
         (rule_of rule) (W.contents output.old) (W.contents output.new) result }
 {
-    let alloc = environment.alloc;
+    let alloc = environment.resources.alloc;
     let system = environment.system;
-    let observer = environment.observer;
+    let observer = environment.resources.observer;
     let table = table_of(alloc, system, table)?;
     let table = table.as_deref();
     if file == "-" {
@@ -72,7 +76,7 @@ pub(crate) fn answer_dark<X, S: System, O: Watcher, W: Write>(
 }
 
 /// Plans what the reader has. The file for the proof is made, or emptied, before it is read, and handed back.
-fn plan_from<X: Threads + Wait + Sync, S: System, O: Watcher, R: Read, W: Write>(
+fn plan_from<X, S, O, R, W>(
     environment: &Environment<'_, X, S, O>,
     reader: &mut R,
     table: Option<&[u8]>,
@@ -80,6 +84,12 @@ fn plan_from<X: Threads + Wait + Sync, S: System, O: Watcher, R: Read, W: Write>
     proof: Option<&str>,
     output: &mut W,
 ) -> (Result<Outcome, RunFault>, Option<S::Kept>)
+where
+    X: Threads + Wait + Sync,
+    S: System,
+    O: Watcher,
+    R: Read,
+    W: Write,
     ensures done { IfOk result.0 (λ outcome. IfSome (R.remaining reader.old) (λ bytes.
         Plans bytes (option_copied table.entry) (rule_of opts.now.rule)
         (given opts.now.workers.number opts.now.turns) outcome (W.contents output.old) (W.contents output.new)
@@ -99,31 +109,14 @@ fn plan_from<X: Threads + Wait + Sync, S: System, O: Watcher, R: Read, W: Write>
         (made_in (S.sources environment.now.system.now) (option_copied proof.entry))
         (held_by S.Kept.contents result.1) }
 {
+    let resources = environment.resources;
     let Some(path) = proof else {
-        let result = run_plan(
-            environment.threads,
-            environment.alloc,
-            reader,
-            table,
-            opts,
-            environment.observer,
-            output,
-            &mut Unkept,
-        );
+        let result = run_plan(resources, reader, table, opts, output, &mut Unkept);
         return (result, None);
     };
     match environment.system.create(path) {
         Some(mut kept) => {
-            let result = run_plan(
-                environment.threads,
-                environment.alloc,
-                reader,
-                table,
-                opts,
-                environment.observer,
-                output,
-                &mut kept,
-            );
+            let result = run_plan(resources, reader, table, opts, output, &mut kept);
             (result, Some(kept))
         }
         None => (Err(RunFault::WriteFailed), None),
@@ -131,7 +124,7 @@ fn plan_from<X: Threads + Wait + Sync, S: System, O: Watcher, R: Read, W: Write>
 }
 
 /// The plan of a structure, and the file for its proof, where one was made.
-pub(crate) fn answer_plan<X: Threads + Wait + Sync, S: System, O: Watcher, W: Write>(
+pub(crate) fn answer_plan<X, S, O, W>(
     environment: &Environment<'_, X, S, O>,
     file: &str,
     table: Option<&str>,
@@ -139,12 +132,17 @@ pub(crate) fn answer_plan<X: Threads + Wait + Sync, S: System, O: Watcher, W: Wr
     proof: Option<&str>,
     output: &mut W,
 ) -> (Result<Outcome, RunFault>, Option<S::Kept>)
+where
+    X: Threads + Wait + Sync,
+    S: System,
+    O: Watcher,
+    W: Write,
     ensures { AnswersPlan (S.sources environment.now.system.now) file.now (option_copied table.entry)
         (option_copied proof.entry) (rule_of opts.now.rule) (given opts.now.workers.number opts.now.turns)
         (W.contents output.old) (W.contents output.new) (held_by S.Kept.contents result.1) result.0 }
 {
     let system = environment.system;
-    let table = match table_of(environment.alloc, system, table) {
+    let table = match table_of(environment.resources.alloc, system, table) {
         Ok(table) => table,
         Err(fault) => return (Err(fault), None),
     };
@@ -160,18 +158,19 @@ pub(crate) fn answer_plan<X: Threads + Wait + Sync, S: System, O: Watcher, W: Wr
 }
 
 /// The verdict on a certificate. Both files are opened before either is read.
-pub(crate) fn answer_check<S: System, W: Write>(
-    alloc: Global,
-    system: &S,
+pub(crate) fn answer_check<X, S: System, O, W: Write>(
+    environment: &Environment<'_, X, S, O>,
     file: &str,
     proof: &str,
     table: Option<&str>,
     rule: Rule,
     output: &mut W,
 ) -> Result<Verdict, RunFault>
-    ensures { AnswersCheck (S.sources system.now) file.now proof.now (option_copied table.entry) (rule_of rule)
-        (W.contents output.old) (W.contents output.new) result }
+    ensures { AnswersCheck (S.sources environment.now.system.now) file.now proof.now (option_copied table.entry)
+        (rule_of rule) (W.contents output.old) (W.contents output.new) result }
 {
+    let alloc = environment.resources.alloc;
+    let system = environment.system;
     let table = table_of(alloc, system, table)?;
     let table = table.as_deref();
     if file == "-" {

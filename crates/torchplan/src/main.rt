@@ -4,7 +4,7 @@
 use host_system::{Host, Progress, spare_descriptors, words_of};
 use std::io;
 use std::process::ExitCode;
-use torch_plan::answer;
+use torch_plan::{Resources, answer};
 
 fn main(rt: HostRuntime) -> ExitCode {
     let _taken = spare_descriptors(&rt);
@@ -12,8 +12,13 @@ fn main(rt: HostRuntime) -> ExitCode {
     let host = Host::new(&rt, &progress);
     ExitCode::from(match words_of(&rt, &host) {
         Ok(words) => {
+            let resources = Resources {
+                threads: &rt,
+                alloc: rt.alloc(),
+                observer: &progress,
+            };
             let mut output = io::writer(&rt);
-            let (status, _kept) = answer(&rt, rt.alloc(), &host, &progress, &words, &mut output);
+            let (status, _kept) = answer(&resources, &host, &words, &mut output);
             status
         }
         Err(status) => status,

@@ -7,7 +7,7 @@ use number_lists::{Dominance, first_dominating, small};
 use proof_tree::Bar;
 use std::alloc::{AllocError, Global};
 
-/// The same, where a place that the reduced instance lacks dominates none.
+/// The places of a node, where a place that the reduced instance lacks dominates none.
 #[derive(Clone, Copy)]
 struct KeptPlaces<'a> {
     site: NodePlaces<'a>,

@@ -6,7 +6,7 @@ use number_lists::{set_bit, small};
 use proof_rules::{Group, Share};
 use std::alloc::{AllocError, Global};
 
-/// The same groups once more.
+/// A copy of the groups.
 pub(crate) fn copied_groups(
     alloc: Global,
     groups: &[Group],

@@ -1,13 +1,14 @@
 //! Finished trees without the kids that their branches can do without.
 
 use crate::groups::copied_groups;
-use crate::needless_kids::{FinishedBranch, Needless, NodeRows, Told};
+use crate::needless_kids::{FinishedBranch, Needless, Told};
+use crate::node_rows::NodeRows;
 use crate::pruning::{bars_above, copied};
 use crate::spoken::Spoken;
 use cave_base::Sequence;
 use instance_reduction::{InRegion, NodePlaces, RegionInstance};
-use number_lists::{bits_of, clear_bit, drop_all, is_set, set_bit};
-use proof_tree::{Bar, Below, Kids, Proof, wrap};
+use number_lists::{bits_of, clear_bit, is_set, set_bit};
+use proof_tree::{Below, Kids, Proof, wrap};
 use std::alloc::{AllocError, Global};
 
 /// A copy of the tree of a node without the kids that its branches can do without.
@@ -22,95 +23,14 @@ pub fn without_needless_kids(
         barred: Vec::from_slice(alloc, node.barred())?,
         gone: vec![in alloc; 0u64; node.barred().len()]?,
     };
-    let told = lessened(alloc, whole, left, tree, whole.region.places().len(), true)?;
+    let lessening = Lessening {
+        alloc,
+        whole,
+        is_first: true,
+    };
+    let told = lessening.lessened(left, tree, whole.region.places().len())?;
     let Told { tree, spoken: _ } = told;
     Ok(tree)
-}
-
-/// The tree of a node without the kids and bars of places that are gone, if it isn't deeper than there is room; and
-/// without needless kids, where such are looked for.
-#[cycle(lessening)]
-fn lessened(
-    alloc: Global,
-    whole: RegionInstance<'_>,
-    left: NodeRows,
-    tree: &Proof,
-    room: usize,
-    is_first: bool,
-) -> Result<Told, AllocError> {
-    let mut left = left;
-    let mut spoken = Spoken::none(alloc, whole.region)?;
-    let (bars, rest) = bars_above(alloc, tree)?;
-    let bars = left.take_bars(alloc, &bars, &mut spoken)?;
-    if room == 0 {
-        return Ok(Told {
-            tree: copied(alloc, &[])?,
-            spoken,
-        });
-    }
-    let bare = match rest {
-        Proof::Branch { cell, kids } => {
-            let places = whole.open_at(alloc, InRegion::of(*cell), &left.barred)?;
-            let trees = kids.trees();
-            let told = all_lessened(alloc, whole, &left, &places, trees, room - 1, is_first)?;
-            let finished = FinishedBranch {
-                whole,
-                left: &left,
-                cell: *cell,
-                places: &places,
-                kids: &told,
-            };
-            let needless = finished.needless(alloc, is_first)?;
-            let kids = if needless.bars.is_empty() {
-                told
-            } else {
-                let trees = trees_of(alloc, told)?;
-                left.leave_out(&needless);
-                all_lessened(alloc, whole, &left, &places, &trees, room - 1, false)?
-            };
-            branch(alloc, *cell, kids, needless, &mut spoken)?
-        }
-        Proof::Omit { cells, kid } => {
-            left.omit(cells.as_slice());
-            let told = lessened(alloc, whole, left, kid.tree(), room - 1, is_first)?;
-            let Told {
-                tree,
-                spoken: below,
-            } = told;
-            spoken.join(&below);
-            spoken.add_cells(cells.as_slice());
-            let cells = Vec::from_slice(alloc, cells.as_slice())?;
-            omitted(alloc, cells, tree)?
-        }
-        Proof::Pick {
-            place,
-            with,
-            without,
-        } => picked(
-            alloc,
-            whole,
-            left,
-            PickedTrees {
-                place: *place,
-                with: with.tree(),
-                without: without.tree(),
-            },
-            room - 1,
-            is_first,
-            &mut spoken,
-        )?,
-        Proof::Leaf(cells) => {
-            spoken.add_cells(cells.as_slice());
-            copied(alloc, cells.as_slice())?
-        }
-        Proof::Weighted(groups) => {
-            spoken.add_groups(groups.as_slice());
-            Proof::Weighted(copied_groups(alloc, groups.as_slice())?)
-        }
-        _ => copied(alloc, &[])?,
-    };
-    let tree = wrap(alloc, bars, bare)?;
-    Ok(Told { tree, spoken })
 }
 
 /// A place that is picked, and the trees with it chosen and with it barred.
@@ -121,119 +41,201 @@ struct PickedTrees<'a> {
     without: &'a Proof,
 }
 
-/// The pick of both trees, each made shorter. One of a place that is gone is its second tree. What the tree speaks of
-/// gains what they do.
-#[cycle(lessening)]
-fn picked(
+/// How trees are made shorter: in this region, and whether kids that branches can do without are looked for.
+#[derive(Clone, Copy)]
+struct Lessening<'a> {
     alloc: Global,
-    whole: RegionInstance<'_>,
-    left: NodeRows,
-    trees: PickedTrees<'_>,
-    room: usize,
+    whole: RegionInstance<'a>,
     is_first: bool,
-    spoken: &mut Spoken,
-) -> Result<Proof, AllocError> {
-    let PickedTrees {
-        place,
-        with,
-        without,
-    } = trees;
-    let mut rest = left.copied(alloc)?;
-    set_bit(rest.barred.as_mut_slice(), place as usize);
-    let without = lessened(alloc, whole, rest, without, room, is_first)?;
-    spoken.join(&without.spoken);
-    if is_set(&left.gone, place as usize) {
-        let Told { tree, .. } = without;
-        return Ok(tree);
-    }
-    let mut below = left;
-    for lit in whole.instance.spread(InRegion::of(place)) {
-        clear_bit(below.unlit.as_mut_slice(), *lit as usize);
-    }
-    let with = lessened(alloc, whole, below, with, room, is_first)?;
-    spoken.join(&with.spoken);
-    let (Told { tree: with, .. }, Told { tree: without, .. }) = (with, without);
-    Ok(Proof::Pick {
-        place,
-        with: Below::of(alloc, with)?,
-        without: Below::of(alloc, without)?,
-    })
 }
 
-/// The same for each tree of a branch, whose kids have these places, but for those that are gone.
-#[cycle(lessening)]
-fn all_lessened(
-    alloc: Global,
-    whole: RegionInstance<'_>,
-    left: &NodeRows,
-    places: &[u32],
-    trees: &[Proof],
-    room: usize,
-    is_first: bool,
-) -> Result<Vec<Told>, AllocError> {
-    let mut barred = Vec::from_slice(alloc, &left.barred)?;
-    let mut found = Vec::with_capacity(alloc, trees.len())?;
-    for index in 0..trees.len() {
-        let place = places.get(index).copied().unwrap_or(u32::MAX);
-        if !is_set(&left.gone, place as usize) {
-            let mut below = left.copied(alloc)?;
-            below.barred.clear();
-            below.barred.extend_from_slice(&barred)?;
-            for lit in whole.instance.spread(InRegion::of(place)) {
-                clear_bit(below.unlit.as_mut_slice(), *lit as usize);
-            }
-            found.push(lessened(alloc, whole, below, &trees[index], room, is_first)?)?;
+impl<'a> Lessening<'a> {
+    /// Once more, where no needless kids are looked for.
+    fn again(self) -> Lessening<'a> {
+        Lessening {
+            alloc: self.alloc,
+            whole: self.whole,
+            is_first: false,
         }
-        set_bit(barred.as_mut_slice(), place as usize);
     }
-    Ok(found)
-}
 
-impl NodeRows {
-    fn copied(&self, alloc: Global) -> Result<NodeRows, AllocError> {
-        Ok(NodeRows {
-            unlit: Vec::from_slice(alloc, &self.unlit)?,
-            barred: Vec::from_slice(alloc, &self.barred)?,
-            gone: Vec::from_slice(alloc, &self.gone)?,
+    /// The tree of a node without the kids and bars of places that are gone, if it isn't deeper than there is room; and
+    /// without needless kids, where such are looked for.
+    #[cycle(lessening)]
+    fn lessened(self, left: NodeRows, tree: &Proof, room: usize) -> Result<Told, AllocError> {
+        let mut left = left;
+        let mut spoken = Spoken::none(self.alloc, self.whole.region)?;
+        let (bars, rest) = bars_above(self.alloc, tree)?;
+        let bars = left.take_bars(self.alloc, &bars, &mut spoken)?;
+        if room == 0 {
+            return Ok(Told {
+                tree: copied(self.alloc, &[])?,
+                spoken,
+            });
+        }
+        let bare = self.bare(left, rest, room - 1, &mut spoken)?;
+        let tree = wrap(self.alloc, bars, bare)?;
+        Ok(Told { tree, spoken })
+    }
+
+    /// A tree that has no bars above it, made shorter. What is spoken of gains what it speaks of.
+    #[cycle(lessening)]
+    fn bare(
+        self,
+        left: NodeRows,
+        tree: &Proof,
+        room: usize,
+        spoken: &mut Spoken,
+    ) -> Result<Proof, AllocError> {
+        match tree {
+            Proof::Branch { cell, kids } => self.branch(left, *cell, kids.trees(), room, spoken),
+            Proof::Omit { cells, kid } => {
+                self.omission(left, cells.as_slice(), kid.tree(), room, spoken)
+            }
+            Proof::Pick {
+                place,
+                with,
+                without,
+            } => {
+                let trees = PickedTrees {
+                    place: *place,
+                    with: with.tree(),
+                    without: without.tree(),
+                };
+                self.pick(left, trees, room, spoken)
+            }
+            Proof::Leaf(cells) => {
+                spoken.add_cells(cells.as_slice());
+                copied(self.alloc, cells.as_slice())
+            }
+            Proof::Weighted(groups) => {
+                spoken.add_groups(groups.as_slice());
+                let groups = copied_groups(self.alloc, groups.as_slice())?;
+                Ok(Proof::Weighted(groups))
+            }
+            _ => copied(self.alloc, &[]),
+        }
+    }
+
+    /// The branch on the cell, with its kids made shorter, and without those that it can do without.
+    #[cycle(lessening)]
+    fn branch(
+        self,
+        left: NodeRows,
+        cell: u32,
+        kids: &[Proof],
+        room: usize,
+        spoken: &mut Spoken,
+    ) -> Result<Proof, AllocError> {
+        let mut left = left;
+        let places = self
+            .whole
+            .open_at(self.alloc, InRegion::of(cell), &left.barred)?;
+        let told = self.each(&left, &places, kids, room)?;
+        let finished = FinishedBranch {
+            whole: self.whole,
+            left: &left,
+            cell,
+            places: &places,
+            kids: &told,
+        };
+        let needless = finished.needless(self.alloc, self.is_first)?;
+        let kids = if needless.bars.is_empty() {
+            told
+        } else {
+            let trees = trees_of(self.alloc, told)?;
+            left.leave_out(&needless);
+            self.again().each(&left, &places, &trees, room)?
+        };
+        branch_of(self.alloc, cell, kids, needless, spoken)
+    }
+
+    /// The omission of the cells, with its tree made shorter.
+    #[cycle(lessening)]
+    fn omission(
+        self,
+        left: NodeRows,
+        cells: &[u32],
+        kid: &Proof,
+        room: usize,
+        spoken: &mut Spoken,
+    ) -> Result<Proof, AllocError> {
+        let mut left = left;
+        left.omit(cells);
+        let told = self.lessened(left, kid, room)?;
+        spoken.join(&told.spoken);
+        spoken.add_cells(cells);
+        let Told { tree, spoken: _ } = told;
+        let cells = Vec::from_slice(self.alloc, cells)?;
+        omitted(self.alloc, cells, tree)
+    }
+
+    /// The pick of both trees, each made shorter. One of a place that is gone is its second tree.
+    #[cycle(lessening)]
+    fn pick(
+        self,
+        left: NodeRows,
+        trees: PickedTrees<'_>,
+        room: usize,
+        spoken: &mut Spoken,
+    ) -> Result<Proof, AllocError> {
+        let PickedTrees {
+            place,
+            with,
+            without,
+        } = trees;
+        let mut rest = left.copied(self.alloc)?;
+        set_bit(rest.barred.as_mut_slice(), place as usize);
+        let without = self.lessened(rest, without, room)?;
+        spoken.join(&without.spoken);
+        if is_set(&left.gone, place as usize) {
+            let Told { tree, .. } = without;
+            return Ok(tree);
+        }
+        let mut below = left;
+        for lit in self.whole.instance.spread(InRegion::of(place)) {
+            clear_bit(below.unlit.as_mut_slice(), *lit as usize);
+        }
+        let with = self.lessened(below, with, room)?;
+        spoken.join(&with.spoken);
+        let (Told { tree: with, .. }, Told { tree: without, .. }) = (with, without);
+        Ok(Proof::Pick {
+            place,
+            with: Below::of(self.alloc, with)?,
+            without: Below::of(self.alloc, without)?,
         })
     }
 
-    /// Bars the places. Those of the bars whose places aren't gone: the tree speaks of what these go by.
-    fn take_bars(
-        &mut self,
-        alloc: Global,
-        bars: &[Bar],
-        spoken: &mut Spoken,
-    ) -> Result<Vec<Bar>, AllocError> {
-        let mut kept = Vec::new(alloc);
-        for bar in bars {
-            set_bit(self.barred.as_mut_slice(), bar.place as usize);
-            if !is_set(&self.gone, bar.place as usize) {
-                spoken.add_by(bar.by);
-                kept.push(*bar)?;
+    /// The trees of a branch, whose kids have these places, each made shorter; without those of places that are gone.
+    #[cycle(lessening)]
+    fn each(
+        self,
+        left: &NodeRows,
+        places: &[u32],
+        trees: &[Proof],
+        room: usize,
+    ) -> Result<Vec<Told>, AllocError> {
+        let mut barred = Vec::from_slice(self.alloc, &left.barred)?;
+        let mut found = Vec::with_capacity(self.alloc, trees.len())?;
+        for index in 0..trees.len() {
+            let place = places.get(index).copied().unwrap_or(u32::MAX);
+            if !is_set(&left.gone, place as usize) {
+                let mut below = left.copied(self.alloc)?;
+                below.barred.clear();
+                below.barred.extend_from_slice(&barred)?;
+                for lit in self.whole.instance.spread(InRegion::of(place)) {
+                    clear_bit(below.unlit.as_mut_slice(), *lit as usize);
+                }
+                found.push(self.lessened(below, &trees[index], room)?)?;
             }
+            set_bit(barred.as_mut_slice(), place as usize);
         }
-        Ok(kept)
-    }
-
-    /// Leaves out the cells.
-    fn omit(&mut self, cells: &[u32]) {
-        for cell in cells {
-            clear_bit(self.unlit.as_mut_slice(), *cell as usize);
-        }
-    }
-
-    /// Leaves out the places and cells for which kids go.
-    fn leave_out(&mut self, needless: &Needless) {
-        for bar in &needless.bars {
-            set_bit(self.gone.as_mut_slice(), bar.place as usize);
-        }
-        drop_all(self.unlit.as_mut_slice(), &needless.cells);
+        Ok(found)
     }
 }
 
-/// The branch on a cell below what is left out for it. What the tree speaks of gains what it does.
-fn branch(
+/// The branch on a cell with these kids, below what is left out for it. What is spoken of gains what it speaks of.
+fn branch_of(
     alloc: Global,
     cell: u32,
     kids: Vec<Told>,

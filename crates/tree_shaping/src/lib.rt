@@ -9,6 +9,7 @@ mod groups;
 mod kernel_cells;
 mod lessening;
 mod needless_kids;
+mod node_rows;
 mod pruning;
 mod spoken;
 

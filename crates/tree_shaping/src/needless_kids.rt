@@ -4,20 +4,12 @@
 //! go (this project's own). Where no leaf is weighted a branch keeps its kids: earlier versions of the certificate,
 //! which know no cells that are left out, can say it.
 
+use crate::node_rows::NodeRows;
 use crate::spoken::Spoken;
 use instance_reduction::RegionInstance;
 use number_lists::{keep_all, set_bit};
 use proof_tree::{Bar, Proof};
 use std::alloc::{AllocError, Global};
-
-/// Rows of the cells that are unlit at a node and not left out, of the places that are barred there, and of those that
-/// are, though the tree doesn't know it.
-#[derive(Drop)]
-pub(crate) struct NodeRows {
-    pub unlit: Vec<u64>,
-    pub barred: Vec<u64>,
-    pub gone: Vec<u64>,
-}
 
 /// A tree, and what it speaks of.
 #[derive(Drop)]

@@ -11,7 +11,7 @@ use std::alloc::{AllocError, Global};
 use std::sync::Wait;
 use std::test::Fail;
 use std::thread::Threads;
-use torch_plan::answer;
+use torch_plan::{Resources, answer};
 
 /// How many cases a file has, how many runs they took, and for each that differs what was due and what came.
 #[derive(Drop)]
@@ -48,7 +48,12 @@ fn came_of<X: Threads + Wait + Sync>(
     };
     let sides = Sides::new();
     let mut output = record.output(step);
-    let (status, _kept) = answer(rt, alloc, &machine, &sides, &command.words, &mut output);
+    let resources = Resources {
+        threads: rt,
+        alloc,
+        observer: &sides,
+    };
+    let (status, _kept) = answer(&resources, &machine, &command.words, &mut output);
     Ok(Came {
         status,
         told: record.told(),

@@ -9,7 +9,7 @@ use std::os::unix::fs::symlink;
 use std::sync::Wait;
 use std::test::Fail;
 use std::thread::Threads;
-use torch_plan::{Unobserved, answer};
+use torch_plan::{Resources, Unobserved, answer};
 
 /// What a pillar's plan says.
 const PLAN: &str = "torches 1\ndark 1\nT 0 1 0 floor\nlayer 1\nT\n";
@@ -38,7 +38,12 @@ fn ended<X: Threads + Wait + Sync>(
     let host = Host::new(rt, &progress);
     let words = words_of(alloc, folder, line)?;
     let mut output = Vec::new(alloc);
-    let (status, _kept) = answer(threads, alloc, &host, &Unobserved, &words, &mut output);
+    let resources = Resources {
+        threads,
+        alloc,
+        observer: &Unobserved,
+    };
+    let (status, _kept) = answer(&resources, &host, &words, &mut output);
     Ok((status, output))
 }
 

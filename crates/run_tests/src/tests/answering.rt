@@ -8,7 +8,7 @@ use std::process::Abort;
 use std::sync::Wait;
 use std::test::Fail;
 use std::thread::Threads;
-use torch_plan::{Rule, Unobserved, answer, run_plan_alone};
+use torch_plan::{Resources, Rule, Unobserved, answer, run_plan_alone};
 
 /// The words of a command line, parted by spaces.
 pub(crate) fn words_of(alloc: Global, line: &str) -> Result<Vec<String>, AllocError> {
@@ -31,7 +31,12 @@ fn help_that_cannot_be_printed_is_a_failed_write(rt: HostRuntime) -> Result<(), 
     };
     let words = words_of(alloc, "torchplan --help")?;
     let mut output = Vec::new(alloc);
-    let (status, _kept) = answer(&rt, alloc, &shelf, &Unobserved, &words, &mut output);
+    let resources = Resources {
+        threads: &rt,
+        alloc,
+        observer: &Unobserved,
+    };
+    let (status, _kept) = answer(&resources, &shelf, &words, &mut output);
     assert_eq!(rt; status, 6);
     assert_eq!(rt; [notes.explained.get(), notes.refused.get()], [1, 1]);
     assert!(rt; output.is_empty());
@@ -59,13 +64,17 @@ fn proof_of(alloc: Global, bytes: &[u8], rule: Rule) -> Result<Vec<u8>, AllocErr
     let mut reader = bytes;
     let mut text = Vec::new(alloc);
     let mut proof = Vec::new(alloc);
-    let _ = run_plan_alone(
+    let resources = Resources {
+        threads: &(),
         alloc,
+        observer: &Unobserved,
+    };
+    let _ = run_plan_alone(
+        &resources,
         &mut reader,
         Some(FELT_TABLE),
         rule,
         None,
-        &Unobserved,
         &mut text,
         &mut proof,
     );
@@ -88,7 +97,12 @@ fn written<X: Abort + Threads + Wait + Sync>(
     };
     let words = words_of(alloc, line)?;
     let mut output = Vec::new(alloc);
-    let (status, _kept) = answer(rt, alloc, &shelf, &Unobserved, &words, &mut output);
+    let resources = Resources {
+        threads: rt,
+        alloc,
+        observer: &Unobserved,
+    };
+    let (status, _kept) = answer(&resources, &shelf, &words, &mut output);
     assert_eq!(rt; status, 0, "{line}");
     Ok(notes.kept())
 }

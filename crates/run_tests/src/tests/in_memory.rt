@@ -8,7 +8,7 @@ use std::alloc::{AllocError, Global};
 use std::sync::Wait;
 use std::test::Fail;
 use std::thread::Threads;
-use torch_plan::{Ended, NamedFile, Unobserved, answer_in_memory};
+use torch_plan::{Ended, NamedFile, Resources, Unobserved, answer_in_memory};
 
 /// The plan of the pillar.
 const PLAN: &[u8] = b"torches 1\ndark 1\nT 0 1 0 floor\nlayer 1\nT\n";
@@ -50,7 +50,12 @@ fn ended<'f, X: Threads + Wait + Sync>(
         },
     ];
     let words = words_of(alloc, line)?;
-    Ok(answer_in_memory(rt, alloc, &files, cave, &Unobserved, &words))
+    let resources = Resources {
+        threads: rt,
+        alloc,
+        observer: &Unobserved,
+    };
+    Ok(answer_in_memory(&resources, &files, cave, &words))
 }
 
 #[test]

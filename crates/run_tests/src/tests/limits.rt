@@ -1,6 +1,7 @@
 //! Inputs at their limits and past them, and readers without end.
 
 use super::dark_streams::shown;
+use super::plan_streams::run_over;
 use super::planning::freely;
 use cave_files::caves::PILLAR;
 use cave_files::streams::{Endless, zeros_of};
@@ -8,7 +9,7 @@ use nbt_core::NbtFault;
 use proof_check::{CheckFault, check_from};
 use scan_core::ScanFault;
 use std::test::Fail;
-use torch_plan::{Input, Rule, RunFault, Unobserved, read_table, run_check, run_plan};
+use torch_plan::{Input, Rule, RunFault, read_table, run_check};
 
 /// The bytes that a structure file may have.
 const STRUCTURE_LIMIT: usize = 67_108_864;
@@ -38,16 +39,9 @@ fn a_structure_of_the_limit_is_judged_and_one_byte_more_is_too_long_to_each_comm
     let mut reader = zeros_of(STRUCTURE_LIMIT + 1);
     let ended = shown(alloc, &mut reader, &mut text);
     assert!(rt; matches!(&ended, Err(RunFault::TooLong(Input::StructureInput))));
-    let ended = run_plan(
-        &rt,
-        alloc,
-        &mut zeros_of(STRUCTURE_LIMIT + 1),
-        None,
-        &freely(&rt),
-        &Unobserved,
-        &mut text,
-        &mut proof,
-    );
+    let mut reader = zeros_of(STRUCTURE_LIMIT + 1);
+    let opts = freely(&rt);
+    let ended = run_over(&rt, alloc, &mut reader, &opts, &mut text, &mut proof);
     assert!(rt; matches!(&ended, Err(RunFault::TooLong(Input::StructureInput))));
     let ended = run_check(
         alloc,

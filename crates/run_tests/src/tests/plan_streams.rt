@@ -8,18 +8,29 @@ use std::io::{Read, Write};
 use std::sync::Wait;
 use std::test::Fail;
 use std::thread::Threads;
-use torch_plan::{Outcome, PlanOpts, Rule, RunFault, Unobserved, run_plan};
+use torch_plan::{Outcome, PlanOpts, Resources, Rule, RunFault, Unobserved, run_plan};
 
 /// Plans what the reader has, by the shipped rows.
-pub(crate) fn run_over<X: Threads + Wait + Sync, R: Read, W: Write, V: Write>(
+pub(crate) fn run_over<X, R, W, V>(
     rt: &X,
     alloc: Global,
     reader: &mut R,
     opts: &PlanOpts,
     writer: &mut W,
     proof: &mut V,
-) -> Result<Outcome, RunFault> {
-    run_plan(rt, alloc, reader, None, opts, &Unobserved, writer, proof)
+) -> Result<Outcome, RunFault>
+where
+    X: Threads + Wait + Sync,
+    R: Read,
+    W: Write,
+    V: Write,
+{
+    let resources = Resources {
+        threads: rt,
+        alloc,
+        observer: &Unobserved,
+    };
+    run_plan(&resources, reader, None, opts, writer, proof)
 }
 
 #[test]

@@ -6,7 +6,7 @@ use std::sync::Wait;
 use std::test::Fail;
 use std::thread::Threads;
 use torch_plan::{
-    Outcome, PlanOpts, Rule, RunFault, Unobserved, Watcher, Workers, run_check, run_plan,
+    Outcome, PlanOpts, Resources, Rule, RunFault, Unobserved, Watcher, Workers, run_check, run_plan,
 };
 
 /// How a run ended, or its fault line without `torchplan: `; and what was written to both writers.
@@ -25,31 +25,26 @@ pub fn plan_run<X: Threads + Wait + Sync>(
     table: Option<&[u8]>,
     opts: &PlanOpts,
 ) -> Result<Planned, AllocError> {
-    plan_by(rt, alloc, bytes, table, opts, &Unobserved)
+    let resources = Resources {
+        threads: rt,
+        alloc,
+        observer: &Unobserved,
+    };
+    plan_by(&resources, bytes, table, opts)
 }
 
-/// Plans these bytes by workers that pass the gate.
+/// Plans these bytes with these resources.
 pub fn plan_by<X: Threads + Wait + Sync, G: Watcher>(
-    rt: &X,
-    alloc: Global,
+    resources: &Resources<'_, X, G>,
     bytes: &[u8],
     table: Option<&[u8]>,
     opts: &PlanOpts,
-    gate: &G,
 ) -> Result<Planned, AllocError> {
+    let alloc = resources.alloc;
     let mut reader = bytes;
     let mut text = Vec::new(alloc);
     let mut proof = Vec::new(alloc);
-    let ended = match run_plan(
-        rt,
-        alloc,
-        &mut reader,
-        table,
-        opts,
-        gate,
-        &mut text,
-        &mut proof,
-    ) {
+    let ended = match run_plan(resources, &mut reader, table, opts, &mut text, &mut proof) {
         Ok(outcome) => Ok(outcome),
         Err(fault) => Err(line_of(alloc, &fault)?),
     };

@@ -4,7 +4,7 @@ use super::gates::Meeting;
 use super::planning::{is_accepted, lines_with, plan_by, plan_run, shared};
 use cave_files::caves::{RING, WIDE_RING};
 use std::test::Fail;
-use torch_plan::{NamedFile, Outcome, Rule, answer_in_memory};
+use torch_plan::{NamedFile, Outcome, Resources, Rule, answer_in_memory};
 
 #[test]
 fn both_workers_enter_where_a_file_is_planned(rt: HostRuntime) -> Result<(), Fail> {
@@ -12,7 +12,12 @@ fn both_workers_enter_where_a_file_is_planned(rt: HostRuntime) -> Result<(), Fai
     let bytes = RING.bytes(alloc)?;
     let opts = shared(&rt, 2, Rule::new(2, 1), None);
     let gate = Meeting::of([true, true]);
-    let planned = plan_by(&rt, alloc, &bytes, None, &opts, &gate)?;
+    let resources = Resources {
+        threads: &rt,
+        alloc,
+        observer: &gate,
+    };
+    let planned = plan_by(&resources, &bytes, None, &opts)?;
     assert!(rt; matches!(&planned.ended, Ok(Outcome::Done { .. })));
     assert!(rt; planned.text.starts_with(b"torches 2\ndark 28\n"));
     assert!(rt; gate.has_both());
@@ -30,7 +35,12 @@ fn both_workers_enter_and_are_told_of_where_words_ask_for_two(rt: HostRuntime) -
     }];
     let words = words_of(alloc, "torchplan plan ring --workers 2")?;
     let gate = Meeting::of([true, true]);
-    let ended = answer_in_memory(&rt, alloc, &files, b"", &gate, &words);
+    let resources = Resources {
+        threads: &rt,
+        alloc,
+        observer: &gate,
+    };
+    let ended = answer_in_memory(&resources, &files, b"", &words);
     assert_eq!(rt; ended.status, 0);
     assert!(rt; ended.output.starts_with(b"torches 2\ndark 28\n"));
     assert!(rt; gate.has_both());

@@ -3,7 +3,7 @@
 use cave_files::caves::TWO_CORRIDORS;
 use std::sync::atomic::{AtomicU64, Ordering};
 use std::test::Fail;
-use torch_plan::{Observer, Rule, Unkept, Watcher, run_plan_alone};
+use torch_plan::{Observer, Resources, Rule, Unkept, Watcher, run_plan_alone};
 
 /// What was told: two digits for the number of each region, and two for how many there are.
 #[derive(Drop)]
@@ -31,13 +31,17 @@ fn regions_are_told_one_after_another(rt: HostRuntime) -> Result<(), Fail> {
     };
     let mut reader = bytes.as_slice();
     let mut text = Vec::new(alloc);
-    let ended = run_plan_alone(
+    let resources = Resources {
+        threads: &rt,
         alloc,
+        observer: &digits,
+    };
+    let ended = run_plan_alone(
+        &resources,
         &mut reader,
         None,
         Rule::new(2, 1),
         None,
-        &digits,
         &mut text,
         &mut Unkept,
     );

@@ -104,7 +104,7 @@ fn listed(alloc: Global, cover: &Cover, tree: &Proof) -> Result<Vec<Cell>, Fail>
     Ok(listed)
 }
 
-/// The same of what a core assembles.
+/// The places and the cells of what a core assembles.
 fn assembled(alloc: Global, core: Core) -> Result<Vec<Cell>, Fail> {
     match core.assemble() {
         Ok((cover, tree)) => listed(alloc, &cover, &tree),

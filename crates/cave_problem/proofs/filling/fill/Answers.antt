@@ -37,7 +37,7 @@ stored c all is =
 pub loop-block-preserved : goal.loop-block-preserved
 loop-block-preserved c = (let after = (goal.at.loop-block-preserved c).After-store in record {
   filled = filling_next c.args.world.now c.args.cells.now c.args.places.now c.block_of-sources.result.now
-      c.loop-block.block c.cell_count-box_size.ensures.sound c.requires.legal c.block_of-sources.ensures
+      c.loop-block.block c.cell_count-box_size.ensures.sound c.requires.places.legal c.block_of-sources.ensures
       (length c.as_mut_slice-covered.result.now) c.loop-block.lit c.store.new.lit c.loop-block.covered
       c.in_ok-covered.field-0 c.loop-block-test.true (stored after c.in_ok-covered.field-0 c.in_ok-covered.ensures)
       c.loop-block.invariant.filled;

@@ -1,4 +1,4 @@
-use Rattle.std.proofs.Common.{◌≡◌, ◌≤◌, sym, ◌∙◌, arith}
+use Rattle.std.proofs.Common.{◌≡◌, sym, ◌∙◌, arith}
 use Rattle.std.proofs.lemmas.Bool.{true≢false}
 use Rattle.cave_base.specs.Box as grid
 use Rattle.cave_model.specs.Torches.{IsPlace}
@@ -24,14 +24,11 @@ pub returns-clause-places : goal.returns-clause-places
 returns-clause-places c =
     let all : c.loop-cell.cell ≡ grid.cell_count c.args.world.now.size =
     omega (arith, c.cell_count-cell-end.ensures.count) in
-    lists_all (IsPlace c.args.world.now) c.loop-cell.cell c.loop-cell.places.items
-    (λ cell place. (let b = place_inside c.args.world.now cell c.cell_count-cell-end.ensures.sound place in
-    omega (arith, all)))
-    c.loop-cell.invariant
-
-pub returns-clause-in_box : goal.returns-clause-in_box
-returns-clause-in_box c =
-    let within : c.loop-cell.cell ≤ grid.cell_count c.args.world.now.size =
-    omega (arith, c.cell_count-cell-end.ensures.count) in
-    lists_inside (IsPlace c.args.world.now) c.loop-cell.cell (grid.cell_count c.args.world.now.size)
-    c.loop-cell.places.items within c.loop-cell.invariant
+    record {
+      legal = lists_all (IsPlace c.args.world.now) c.loop-cell.cell c.loop-cell.places.items
+          (λ cell place. (let b = place_inside c.args.world.now cell c.cell_count-cell-end.ensures.sound place in
+          omega (arith, all)))
+          c.loop-cell.invariant;
+      inside = lists_inside (IsPlace c.args.world.now) c.loop-cell.cell (grid.cell_count c.args.world.now.size)
+          c.loop-cell.places.items (omega arith) c.loop-cell.invariant;
+    }

@@ -24,5 +24,5 @@ returns-clause-reached c =
     let taken = subst (λ (l : List ℕ). AreTaken c.relax.new.levels l c.take_lit.new.lit.items) c.as_slice.ensures.value
     c.in_ok-take_lit.ensures.taken in
     reached c.args.world.now c.args.levels.now c.relax.new.levels c.relax.new.queue.items c.take_lit.new.lit.items
-    c.args.source c.args.light c.requires.scratch.unlit c.requires.scratch.whole c.requires.inside
+    c.args.source c.args.light c.requires.scratch.unlit c.requires.scratch.whole c.requires.source.inside
     c.in_ok-relax.ensures.settled taken

@@ -40,8 +40,8 @@ loop-to-preserved c = elim c.match-to.branch [
   })
 ]
 
-pub returns-clause-passed : goal.returns-clause-passed
-returns-clause-passed c =
+pub returns : goal.returns
+returns c =
     passing_end c.args.world.now c.args.from (slice_index c.args.levels.now)
     (slice_index c.loop-to.levels) c.args.queue.now.items c.loop-to.queue.items c.neighbours-to-items.result
     c.loop-to.to-index (omega arith) c.loop-to.invariant.passing

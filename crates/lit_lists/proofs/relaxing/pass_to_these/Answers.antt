@@ -30,8 +30,8 @@ loop-to-preserved c = record {
       c.loop-to.to-index c.loop-to.invariant.listed c.in_ok-offer.ensures.grows c.in_ok-offer.ensures.passed;
 }
 
-pub returns-clause-passed : goal.returns-clause-passed
-returns-clause-passed c =
+pub returns : goal.returns
+returns c =
     listed_end c.args.world.now c.args.from (slice_index c.args.levels.now)
     (slice_index c.loop-to.levels) c.args.queue.now.items c.loop-to.queue.items c.args.these.now
     c.loop-to.to-index c.requires.low c.requires.these c.loop-to-test.false c.loop-to.invariant.listed

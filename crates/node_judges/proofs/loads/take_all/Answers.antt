@@ -10,21 +10,22 @@ pub take_open-requires-clause-inside : goal.take_open-requires-clause-inside
 take_open-requires-clause-inside c =
     let none : Claim = record { group = 0; capacity = 0; cell = 0; weight = 0 } in
     places_inside c.args.lists.now (length c.args.rooms.now)
-    (get_or c.args.claims.now c.loop-claim.claim-index none).cell c.lit_by.result.now c.requires.inside
+    (get_or c.args.claims.now c.loop-claim.claim-index none).cell c.lit_by.result.now c.requires.places.inside
     c.lit_by.ensures (length c.loop-claim.rooms) c.loop-claim.invariant.within.whole
 
 pub take_open-requires-clause-once : goal.take_open-requires-clause-once
 take_open-requires-clause-once c =
     let none : Claim = record { group = 0; capacity = 0; cell = 0; weight = 0 } in
     places_once c.args.lists.now (get_or c.args.claims.now c.loop-claim.claim-index none).cell c.lit_by.result.now
-    c.requires.ascending c.lit_by.ensures
+    c.requires.places.ascending c.lit_by.ensures
 
 pub returns-then-not-take_open-clause-kept : goal.returns-then-not-take_open-clause-kept
 returns-then-not-take_open-clause-kept c =
     let none : Claim = record { group = 0; capacity = 0; cell = 0; weight = 0 } in
     let claim = get_or c.args.claims.now c.loop-claim.claim-index none in
-    rooms_to_lack c.args.lists.now c.args.barred.now.items c.args.claims.now c.requires.ascending c.requires.claims
-    c.loop-claim.claim-index none c.loop-claim.rooms c.loop-claim-test.true c.loop-claim.invariant.rooms
+    rooms_to_lack c.args.lists.now c.args.barred.now.items c.args.claims.now c.requires.places.ascending
+    c.requires.claims c.loop-claim.claim-index none c.loop-claim.rooms c.loop-claim-test.true
+    c.loop-claim.invariant.rooms
     (subst (λ (l : List ℕ). LackOpenRoom l c.args.barred.now.items claim c.loop-claim.rooms) c.lit_by.ensures
     (off c.take_open.result
     (AreTakenOpen c.lit_by.result.now c.args.barred.now.items claim c.loop-claim.rooms c.take_open.new.rooms)
@@ -61,5 +62,6 @@ loop-claim-preserved c =
     }
 
 pub returns-clause-kept : goal.returns-clause-kept
-returns-clause-kept c = rooms_to_all c.args.lists.now c.args.barred.now.items c.args.claims.now c.requires.ascending
-    c.requires.claims c.loop-claim.claim-index c.loop-claim.rooms c.loop-claim-test.false c.loop-claim.invariant.rooms
+returns-clause-kept c = rooms_to_all c.args.lists.now c.args.barred.now.items c.args.claims.now
+    c.requires.places.ascending c.requires.claims c.loop-claim.claim-index c.loop-claim.rooms c.loop-claim-test.false
+    c.loop-claim.invariant.rooms

@@ -16,7 +16,7 @@ made c = record {
 parts : (c : After-first_unlit) → AreParts c.args.world.now (made c) c.in_ok-lit.field-0.covered.items
 parts c = record {
   dark = c.in_ok-cells.ensures.dark;
-  legal = c.in_ok-places.ensures.places;
+  legal = c.in_ok-places.ensures.places.legal;
   filled = subst (λ (cells : List ℕ). IsFilling c.args.world.now cells c.in_ok-places.places.items
       c.in_ok-lit.field-0.lit c.in_ok-lit.field-0.covered.items) c.deref.ensures.value
       (subst (λ (places : List ℕ). IsFilling c.args.world.now c.deref.result.now places

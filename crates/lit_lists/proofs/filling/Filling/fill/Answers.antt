@@ -5,7 +5,7 @@ use Rattle.lit_lists.specs.Filling.{lists_in, AreFull, HaveRoom}
 use Rattle.lit_lists.proofs.TakeLemmas.{has_or_not}
 use Rattle.lit_lists.proofs.RowLemmas.{HasIn, below_more, below_none, turned_all}
 use Rattle.lit_lists.proofs.PartLemmas.{length-parts}
-use Rattle.lit_lists.proofs.TurnLemmas.{room_row, row_inside, row_once, size_first, size_last, size_row}
+use Rattle.lit_lists.proofs.TurnLemmas.{room_row, row_once, size_first, size_last, size_row}
 use Rattle.lit_lists.proofs.filling.Filling.fill.Goals as goal
 
 pub loop-number-init : goal.loop-number-init
@@ -25,15 +25,12 @@ push_all-requires c =
     let now = c.loop-number.self in
     let there : c.loop-number.number + 1 < length starts =
     omega (arith, c.requires.rows.lists, c.loop-number-test.true) in
-    let long : length now.starts.items ≡ length c.args.self.now.starts.items = ap length c.loop-number.invariant.starts
-    in
     record {
-      there = row_inside starts c.args.parts.now c.requires.rows.whole c.loop-number.number there now.starts.items
-          c.requires.rows.boxed (omega (arith, long, c.requires.rows.lists, c.requires.ready.lists));
       room = subst (λ (l : List ℕ). HaveRoom l now.next.items (part starts c.args.parts.now c.loop-number.number))
           (sym c.loop-number.invariant.starts)
           (room_row starts c.args.parts.now c.requires.rows.whole c.loop-number.number there
-          c.args.self.now.starts.items now.next.items c.loop-number.invariant.size);
+          c.args.self.now.starts.items now.next.items c.requires.rows.boxed
+          (omega (arith, c.requires.rows.lists, c.requires.ready.lists)) c.loop-number.invariant.size);
       once = row_once starts c.args.parts.now c.requires.rows.whole c.loop-number.number there c.requires.rows.boxed;
     }
 

@@ -25,8 +25,7 @@ push-requires c =
       room = subst (λ (l : List ℕ). HasRoom l now.next.items (slice_index c.args.parts.now c.loop-part.part-index))
           (sym c.loop-part.invariant.starts)
           (room_next old.starts.items old.next.items now.next.items c.args.parts.now c.loop-part.part-index
-          c.loop-part-test.true (c.requires.there c.loop-part.part-index 0 c.loop-part-test.true) old.filling.whole
-          c.requires.room c.loop-part.invariant.next);
+          c.loop-part-test.true old.filling.whole c.requires.room c.loop-part.invariant.next);
     }
 
 pub loop-part-preserved : goal.loop-part-preserved
@@ -36,7 +35,7 @@ loop-part-preserved c =
     let new = c.push.new.self in
     let part = slice_index c.args.parts.now c.loop-part.part-index in
     let done = take c.loop-part.part-index c.args.parts.now in
-    let there = c.requires.there c.loop-part.part-index 0 c.loop-part-test.true in
+    let there = c.requires.room.there c.loop-part.part-index 0 c.loop-part-test.true in
     let long : length now.starts.items ≡ length old.starts.items = ap length c.loop-part.invariant.starts in
     let more : take (c.loop-part.part-index + 1) c.args.parts.now ≡ done ++ part ∷ [] =
     take_more c.args.parts.now c.loop-part.part-index 0 c.loop-part-test.true in

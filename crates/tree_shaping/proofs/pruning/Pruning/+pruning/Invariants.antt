@@ -1,0 +1,14 @@
+use Rattle.std.proofs.Common.{◌+◌, ◌*◌}
+use Rattle.tree_shaping.proofs.pruning.Pruning.+pruning.Given as goal
+
+abbrev pub decreases-pruned : goal.decreases-pruned
+decreases-pruned l = 4 * l.room
+
+abbrev pub decreases-bare : goal.decreases-bare
+decreases-bare l = 4 * l.room + 3
+
+abbrev pub decreases-pick : goal.decreases-pick
+decreases-pick l = 4 * l.room + 2
+
+abbrev pub decreases-each : goal.decreases-each
+decreases-each l = 4 * l.room + 1
