@@ -27,6 +27,15 @@ coordinates size cell = record { x = cell % size.x; y = cell / size.x / size.z; 
 abbrev pub is_within : Point → Point → Bool
 is_within size at = nat_lt at.x size.x && nat_lt at.y size.y && nat_lt at.z size.z
 
--- a side is at most 128, and a box has at most 262,144 cells
+-- how long a side of a box may be
+abbrev pub longest_side : ℕ
+longest_side = 128
+
+-- how many cells a box may have
+abbrev pub most_cells : ℕ
+most_cells = 262144
+
+-- no side is longer than one may be, and there are no more cells
 abbrev pub is_small : Point → Bool
-is_small size = nat_le size.x 128 && nat_le size.y 128 && nat_le size.z 128 && nat_le (cell_count size) 262144
+is_small size = nat_le size.x longest_side && nat_le size.y longest_side && nat_le size.z longest_side
+    && nat_le (cell_count size) most_cells

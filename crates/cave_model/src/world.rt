@@ -55,7 +55,7 @@ impl World {
     /// The number of cells of the box.
     pub fn cell_count(&self) -> u32
         ensures count { result ≡ grid.cell_count self.now.size }
-        ensures few { result ≤ 262144 }
+        ensures few { result ≤ grid.most_cells }
         ensures sound { IsSound self.now }
     {
         let [x, y, z] = self.size();

@@ -3,6 +3,7 @@ use Rattle.std.proofs.Common.{◌≡◌, ℕ, ◌<◌, ◌≤◌, List, [], ◌�
 use Rattle.std.specs.Prelude.{codes, flat_map}
 use Rattle.std.proofs.lemmas.List.{length-map}
 use Rattle.std.proofs.lemmas.List.Elements.{All-nil, All-cons, All-head, All-tail}
+use Rattle.cave_base.specs.Box.{most_cells}
 use Rattle.proof_rules.specs.declared.groups.Share.{Share}
 use Rattle.proof_rules.specs.declared.groups.Group.{Group}
 use Rattle.proof_rules.specs.Groups.{cells_of, all_cells_of, most_weight, IsGroup}
@@ -20,7 +21,7 @@ abbrev numbers_of : List Share → List ℕ
 numbers_of shares = flat_map (λ share. share.cell ∷ share.weight ∷ []) shares
 
 -- they are small
-shares_small : (count : ℕ) (shares : List Share) → count ≤ 262144 → All (λ cell. cell < count) (cells_of shares)
+shares_small : (count : ℕ) (shares : List Share) → count ≤ most_cells → All (λ cell. cell < count) (cells_of shares)
     → All (λ share. share.weight ≤ most_weight) shares → All IsSmall (numbers_of shares)
 shares_small count [] few below light = All-nil IsSmall
 shares_small count (s ∷ ss) few below light =
@@ -56,7 +57,7 @@ abbrev line_numbers : Group → List ℕ
 line_numbers group = group.capacity ∷ length group.shares ∷ numbers_of group.shares
 
 -- they are small
-group_small : (count : ℕ) (group : Group) → count ≤ 262144 → IsGroup group
+group_small : (count : ℕ) (group : Group) → count ≤ most_cells → IsGroup group
     → All (λ cell. cell < count) (cells_of group.shares) → All IsSmall (line_numbers group)
 group_small count group few is below =
     let many = listed_few count (cells_of group.shares) (record { ascending = is.ascending; below = below }) in
@@ -75,7 +76,7 @@ same_parts : (c d : ℕ) (xs ys : List Share) → c ≡ d → xs ≡ ys → grou
 same_parts c d xs ys e f = cc
 
 -- groups with the same line are the same
-same_group : (m n : ℕ) (a b : Group) → m ≤ 262144 → n ≤ 262144 → IsGroup a → IsGroup b
+same_group : (m n : ℕ) (a b : Group) → m ≤ most_cells → n ≤ most_cells → IsGroup a → IsGroup b
     → All (λ cell. cell < m) (cells_of a.shares) → All (λ cell. cell < n) (cells_of b.shares)
     → group_line a ≡ group_line b → a ≡ b
 same_group m n a b few_m few_n is_a is_b below_a below_b e =
@@ -86,7 +87,7 @@ same_group m n a b few_m few_n is_a is_b below_a below_b e =
     let rest : numbers_of a.shares ≡ numbers_of b.shares = cc in
     same_parts a.capacity b.capacity a.shares b.shares capacity (same_shares a.shares b.shares rest)
 
-module _ (m n : ℕ) (few_m : m ≤ 262144) (few_n : n ≤ 262144) where
+module _ (m n : ℕ) (few_m : m ≤ most_cells) (few_n : n ≤ most_cells) where
   -- the lines of as many groups, and what comes behind them
   pub same_groups : (a b : List Group) (r s : List (List ℕ)) → length a ≡ length b → All IsGroup a → All IsGroup b
       → All (λ cell. cell < m) (all_cells_of a) → All (λ cell. cell < n) (all_cells_of b)

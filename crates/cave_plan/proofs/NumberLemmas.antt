@@ -4,6 +4,7 @@ use Rattle.std.proofs.Common.{refl, sym, ap, subst, ◌∙◌, arith, append-nil
 use Rattle.std.specs.Prelude.{decimal}
 use Rattle.std.proofs.lemmas.List.{append_cancel_left}
 use Rattle.std.proofs.lemmas.List.Elements.{All-head, All-tail}
+use Rattle.cave_base.specs.Box.{most_cells}
 use Rattle.proof_rules.specs.Certificate.{AreListed}
 use Rattle.proof_rules.specs.Text.{line}
 use Rattle.certificate_lines.specs.Numbers.{IsSmall, IsCut, numbers_text}
@@ -48,5 +49,5 @@ same_line word a b small_a small_b e =
     same_numbers a b small_a small_b (append_cancel_left word (numbers_text a) (numbers_text b) e)
 
 -- ascending cells of a box are small
-pub listed_small : (count : ℕ) (cells : List ℕ) → count ≤ 262144 → AreListed count cells → All IsSmall cells
+pub listed_small : (count : ℕ) (cells : List ℕ) → count ≤ most_cells → AreListed count cells → All IsSmall cells
 listed_small count cells few are = λ k d h. (let b = are.below k d h in omega arith)

@@ -3,7 +3,7 @@ use Rattle.std.proofs.Common.{◌≡◌, ℕ, ◌≤◌, ◌⊎◌, inl, inr, Li
 use Rattle.std.proofs.Common.{refl, sym, ap, ◌∙◌, arith, append_assoc, append-nil}
 use Rattle.std.specs.Prelude.{codes, flat_map, IsTrue}
 use Rattle.std.proofs.lemmas.List.Elements.{All-cons, All-head, All-tail}
-use Rattle.cave_base.specs.Box.{Point, cell_count, is_small}
+use Rattle.cave_base.specs.Box.{Point, cell_count, is_small, most_cells}
 use Rattle.proof_rules.specs.Tree.{Tree}
 use Rattle.proof_rules.specs.Certificate.{Section, Version, first, second, third, fourth, Certificate, IsInRange}
 use Rattle.proof_rules.specs.Certificate.{IsSectionIn, IsVersionOf}
@@ -11,8 +11,7 @@ use Rattle.proof_rules.specs.Text.{line, tree_lines, section_lines, lines_of, en
 use Rattle.certificate_lines.specs.Cuts.{AreClean}
 use Rattle.certificate_lines.specs.Numbers.{IsSmall}
 use Rattle.certificate_lines.proofs.Feeds.{clean_leads, same_front}
-use Rattle.certificate_lines.proofs.Lift.{sides}
-use Rattle.certificate_lines.proofs.Walk.{count_small}
+use Rattle.certificate_lines.proofs.Lift.{sides, count_small}
 use Rattle.certificate_lines.proofs.Whole.{leads_whole}
 use Rattle.certificate_lines.specs.declared.stage.Stage.TheVariants as stage
 use Rattle.cave_plan.proofs.NumberLemmas.{same_line, listed_small}
@@ -50,7 +49,7 @@ section cells torches tree = record { cells = cells; torches = torches; tree = t
 same_section : (c d t u : List ℕ) (x y : Tree) → c ≡ d → t ≡ u → x ≡ y → section c t x ≡ section d u y
 same_section c d t u x y e f g = cc
 
-module _ (m n : ℕ) (few_m : m ≤ 262144) (few_n : n ≤ 262144) where
+module _ (m n : ℕ) (few_m : m ≤ most_cells) (few_n : n ≤ most_cells) where
   -- a region's lines, and what comes behind them
   one_section : (a b : Section) (r s : List (List ℕ)) → IsSectionIn m a → IsSectionIn n b
       → section_lines a ++ r ≡ section_lines b ++ s → (a ≡ b) × (r ≡ s)
@@ -95,23 +94,19 @@ module _ (m n : ℕ) (few_m : m ≤ 262144) (few_n : n ≤ 262144) where
 -- the sides of a box
 sides_small : (size : Point) → IsTrue (is_small size) → All IsSmall (size.x ∷ size.y ∷ size.z ∷ [])
 sides_small size small =
-    let h = sides size.x size.y size.z (cell_count size) small in
+    let h = sides size small in
     All-cons IsSmall size.x (size.y ∷ size.z ∷ []) (omega (arith, h.0))
     (two_small size.y size.z (omega (arith, h.1)) (omega (arith, h.2)))
 
 -- a headroom
-ruled_small : (headroom : ℕ) → (headroom ≡ 1) ⊎ (headroom ≡ 2) → headroom ≤ 262144
+ruled_small : (headroom : ℕ) → (headroom ≡ 1) ⊎ (headroom ≡ 2) → headroom ≤ most_cells
 ruled_small headroom (inl e) = omega arith
 ruled_small headroom (inr e) = omega arith
 
 -- a need
-need_small : (need : ℕ) → (need ≡ 1) ⊎ (need ≡ 8) → need ≤ 262144
+need_small : (need : ℕ) → (need ≡ 1) ⊎ (need ≡ 8) → need ≤ most_cells
 need_small need (inl e) = omega arith
 need_small need (inr e) = omega arith
-
--- a box has no more cells than a number of a certificate may be
-few : (size : Point) → IsTrue (is_small size) → cell_count size ≤ 262144
-few size small = count_small size.x size.y size.z small
 
 -- lines from the number of regions on
 abbrev regions_on : List Section → List (List ℕ)
@@ -122,8 +117,8 @@ regions_on sections = line (codes "regions") (length sections ∷ []) ∷ (flat_
 same_regions : (a b : Certificate) → IsInRange a → IsInRange b → regions_on a.sections ≡ regions_on b.sections
     → a.sections ≡ b.sections
 same_regions a b in_a in_b e =
-    let few_a = few a.size in_a.small in
-    let few_b = few b.size in_b.small in
+    let few_a = count_small a.size in_a.small in
+    let few_b = count_small b.size in_b.small in
     let l = split_lines (line (codes "regions") (length a.sections ∷ []))
     (line (codes "regions") (length b.sections ∷ []))
     (flat_map section_lines a.sections ++ codes "end" ∷ []) (flat_map section_lines b.sections ++ codes "end" ∷ []) e in

@@ -3,6 +3,7 @@ use Rattle.std.proofs.Common.{◌≡◌, ℕ, ◌≤◌, List, [], ◌∷◌, �
 use Rattle.std.proofs.Common.{append_assoc, arith}
 use Rattle.std.specs.Prelude.{codes}
 use Rattle.std.proofs.lemmas.List.Elements.{All-nil, All-cons}
+use Rattle.cave_base.specs.Box.{most_cells}
 use Rattle.proof_rules.specs.declared.groups.Group.{Group}
 use Rattle.proof_rules.specs.Tree.{Tree, Forest, leaf, weighted, branch, bar, omit, pick, none, more, tree_count}
 use Rattle.proof_rules.specs.Certificate.{AreListed, AreGroupsIn, IsTreeIn, AreTreesIn}
@@ -13,22 +14,22 @@ use Rattle.cave_plan.proofs.NumberLemmas.{same_line, listed_small}
 use Rattle.cave_plan.proofs.GroupTextLemmas.{split_lines, same_groups}
 
 -- one small number
-pub one_small : (a : ℕ) → a ≤ 262144 → All IsSmall (a ∷ [])
+pub one_small : (a : ℕ) → a ≤ most_cells → All IsSmall (a ∷ [])
 one_small a small = All-cons IsSmall a [] (omega arith) (All-nil IsSmall)
 
 -- two small numbers
-pub two_small : (a b : ℕ) → a ≤ 262144 → b ≤ 262144 → All IsSmall (a ∷ b ∷ [])
+pub two_small : (a b : ℕ) → a ≤ most_cells → b ≤ most_cells → All IsSmall (a ∷ b ∷ [])
 two_small a b small_a small_b =
     All-cons IsSmall a (b ∷ []) (omega arith) (All-cons IsSmall b [] (omega arith) (All-nil IsSmall))
 
 -- a leaf's numbers
-leaf_small : (count : ℕ) (cells : List ℕ) → count ≤ 262144 → AreListed count cells
+leaf_small : (count : ℕ) (cells : List ℕ) → count ≤ most_cells → AreListed count cells
     → All IsSmall (length cells ∷ cells)
 leaf_small count cells few are = All-cons IsSmall (length cells) cells
     (let l = listed_few count cells are in omega arith) (listed_small count cells few are)
 
 -- the number of a weighted leaf's groups
-count_small : (count : ℕ) (groups : List Group) → count ≤ 262144 → AreGroupsIn count groups
+count_small : (count : ℕ) (groups : List Group) → count ≤ most_cells → AreGroupsIn count groups
     → All IsSmall (length groups ∷ [])
 count_small count groups few are = All-cons IsSmall (length groups) []
     (let l = groups_few count groups are in omega arith) (All-nil IsSmall)
@@ -56,7 +57,7 @@ same_byte : (a b : Tree) (r s : List (List ℕ)) → tree_lines a ++ r ≡ tree_
 same_byte a b r s e =
     sym (begins a r) ∙ ap (λ (lines : List (List ℕ)). get_or (get_or lines 0 []) 0 0) e ∙ begins b s
 
-module _ (m n : ℕ) (few_m : m ≤ 262144) (few_n : n ≤ 262144) where
+module _ (m n : ℕ) (few_m : m ≤ most_cells) (few_n : n ≤ most_cells) where
   mutual
     -- a tree's lines, and what comes behind them
     pub one_tree : (a b : Tree) (r s : List (List ℕ)) → IsTreeIn m a → IsTreeIn n b

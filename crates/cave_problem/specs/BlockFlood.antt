@@ -1,6 +1,6 @@
 -- What a flood from a block's cells needs and leaves. This is this project's own.
 use Rattle.std.specs.Prelude.{◌≡◌, ◌≤◌, ℕ, ◌+◌, ◌*◌, List, [], length}
-use Rattle.cave_base.specs.Box.{cell_count}
+use Rattle.cave_base.specs.Box.{cell_count, most_cells}
 use Rattle.cave_model.specs.Cave.{Cave}
 use Rattle.cave_problem.specs.Blocks.{AreBlank, AreExact, AreSized, IsComplete, IsLinked}
 use Rattle.cave_problem.specs.Reach.{IsReach}
@@ -8,7 +8,7 @@ use Rattle.cave_problem.specs.declared.block_flood.BlockFlood.{BlockFlood}
 
 -- numbers for so many cells, with six sides and 16 words for each
 pub record AreWide (count : ℕ) (local near levels : List ℕ) : Type 0 where
-  pub small : count ≤ 262144
+  pub small : count ≤ most_cells
   pub numbers : length local ≡ count
   pub sides : length near ≡ 6 * count
   pub words : length levels ≡ 16 * count

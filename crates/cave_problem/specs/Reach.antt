@@ -2,7 +2,7 @@
 -- were found. This is this project's own.
 use Rattle.std.specs.Prelude.{◌≡◌, ◌⊎◌, ◌<◌, ◌≤◌, ◌^◌, ◌-◌, ℕ, ◌+◌, ◌*◌, List, length, slice_index, slice_index_or}
 use Rattle.std.specs.Prelude.{All, Option, Some, None}
-use Rattle.cave_base.specs.Box.{cell_count}
+use Rattle.cave_base.specs.Box.{cell_count, most_cells}
 use Rattle.cave_model.specs.Cells.{neighbours_of}
 use Rattle.cave_model.specs.Cave.{Cave}
 use Rattle.cave_model.specs.Light.{entering_cost}
@@ -74,7 +74,7 @@ pub record AreInside (count : ℕ) (sides : List ℕ) : Type 0 where
 
 -- the sides of a box's cells, which are few enough, and room to link each of them
 pub record HaveRoom (sides local near : List ℕ) : Type 0 where
-  pub few : length local ≤ 262144
+  pub few : length local ≤ most_cells
   pub inside : AreInside (length local) sides
   pub room : length near ≡ 6 * length local
 

@@ -3,7 +3,7 @@
 //! Source: M. Then et al., "The more the merrier: efficient multi-source graph traversal", 2014, for floods side by
 //! side in words. The order, level by level from the highest down, is this project's own.
 ghost use Rattle.std.specs.Prelude.{◌≤◌, length, IfOk};
-ghost use Rattle.cave_base.specs.Box.{cell_count};
+ghost use Rattle.cave_base.specs.Box.{cell_count, most_cells};
 ghost use Rattle.cave_problem.specs.BlockFlood.{HasSpread, IsLeft, IsReady};
 ghost use Rattle.cave_problem.specs.Reach.{AreSides, AreSources};
 
@@ -26,7 +26,7 @@ pub struct BlockFlood {
 impl BlockFlood {
     /// The memory for a box of so many cells.
     pub fn new(alloc: Global, count: u32) -> Result<BlockFlood, AllocError>
-        requires small { count ≤ 262144 }
+        requires small { count ≤ most_cells }
         ensures { IfOk result (IsReady count) }
     {
         Ok(BlockFlood {

@@ -1,6 +1,7 @@
 //! The reach of a block: the cells that light from its cells can come to. They have numbers in the order in which they
 //! were found, so that what a flood reads and writes lies close together.
 ghost use Rattle.std.specs.Prelude.{◌≡◌, ◌<◌, ◌≤◌, ◌+◌, [], length, IfOk, OnOk};
+ghost use Rattle.cave_base.specs.Box.{most_cells};
 ghost use Rattle.cave_problem.specs.Reach.{AreSources, BeginsWith, HaveRoom, IsLinkedReach, IsLongerReach};
 ghost use Rattle.cave_problem.specs.Reach.{IsNumberOf, IsReach};
 
@@ -38,7 +39,7 @@ pub fn begin(local: &mut [u32], reach: &mut Vec<Cell>, cells: &[Cell]) -> Result
 /// The number of a cell, which the reach then has.
 fn number_of(local: &mut [u32], reach: &mut Vec<Cell>, cell: Cell) -> Result<u32, AllocError>
     requires inside { cell < length local.old }
-    requires small { length local.old ≤ 262144 }
+    requires small { length local.old ≤ most_cells }
     requires reach { IsReach local.old reach.old.items }
     ensures reach { OnOk result (IsLongerReach reach.old.items local.new reach.new.items) }
     ensures number { IfOk result (λ n. IsNumberOf reach.new.items cell n) }

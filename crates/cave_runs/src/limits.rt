@@ -6,8 +6,5 @@ pub const STRUCTURE_LIMIT: usize = 67_108_864;
 /// A user's table has at most so many bytes.
 pub const TABLE_LIMIT: usize = 1_048_576;
 
-/// Reading an input ends after so many calls of its reader.
-pub const READ_CALLS: u32 = 134_217_728;
-
 /// A certificate has at most so many bytes.
 pub const PROOF_LIMIT: u64 = 1_073_741_824;

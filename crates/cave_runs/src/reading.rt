@@ -6,7 +6,8 @@ ghost use Rattle.cave_runs.specs.declared.fault.RunFault.{RunFault};
 ghost use Rattle.proof_check.specs.Reading.{GivesAtMost};
 
 use crate::fault::{Input, RunFault};
-use crate::limits::{READ_CALLS, TABLE_LIMIT};
+use crate::limits::TABLE_LIMIT;
+use proof_check::{READ_CALLS, READ_SIZE};
 use std::alloc::Global;
 use std::io::Read;
 
@@ -29,7 +30,7 @@ pub fn read_all<R: Read>(
     ensures ended { IfOk result (λ _. GivesAtMost limit (R.remaining reader.old) (R.remaining reader.new)) }
 {
     let mut bytes = Vec::new(alloc);
-    let mut buffer = [0; 8192];
+    let mut buffer = [0; READ_SIZE];
     for _ in 0..READ_CALLS {
         let Ok(count) = reader.read(&mut buffer) else {
             return Err(RunFault::ReadFailed);

@@ -2,6 +2,7 @@
 use Rattle.std.proofs.Common.{◌≡◌, ◌≢◌, ℕ, ◌≤◌, List, get_or, refl, sym, subst, ◌∙◌}
 use Rattle.std.specs.Prelude.{Bool, true, false, Option, Some, None, nat_eq, if◌then◌else◌}
 use Rattle.std.proofs.lemmas.Bool.{eqb-true, eq-eqb, true≢false}
+use Rattle.cave_base.specs.Box.{most_cells}
 use Rattle.certificate_lines.specs.Nodes.{LeafMeans}
 use Rattle.certificate_lines.specs.Decides.{IsLineOf, IsNoLineOf, IsNone, Decides}
 use Rattle.certificate_lines.specs.Steps.{Takes, Says, RegionMeans}
@@ -82,7 +83,7 @@ kind_decides stage.Done text None h = record { none = λ other t. t }
 kind_decides stage.Done text (Some next) h = absurd h.is.2
 
 -- the numbers of a node that fits are small
-node_small : (version : ℕ) (count to_come pending : ℕ) (k : LineKind) → count ≤ 262144
+node_small : (version : ℕ) (count to_come pending : ℕ) (k : LineKind) → count ≤ most_cells
     → AreSmall (MeansAt (stage.Node version count to_come pending) k)
 node_small version count to_come pending kind.Branch few = branch_small version count to_come pending few
 node_small version count to_come pending kind.Bar few = bar_small version count to_come pending few
@@ -102,7 +103,7 @@ node_small version count to_come pending kind.Pick few = pick_small version coun
 node_small version count to_come pending kind.End few = leaf_small version count to_come pending few
 
 -- the number of regions, of a line that fits, is small
-a_region_small : (version : ℕ) (count to_come : ℕ) (k : LineKind) → count ≤ 262144
+a_region_small : (version : ℕ) (count to_come : ℕ) (k : LineKind) → count ≤ most_cells
     → AreSmall (MeansAt (stage.Region version count to_come) k)
 a_region_small version count to_come kind.Version few = region_small version count to_come few
 a_region_small version count to_come kind.Size few = region_small version count to_come few

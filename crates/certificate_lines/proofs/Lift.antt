@@ -6,7 +6,7 @@ use Rattle.std.specs.Prelude.{MatchOption, is_some, codes, nat_le, ◌&&◌}
 use Rattle.std.proofs.lemmas.List.{length-map}
 use Rattle.std.proofs.lemmas.List.Elements.{All-nil, All-cons, All-head, All-tail}
 use Rattle.std.proofs.lemmas.Bool.{leb-true}
-use Rattle.cave_base.specs.Box.{cell_count}
+use Rattle.cave_base.specs.Box.{Point, cell_count, is_small, longest_side, most_cells}
 use Rattle.proof_rules.specs.declared.groups.Share.{Share}
 use Rattle.proof_rules.specs.declared.groups.Group.{Group}
 use Rattle.proof_rules.specs.Groups.{cells_of, IsGroup}
@@ -80,19 +80,20 @@ pick_right P Q (Some next) no_other h = record {
 
 -- ---- numbers are small
 
-one_small : (a : ℕ) (numbers : List ℕ) → numbers ≡ a ∷ [] → a ≤ 262144 → All IsSmall numbers
+one_small : (a : ℕ) (numbers : List ℕ) → numbers ≡ a ∷ [] → a ≤ most_cells → All IsSmall numbers
 one_small a numbers e h = subst (All IsSmall) (sym e) (All-cons IsSmall a [] (omega arith) (All-nil IsSmall))
 
-two_small : (a b : ℕ) (numbers : List ℕ) → numbers ≡ a ∷ b ∷ [] → a ≤ 262144 → b ≤ 262144 → All IsSmall numbers
+two_small : (a b : ℕ) (numbers : List ℕ) → numbers ≡ a ∷ b ∷ [] → a ≤ most_cells → b ≤ most_cells
+    → All IsSmall numbers
 two_small a b numbers e h i = subst (All IsSmall) (sym e)
     (All-cons IsSmall a (b ∷ []) (omega arith) (one_small b (b ∷ []) refl i))
 
-three_small : (a b c : ℕ) (numbers : List ℕ) → numbers ≡ a ∷ b ∷ c ∷ [] → a ≤ 262144 → b ≤ 262144 → c ≤ 262144
-    → All IsSmall numbers
+three_small : (a b c : ℕ) (numbers : List ℕ) → numbers ≡ a ∷ b ∷ c ∷ [] → a ≤ most_cells → b ≤ most_cells
+    → c ≤ most_cells → All IsSmall numbers
 three_small a b c numbers e h i j = subst (All IsSmall) (sym e)
     (All-cons IsSmall a (b ∷ c ∷ []) (omega arith) (two_small b c (b ∷ c ∷ []) refl i j))
 
-listed_small : (count : ℕ) (cells : List ℕ) → count ≤ 262144 → AreListed count cells → All IsSmall cells
+listed_small : (count : ℕ) (cells : List ℕ) → count ≤ most_cells → AreListed count cells → All IsSmall cells
 listed_small count cells few a = λ k d h. (let b = a.below k d h in omega arith)
 
 pub start_small : AreSmall StartMeans
@@ -105,17 +106,27 @@ pub and_both : (b c : Bool) → IsTrue (b && c) → IsTrue b × IsTrue c
 and_both true c h = (refl, h)
 and_both false c h = absurd cc
 
-pub sides : (x y z n : ℕ) → IsTrue (nat_le x 128 && nat_le y 128 && nat_le z 128 && nat_le n 262144)
-    → (x ≤ 128) × (y ≤ 128) × (z ≤ 128)
-sides x y z n h =
-    let a = and_both (nat_le x 128 && nat_le y 128 && nat_le z 128) (nat_le n 262144) h in
-    let b = and_both (nat_le x 128 && nat_le y 128) (nat_le z 128) a.0 in
-    let c = and_both (nat_le x 128) (nat_le y 128) b.0 in
-    (leb-true x 128 c.0, leb-true y 128 c.1, leb-true z 128 b.1)
+-- how long the sides of a small box are
+pub sides : (size : Point) → IsTrue (is_small size)
+    → (size.x ≤ longest_side) × (size.y ≤ longest_side) × (size.z ≤ longest_side)
+sides size h =
+    let x = nat_le size.x longest_side in
+    let y = nat_le size.y longest_side in
+    let z = nat_le size.z longest_side in
+    let a = and_both (x && y && z) (nat_le (cell_count size) most_cells) h in
+    let b = and_both (x && y) z a.0 in
+    let c = and_both x y b.0 in
+    (leb-true size.x longest_side c.0, leb-true size.y longest_side c.1, leb-true size.z longest_side b.1)
+
+-- how many cells it has
+pub count_small : (size : Point) → IsTrue (is_small size) → cell_count size ≤ most_cells
+count_small size h = leb-true (cell_count size) most_cells
+    (and_both (nat_le size.x longest_side && nat_le size.y longest_side && nat_le size.z longest_side)
+    (nat_le (cell_count size) most_cells) h).1
 
 pub box_small : (version : ℕ) → AreSmall (BoxMeans version)
 box_small version = record {
-  each = λ ns s m. let h = sides m.0.x m.0.y m.0.z (cell_count m.0) m.2 in
+  each = λ ns s m. let h = sides m.0 m.2 in
       three_small m.0.x m.0.y m.0.z ns m.1 (omega (arith, h.0)) (omega (arith, h.1)) (omega (arith, h.2));
   few = λ ns s m. omega (arith, ap length m.1);
 }
@@ -144,7 +155,7 @@ need_small version count = record {
   ];
 }
 
-pub regions_small : (version : ℕ) (count : ℕ) → count ≤ 262144 → AreSmall (RegionsMeans version count)
+pub regions_small : (version : ℕ) (count : ℕ) → count ≤ most_cells → AreSmall (RegionsMeans version count)
 regions_small version count few =
     record { each = λ ns s m. one_small m.0 ns m.1 (omega (arith, m.2)); few = λ ns s m. omega (arith, ap length m.1) }
 
@@ -154,24 +165,24 @@ end_small to_come = record {
   few = λ ns s m. omega (arith, ap length m.1);
 }
 
-pub region_small : (version : ℕ) (count to_come : ℕ) → count ≤ 262144 → AreSmall (RegionMeans version count to_come)
+pub region_small : (version : ℕ) (count to_come : ℕ) → count ≤ most_cells → AreSmall (RegionMeans version count to_come)
 region_small version count to_come few =
     record {
       each = λ ns s m. two_small m.1 m.2 ns m.4 (omega (arith, m.6)) (omega (arith, m.8));
       few = λ ns s m. omega (arith, ap length m.4);
     }
 
-pub dark_small : (version : ℕ) (count to_come n t : ℕ) → count ≤ 262144
+pub dark_small : (version : ℕ) (count to_come n t : ℕ) → count ≤ most_cells
     → AreSmall (DarkMeans version count to_come n t)
 dark_small version count to_come n t few =
     record { each = λ ns s m. listed_small count ns few m.0; few = λ ns s m. omega (arith, listed_few count ns m.0) }
 
-pub torches_small : (version : ℕ) (count to_come t : ℕ) → count ≤ 262144
+pub torches_small : (version : ℕ) (count to_come t : ℕ) → count ≤ most_cells
     → AreSmall (TorchesMeans version count to_come t)
 torches_small version count to_come t few =
     record { each = λ ns s m. listed_small count ns few m.0; few = λ ns s m. omega (arith, listed_few count ns m.0) }
 
-pub leaf_small : (version : ℕ) (count to_come pending : ℕ) → count ≤ 262144
+pub leaf_small : (version : ℕ) (count to_come pending : ℕ) → count ≤ most_cells
     → AreSmall (LeafMeans version count to_come pending)
 leaf_small version count to_come pending few =
     record {
@@ -181,7 +192,7 @@ leaf_small version count to_come pending few =
       few = λ ns s m. omega (arith, ap length m.3, listed_few count m.1 m.4);
     }
 
-pub branch_small : (version : ℕ) (count to_come pending : ℕ) → count ≤ 262144
+pub branch_small : (version : ℕ) (count to_come pending : ℕ) → count ≤ most_cells
     → AreSmall (BranchMeans version count to_come pending)
 branch_small version count to_come pending few =
     record {
@@ -189,7 +200,7 @@ branch_small version count to_come pending few =
       few = λ ns s m. omega (arith, ap length m.4);
     }
 
-pub bar_small : (version : ℕ) (count to_come pending : ℕ) → count ≤ 262144
+pub bar_small : (version : ℕ) (count to_come pending : ℕ) → count ≤ most_cells
     → AreSmall (BarMeans version count to_come pending)
 bar_small version count to_come pending few =
     record {
@@ -197,7 +208,7 @@ bar_small version count to_come pending few =
       few = λ ns s m. omega (arith, ap length m.5);
     }
 
-pub omit_small : (version count to_come pending : ℕ) → count ≤ 262144
+pub omit_small : (version count to_come pending : ℕ) → count ≤ most_cells
     → AreSmall (OmitMeans version count to_come pending)
 omit_small version count to_come pending few =
     record {
@@ -207,18 +218,18 @@ omit_small version count to_come pending few =
       few = λ ns s m. omega (arith, ap length m.4, listed_few count m.1 m.6);
     }
 
-pub pick_small : (version count to_come pending : ℕ) → count ≤ 262144
+pub pick_small : (version count to_come pending : ℕ) → count ≤ most_cells
     → AreSmall (PickMeans version count to_come pending)
 pick_small version count to_come pending few =
     record { each = λ ns s m. one_small m.1 ns m.4 (omega (arith, m.5)); few = λ ns s m. omega (arith, ap length m.4) }
 
-pub weighted_small : (version count to_come pending : ℕ) → count ≤ 262144
+pub weighted_small : (version count to_come pending : ℕ) → count ≤ most_cells
     → AreSmall (WeightedMeans version count to_come pending)
 weighted_small version count to_come pending few =
     record { each = λ ns s m. one_small m.0 ns m.2 (omega (arith, m.4)); few = λ ns s m. omega (arith, ap length m.2) }
 
 -- the numbers of shares are small
-shares_small : (count : ℕ) (shares : List Share) → count ≤ 262144 → All (λ cell. cell < count) (cells_of shares)
+shares_small : (count : ℕ) (shares : List Share) → count ≤ most_cells → All (λ cell. cell < count) (cells_of shares)
     → All (λ share. share.weight ≤ 4294967295) shares → All IsSmall (share_numbers shares)
 shares_small count [] few b w = All-nil IsSmall
 shares_small count (s ∷ ss) few b w =
@@ -238,7 +249,7 @@ group_few count group form below = omega (
 )
 
 -- the numbers of a group are small
-pub group_numbers_small : (count : ℕ) (group : Group) → count ≤ 262144 → IsGroup group
+pub group_numbers_small : (count : ℕ) (group : Group) → count ≤ most_cells → IsGroup group
     → All (λ cell. cell < count) (cells_of group.shares) → All IsSmall (group_numbers group)
 group_numbers_small count group few form below =
     All-cons IsSmall group.capacity (length group.shares ∷ share_numbers group.shares) form.small
@@ -246,7 +257,7 @@ group_numbers_small count group few form below =
     (omega (arith, group_few count group form below))
     (shares_small count group.shares few below form.few))
 
-pub group_small : (version count to_come pending left from : ℕ) → count ≤ 262144
+pub group_small : (version count to_come pending left from : ℕ) → count ≤ most_cells
     → AreSmall (GroupMeans version count to_come pending left from)
 group_small version count to_come pending left from few =
     record {

@@ -17,9 +17,8 @@ use Rattle.certificate_lines.proofs.OrderLemmas.{said_ordered}
 use Rattle.certificate_lines.proofs.Complete.{listed_few, groups_few, all_cells_head, all_cells_tail}
 use Rattle.proof_rules.specs.declared.groups.Group.{Group}
 use Rattle.proof_rules.specs.Groups.{all_cells_of, IsGroup}
-use Rattle.cave_base.specs.Box.{cell_count}
-use Rattle.certificate_lines.proofs.Lift.{sides, group_numbers_small}
-use Rattle.certificate_lines.proofs.Walk.{count_small}
+use Rattle.cave_base.specs.Box.{cell_count, most_cells}
+use Rattle.certificate_lines.proofs.Lift.{sides, count_small, group_numbers_small}
 use Rattle.certificate_lines.proofs.Whole.{magic_first, magic_second, magic_third, magic_fourth}
 use Rattle.certificate_lines.specs.declared.kind.LineKind.{LineKind}
 use Rattle.certificate_lines.specs.declared.kind.LineKind.TheVariants as kind
@@ -259,14 +258,14 @@ unfolding AreAllSmall
 small_nil = All-nil (λ (s : Said). All IsSmall s.numbers)
 
 -- two small numbers
-pair : (a b : ℕ) → a ≤ 262144 → b ≤ 262144 → All IsSmall (a ∷ b ∷ [])
+pair : (a b : ℕ) → a ≤ most_cells → b ≤ most_cells → All IsSmall (a ∷ b ∷ [])
 pair a b h i = All-cons IsSmall a (b ∷ []) (omega arith) (All-cons IsSmall b [] (omega arith) (All-nil IsSmall))
 
 -- one small number
-one : (a : ℕ) → a ≤ 262144 → All IsSmall (a ∷ [])
+one : (a : ℕ) → a ≤ most_cells → All IsSmall (a ∷ [])
 one a h = All-cons IsSmall a [] (omega arith) (All-nil IsSmall)
 
-module _ (count : ℕ) (few : count ≤ 262144) where
+module _ (count : ℕ) (few : count ≤ most_cells) where
   listed_small : (cells : List ℕ) → AreListed count cells → All IsSmall cells
   listed_small cells a = λ k d h. (let b = a.below k d h in omega arith)
 
@@ -329,11 +328,11 @@ module _ (count : ℕ) (few : count ≤ 262144) where
 pub said_small : (c : Certificate) → IsInRange c → All (λ s. All IsSmall s.numbers) (said_of c)
 unfolding AreAllSmall
 said_small c i = go c.version i.versioned where
-  few : cell_count c.size ≤ 262144
-  few = count_small c.size.x c.size.y c.size.z i.small
+  few : cell_count c.size ≤ most_cells
+  few = count_small c.size i.small
 
   box : All IsSmall (c.size.x ∷ c.size.y ∷ c.size.z ∷ [])
-  box = (let h = sides c.size.x c.size.y c.size.z (cell_count c.size) i.small in
+  box = (let h = sides c.size i.small in
       All-cons IsSmall c.size.x (c.size.y ∷ c.size.z ∷ []) (omega (arith, h.0))
       (pair c.size.y c.size.z (omega (arith, h.1)) (omega (arith, h.2))))
 
@@ -348,7 +347,7 @@ said_small c i = go c.version i.versioned where
       (sections_small (cell_count c.size) few c.sections i.each)
 
   -- with a need
-  later : (n need : ℕ) → n ≤ 262144 → (need ≡ 1) ⊎ (need ≡ 8)
+  later : (n need : ℕ) → n ≤ most_cells → (need ≡ 1) ⊎ (need ≡ 8)
       → AreAllSmall (said kind.Version (n ∷ []) ∷ said kind.Size (c.size.x ∷ c.size.y ∷ c.size.z ∷ [])
       ∷ said kind.Headroom (c.headroom ∷ []) ∷ said kind.Need (need ∷ [])
       ∷ said kind.Regions (length c.sections ∷ []) ∷ (flat_map section_said c.sections ++ said kind.End [] ∷ []))

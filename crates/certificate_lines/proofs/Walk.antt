@@ -1,11 +1,10 @@
 -- Lines that lead from the start to a stage.
 use Rattle.std.proofs.Common.{◌≡◌, ℕ, zero, suc, ◌+◌, ◌*◌, ◌<◌, ◌≤◌, inl, inr, List, [], ◌∷◌, ◌++◌, length, All, refl}
 use Rattle.std.proofs.Common.{sym, subst, ap, arith}
-use Rattle.std.specs.Prelude.{Bool, true, false, IsTrue, codes, flat_map, slice_index_or, nat_eq, nat_le, ◌&&◌}
+use Rattle.std.specs.Prelude.{Bool, true, false, codes, flat_map, slice_index_or, nat_eq}
 use Rattle.std.specs.Prelude.{if◌then◌else◌}
 use Rattle.std.proofs.lemmas.List.Elements.{All-nil, All-cons}
-use Rattle.std.proofs.lemmas.Bool.{leb-true}
-use Rattle.cave_base.specs.Box.{Point, cell_count}
+use Rattle.cave_base.specs.Box.{Point, cell_count, most_cells}
 use Rattle.proof_rules.specs.declared.groups.Share.{Share}
 use Rattle.proof_rules.specs.declared.groups.Group.{Group}
 use Rattle.proof_rules.specs.Groups.{IsGroup}
@@ -16,7 +15,7 @@ use Rattle.certificate_lines.specs.Nodes.{after_node, after_group, group_numbers
 use Rattle.certificate_lines.proofs.Complete.{leads_trees, leads_sections}
 use Rattle.certificate_lines.specs.Steps.{Takes, Leads, after_headroom}
 use Rattle.certificate_lines.specs.Sound.{IsSoundStage, pending_of}
-use Rattle.certificate_lines.proofs.Lift.{and_both}
+use Rattle.certificate_lines.proofs.Lift.{count_small}
 use Rattle.certificate_lines.specs.declared.stage.Stage.{Stage}
 use Rattle.certificate_lines.specs.declared.stage.Stage.TheVariants as stage
 
@@ -30,23 +29,18 @@ leads_split (l ∷ ls) b s u (next, step, rest) = let r = leads_split ls b next 
 
 -- ---- numbers of a stage
 
-pub count_small : (x y z : ℕ) → IsTrue (nat_le x 128 && nat_le y 128 && nat_le z 128 && nat_le (x * y * z) 262144)
-    → x * y * z ≤ 262144
-count_small x y z h = leb-true (x * y * z) 262144
-    (and_both (nat_le x 128 && nat_le y 128 && nat_le z 128) (nat_le (x * y * z) 262144) h).1
-
-sound_headroom : (version count : ℕ) → count ≤ 262144 → IsSoundStage (after_headroom version count)
+sound_headroom : (version count : ℕ) → count ≤ most_cells → IsSoundStage (after_headroom version count)
 sound_headroom version count h = go (nat_eq version 1) where
   go : (b : Bool) → IsSoundStage (if b then stage.Regions version count else stage.Need version count)
   go true = h
   go false = h
 
-sound_node : (version count to_come pending : ℕ) → count ≤ 262144 → to_come < count
+sound_node : (version count to_come pending : ℕ) → count ≤ most_cells → to_come < count
     → IsSoundStage (after_node version count to_come pending)
 sound_node version count to_come zero h i = (h, omega arith)
 sound_node version count to_come (suc p) h i = (h, i, omega arith)
 
-sound_group : (version count to_come pending left from : ℕ) → count ≤ 262144 → to_come < count
+sound_group : (version count to_come pending left from : ℕ) → count ≤ most_cells → to_come < count
     → (0 < left → from + left ≤ count) → IsSoundStage (after_group version count to_come pending left from)
 sound_group version count to_come pending zero from h i room = sound_node version count to_come pending h i
 sound_group version count to_come pending (suc left) from h i room =
@@ -55,7 +49,7 @@ sound_group version count to_come pending (suc left) from h i room =
 pub sound_after : (s next : Stage) (text : List ℕ) → IsSoundStage s → Takes s text next → IsSoundStage next
 sound_after stage.Start next text h (ns, e, m) = subst IsSoundStage (sym m.4) tt
 sound_after (stage.Box version) next text h (ns, e, m) = subst IsSoundStage (sym m.3)
-    (count_small m.0.x m.0.y m.0.z m.2)
+    (count_small m.0 m.2)
 sound_after (stage.Headroom version count) next text h (ns, e, m) = subst IsSoundStage (sym m.1)
     (sound_headroom version count h)
 sound_after (stage.Need version count) next text h (ns, e, m) = subst IsSoundStage (sym m.1) h
@@ -309,7 +303,7 @@ pending_headroom version count = go (nat_eq version 1) where
   go false = refl
 
 pub pending_after : (s next : Stage) (text : List ℕ) → IsSoundStage s → Takes s text next
-    → pending_of next ≤ pending_of s + 262144
+    → pending_of next ≤ pending_of s + most_cells
 pending_after stage.Start next text h (ns, e, m) = omega (arith, ap pending_of m.4)
 pending_after (stage.Box version) next text h (ns, e, m) = omega (arith, ap pending_of m.3)
 pending_after (stage.Headroom version count) next text h (ns, e, m) =

@@ -1,5 +1,6 @@
 -- What holds of the numbers that a stage keeps.
 use Rattle.std.specs.Prelude.{ℕ, ◌+◌, ◌<◌, ◌≤◌}
+use Rattle.cave_base.specs.Box.{most_cells}
 use Rattle.certificate_lines.specs.declared.stage.Stage.{Stage}
 use Rattle.certificate_lines.specs.declared.stage.Stage.TheVariants as stage
 
@@ -8,15 +9,15 @@ use Rattle.certificate_lines.specs.declared.stage.Stage.TheVariants as stage
 abbrev pub IsSoundStage : Stage → Type 0
 IsSoundStage stage.Start = Unit {0}
 IsSoundStage (stage.Box version) = Unit {0}
-IsSoundStage (stage.Headroom version count) = count ≤ 262144
-IsSoundStage (stage.Need version count) = count ≤ 262144
-IsSoundStage (stage.Regions version count) = count ≤ 262144
-IsSoundStage (stage.Region version count to_come) = (count ≤ 262144) × (to_come ≤ count)
-IsSoundStage (stage.Dark version count to_come n t) = (count ≤ 262144) × (to_come < count) × (0 < n) × (n ≤ count)
+IsSoundStage (stage.Headroom version count) = count ≤ most_cells
+IsSoundStage (stage.Need version count) = count ≤ most_cells
+IsSoundStage (stage.Regions version count) = count ≤ most_cells
+IsSoundStage (stage.Region version count to_come) = (count ≤ most_cells) × (to_come ≤ count)
+IsSoundStage (stage.Dark version count to_come n t) = (count ≤ most_cells) × (to_come < count) × (0 < n) × (n ≤ count)
     × (0 < t) × (t ≤ count)
-IsSoundStage (stage.Torches version count to_come t) = (count ≤ 262144) × (to_come < count) × (0 < t) × (t ≤ count)
-IsSoundStage (stage.Node version count to_come pending) = (count ≤ 262144) × (to_come < count) × (0 < pending)
-IsSoundStage (stage.Group version count to_come pending left from) = (count ≤ 262144) × (to_come < count)
+IsSoundStage (stage.Torches version count to_come t) = (count ≤ most_cells) × (to_come < count) × (0 < t) × (t ≤ count)
+IsSoundStage (stage.Node version count to_come pending) = (count ≤ most_cells) × (to_come < count) × (0 < pending)
+IsSoundStage (stage.Group version count to_come pending left from) = (count ≤ most_cells) × (to_come < count)
     × (0 < pending) × (0 < left) × (from + left ≤ count)
 IsSoundStage stage.Done = Unit {0}
 

@@ -1,5 +1,6 @@
 -- The lines taken so far.
 use Rattle.std.specs.Prelude.{◌≡◌, ℕ, ◌+◌, ◌*◌, ◌≤◌, List, ◌++◌, length}
+use Rattle.cave_base.specs.Box.{most_cells}
 use Rattle.proof_rules.specs.Text.{ended}
 use Rattle.certificate_lines.specs.Cuts.{AreClean}
 use Rattle.certificate_lines.specs.Steps.{Leads}
@@ -16,5 +17,5 @@ pub record Walked (bytes : List ℕ) (s : Stage) (taken : ℕ) (rest : List ℕ)
   pub leads : Leads before stage.Start s
   pub only : (other : Stage) → Leads before stage.Start other → other ≡ s
   pub sound : IsSoundStage s
-  pub few : pending_of s ≤ 262144 * taken
+  pub few : pending_of s ≤ most_cells * taken
   pub within : taken + length rest ≤ length bytes

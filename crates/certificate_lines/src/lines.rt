@@ -1,5 +1,6 @@
 //! Lines taken one after another: `Fits` of specs/Moves.antt.
 ghost use Rattle.std.specs.Prelude.{◌≡◌, ◌<◌, ◌+◌, ◌-◌, ◌^◌, IfOk, MatchOption, IsTrue, ◌↔◌};
+ghost use Rattle.cave_base.specs.Box.{most_cells};
 ghost use Rattle.certificate_lines.specs.Moves.{Fits, FitsNot};
 ghost use Rattle.certificate_lines.specs.Sound.{IsSoundStage, pending_of};
 ghost use Rattle.certificate_lines.specs.declared.stage.Stage.TheVariants as stages;
@@ -36,7 +37,7 @@ impl Lines {
     /// Takes the next line, without its line feed, if it fits: what kind of line it is.
     pub fn take(&mut self, text: &[u8]) -> Result<Option<LineKind>, AllocError>
         requires sound { IsSoundStage self.old.stage }
-        requires few { pending_of self.old.stage + 262144 < 2 ^ 128 }
+        requires few { pending_of self.old.stage + most_cells < 2 ^ 128 }
         requires room { self.old.taken + 1 < 2 ^ 64 }
         ensures { IfOk result (λ r. MatchOption r
             (FitsNot text.now self.old.stage self.new.stage self.old.taken self.new.taken)

@@ -1,5 +1,6 @@
 //! A step from one stage to the next by a line: `Takes` of specs/Steps.antt.
 ghost use Rattle.std.specs.Prelude.{◌≡◌, ◌≤◌, ◌<◌, ◌+◌, ◌^◌, IfOk, IfSome};
+ghost use Rattle.cave_base.specs.Box.{most_cells};
 ghost use Rattle.certificate_lines.specs.Decides.{Decides, IsLineOf};
 ghost use Rattle.certificate_lines.specs.Kinds as kinds;
 ghost use Rattle.certificate_lines.specs.Sound.{IsSoundStage, pending_of};
@@ -25,7 +26,7 @@ pub fn next_stage(
     numbers: &mut Vec<u32>,
 ) -> Result<Option<Stage>, AllocError>
     requires sound { IsSoundStage stage }
-    requires room { pending_of stage + 262144 < 2 ^ 128 }
+    requires room { pending_of stage + most_cells < 2 ^ 128 }
     requires kind { kind ≡ kinds.kind_at stage text.now }
     ensures decides { IfOk result (λ r. Decides r (Takes stage text.now)) }
     ensures said { IfOk result (λ r. IfSome r (λ _. IsLineOf text.now (kinds.word_of kind) numbers.new.items)) }
@@ -39,7 +40,7 @@ pub fn next_stage(
 /// What stage the numbers of such a line lead to.
 fn after(stage: Stage, kind: LineKind, numbers: &[u32]) -> Option<Stage>
     requires sound { IsSoundStage stage }
-    requires room { pending_of stage + 262144 < 2 ^ 128 }
+    requires room { pending_of stage + most_cells < 2 ^ 128 }
     ensures { Decides result (kinds.MeansAt stage kind numbers.now) }
 {
     match stage {
@@ -95,8 +96,8 @@ fn after(stage: Stage, kind: LineKind, numbers: &[u32]) -> Option<Stage>
 
 /// What stage the numbers of a node's line lead to.
 fn after_node_line(trees: Trees, kind: LineKind, numbers: &[u32]) -> Option<Stage>
-    requires few { trees.count ≤ 262144 }
-    requires room { trees.pending + 262144 < 2 ^ 128 }
+    requires few { trees.count ≤ most_cells }
+    requires room { trees.pending + most_cells < 2 ^ 128 }
     ensures { Decides result (kinds.MeansAt
         (kinds.node_stage trees.version trees.count trees.to_come trees.pending) kind numbers.now) }
 {

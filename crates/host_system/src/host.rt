@@ -1,11 +1,12 @@
 //! The files and streams of the machine that a program runs on. Of their bytes nothing is known to contracts.
 
 use crate::progress::Progress;
+use cave_runs::RunFault;
 use clap::Error;
+use run_system::System;
 use std::fs::{self, File};
 use std::io::{self, IsTerminal};
 use std::os::unix::fs::MetadataExt;
-use torch_plan::{RunFault, System};
 
 /// The files and streams of the machine that the program runs on.
 #[derive(Drop)]

@@ -1,11 +1,9 @@
 //! The system that the program runs on: its files, its streams, and lines about a run on standard error. Nothing is
-//! promised of it but what is tested here, over files in a temporary folder.
+//! promised of it.
 #![tactic(auto)]
 
 mod host;
 mod progress;
-#[cfg(test)]
-mod tests;
 mod words;
 
 pub use host::Host;

@@ -1,8 +1,9 @@
 //! Lines on standard error: where the box cuts a cave, and, about once a second at most, how a plan gets on.
 
+use cave_runs::{Name, Observer, OpenSides, Watcher};
+use run_system::Advance;
 use std::sync::atomic::{AtomicBool, AtomicU64, Ordering};
 use std::time::Clock;
-use torch_plan::{Advance, Name, Observer, OpenSides, Watcher};
 
 /// How many milliseconds lie between two lines at least.
 const BETWEEN: u64 = 1000;

@@ -1,9 +1,10 @@
 //! What a program is started with: the words of its command line, and its descriptors.
 
 use crate::host::Host;
+use cave_runs::RunFault;
+use run_system::{System, status_of};
 use std::fs::File;
 use std::{env, io};
-use torch_plan::{RunFault, System, status_of};
 
 /// The words of the command line. One that is no text is a mistake in usage.
 pub fn words_of(rt: &HostRuntime, host: &Host<'_>) -> Result<Vec<String>, u8> {

@@ -1,6 +1,10 @@
 -- How many workers there may be. This is this project's own.
-use Rattle.std.specs.Prelude.{ℕ, ◌&&◌, Bool, nat_lt}
+use Rattle.std.specs.Prelude.{ℕ, ◌&&◌, Bool, nat_lt, nat_le}
 
--- 1 to 64
+-- at most so many
+abbrev pub most_workers : ℕ
+most_workers = 64
+
+-- one at least
 abbrev pub is_crew : ℕ → Bool
-is_crew number = nat_lt 0 number && nat_lt number 65
+is_crew number = nat_lt 0 number && nat_le number most_workers

@@ -21,5 +21,6 @@ mod weighing;
 
 pub use checking::{check, check_from};
 pub use fault::CheckFault;
+pub use reading::{READ_CALLS, READ_SIZE};
 pub use reason::Reason;
 pub use verdict::Verdict;

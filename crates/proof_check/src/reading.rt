@@ -12,11 +12,11 @@ use cave_model::World;
 use std::alloc::Global;
 use std::io::Read;
 
-/// Reading a certificate ends after so many calls of its reader.
-const READ_CALLS: u64 = 134_217_728;
+/// Reading an input ends after so many calls of its reader (this project's own).
+pub const READ_CALLS: u32 = 134_217_728;
 
-/// How many bytes are asked for at once.
-const PIECE: usize = 8192;
+/// How many bytes are asked for at once (this project's own).
+pub const READ_SIZE: usize = 8192;
 
 /// The next piece of what the reader has left: so many bytes of the buffer, none at the end. There is room for so many.
 fn read_piece<C: Read>(reader: &mut C, buffer: &mut [u8], room: u64) -> Result<usize, CheckFault>
@@ -42,7 +42,7 @@ pub fn pass_over<C: Read>(reader: &mut C, limit: u64) -> Result<(), CheckFault>
         → GivesAtMost limit (C.remaining reader.old) (C.remaining reader.new)) }
     ensures kinds { IfErr result (λ e. (e ≡ CheckFault.ReadFailed) ⊎ (e ≡ CheckFault.TooLong)) }
 {
-    let mut buffer = [0; PIECE];
+    let mut buffer = [0; READ_SIZE];
     let mut room = limit;
     for _ in 0..READ_CALLS {
         let count = read_piece(reader, &mut buffer, room)?;
@@ -70,7 +70,7 @@ pub fn judge_from<C: Read>(
     ensures kinds { IfErr result IsOfReading }
 {
     let mut trial = Trial::new(alloc, world)?;
-    let mut buffer = [0; PIECE];
+    let mut buffer = [0; READ_SIZE];
     let mut room = limit;
     for _ in 0..READ_CALLS {
         let count = read_piece(reader, &mut buffer, room)?;

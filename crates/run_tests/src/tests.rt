@@ -6,6 +6,8 @@ mod entering;
 mod faults;
 mod gates;
 mod helped;
+mod host_answers;
+mod host_files;
 mod in_memory;
 mod large_certificates;
 mod limits;

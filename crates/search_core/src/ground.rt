@@ -58,14 +58,9 @@ impl<'a> Ground<'a> {
         ensures picks { result.picks ≡ self.now.picks }
         ensures splits { result.splits ≡ self.now.splits }
     {
-        Ground {
-            alloc: self.alloc,
-            region: self.region,
-            shared: self.shared,
-            refused: self.refused + 1,
-            picks: self.picks,
-            splits: self.splits,
-        }
+        let mut below = *self;
+        below.refused += 1;
+        below
     }
 
     /// The ground below a node where what is left of one more branch went to a thread of its own.
@@ -75,13 +70,8 @@ impl<'a> Ground<'a> {
         ensures one_less { result.splits + 1 ≡ self.now.splits }
         ensures picks { (result.picks ≡ self.now.picks) × (result.refused ≡ self.now.refused) }
     {
-        Ground {
-            alloc: self.alloc,
-            region: self.region,
-            shared: self.shared,
-            refused: self.refused,
-            picks: self.picks,
-            splits: self.splits - 1,
-        }
+        let mut below = *self;
+        below.splits -= 1;
+        below
     }
 }

@@ -20,4 +20,5 @@ mod worker;
 pub use gathering::PoolFault;
 pub use plan_options::Workers;
 pub use planning::plan_with;
+pub use pool::FEW_PLACES;
 pub use report::Report;

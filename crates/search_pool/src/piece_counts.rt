@@ -1,6 +1,7 @@
 //! How many pieces workers handed over, by what became of them: `AreTallied` of specs/Tallies.antt. A report's numbers
 //! are made of these.
 ghost use Rattle.std.specs.Prelude.{◌≤◌, ◌*◌, ◌^◌, length};
+ghost use Rattle.plan_options.specs.Crew.{most_workers};
 ghost use Rattle.search_pool.specs.Tallies.{AreTallied};
 
 use schedule_law::Work;
@@ -16,7 +17,7 @@ pub(crate) struct PieceCounts {
 
 /// Counts the pieces of the works.
 pub(crate) fn count_pieces(works: &[Work]) -> PieceCounts
-    requires few { length works.now ≤ 64 }
+    requires few { length works.now ≤ most_workers }
     ensures counted { AreTallied works.now result }
     ensures most { (result.closed ≤ length works.now * 2 ^ 64)
         × (result.opened ≤ length works.now * 2 ^ 64)

@@ -21,16 +21,13 @@ use proof_tree::Opened;
 use search_traits::{Closer, Observer, SharedSearch};
 use std::sync::Wait;
 use std::thread::Threads;
-use worker_results::{Joined, Naming, close_up};
-
-/// The longest that names of pieces are.
-const DEEPEST: usize = 3;
+use worker_results::{Joined, LONGEST_NAME, Naming, close_up};
 
 /// How many pieces a worker should find.
 const PIECES: usize = 3;
 
-/// A region of no more places makes few pieces.
-const FEW: usize = 128;
+/// A region of no more places makes few pieces (this project's own).
+pub const FEW_PLACES: usize = 128;
 
 /// What workers plan, and by whom: the search of a region with its root opened, and a cover of it.
 #[derive(Drop)]
@@ -58,8 +55,8 @@ pub(crate) struct Ran {
 /// outdoes by then (this project's own).
 fn deepest_for(region: &Region, kids: usize, workers: u32) -> usize {
     let wanted = (workers as usize).saturating_mul(PIECES);
-    if region.places().len() <= FEW {
-        return DEEPEST;
+    if region.places().len() <= FEW_PLACES {
+        return LONGEST_NAME;
     }
     if kids >= wanted {
         return 1;
@@ -67,7 +64,7 @@ fn deepest_for(region: &Region, kids: usize, workers: u32) -> usize {
     if kids.saturating_mul(kids) >= wanted {
         return 2;
     }
-    DEEPEST
+    LONGEST_NAME
 }
 
 /// Starts a worker for each deque, joins them, and closes the beacon and the deques.

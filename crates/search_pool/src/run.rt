@@ -2,6 +2,7 @@
 //! result is that of a worker that did nothing.
 ghost use Rattle.std.specs.Arc.{arc_value};
 ghost use Rattle.std.specs.Prelude.{◌≡◌, ◌≤◌, ◌<◌, ◌+◌, ◌∷◌, IfOk, IfSome, length};
+ghost use Rattle.plan_options.specs.Crew.{most_workers};
 ghost use Rattle.search_pool.specs.Rows.{AreFrom, AreOfBudgets};
 ghost use Rattle.worker_results.specs.Naming.{AreThieves};
 
@@ -70,7 +71,7 @@ where
     O: Observer + 'e,
     requires ground { (common.beacon.now ≡ B.beacon) × (arc_value common.region.now ≡ B.region)
         × AreThieves B.deque 0 common.thieves.now }
-    requires few { team.first + length team.slots.now ≤ 64 }
+    requires few { team.first + length team.slots.now ≤ most_workers }
     ensures each { IfOk result (λ all. AreFrom team.entry.first team.entry.own team.entry.each all.items
         × (length all.items ≡ length team.entry.slots.now)) }
 {
@@ -127,7 +128,7 @@ where
     O: Observer,
     requires ground { (common.beacon.now ≡ B.beacon) × (arc_value common.region.now ≡ B.region)
         × AreThieves B.deque 0 common.thieves.now }
-    requires count { (0 < length slots.now) × (length slots.now ≤ 64) }
+    requires count { (0 < length slots.now) × (length slots.now ≤ most_workers) }
     ensures { IfOk result (λ all. AreOfBudgets turns all.items
         × (length all.items ≡ length slots.now)) }
 {
@@ -139,7 +140,7 @@ where
             requires ground { (common.beacon.now ≡ B.beacon)
                 × (arc_value common.region.now ≡ B.region)
                 × AreThieves B.deque 0 common.thieves.now }
-            requires few { length slots.now ≤ 64 }
+            requires few { length slots.now ≤ most_workers }
         {
             let team = Team {
                 slots,

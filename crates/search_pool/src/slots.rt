@@ -1,6 +1,7 @@
 //! The workers' slots are filled: for each a seat at the beacon, its own deque, and a pass at each deque. What is ready
 //! stands in specs/Slots.antt.
 ghost use Rattle.std.specs.Prelude.{◌≡◌, ◌+◌, ◌≤◌, [], true, All, IfOk, length, map};
+ghost use Rattle.plan_options.specs.Crew.{most_workers};
 ghost use Rattle.search_pool.specs.Seats.{SplitsOff};
 ghost use Rattle.search_pool.specs.Slots.{AreOwners, IsReady, lent, lent_pass, numbers_of};
 ghost use Rattle.worker_results.specs.Naming.{numbers_from};
@@ -44,7 +45,7 @@ pub(crate) fn split_seats(
 /// The ends of the deques, with their workers' numbers.
 pub(crate) fn owned<B: Naming>(alloc: Global, owners: Vec<Owner>) -> Result<Vec<Own<B>>, AllocError>
     requires owners { AreOwners B.deque B.start 0 owners.items }
-    requires few { length owners.items ≤ 64 }
+    requires few { length owners.items ≤ most_workers }
     ensures numbers { IfOk result (λ owned.
         numbers_of owned.items ≡ numbers_from 0 (length owners.items)) }
     ensures ready { IfOk result (λ owned. All (IsReady B.start 0) owned.items) }

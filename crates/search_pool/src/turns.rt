@@ -1,6 +1,7 @@
 //! The turns of all workers: their budgets (`AreBudgets` of specs/Rows.antt), what they were granted, and what is left
 //! (`left` of specs/Turns.antt).
 ghost use Rattle.std.specs.Prelude.{◌≡◌, ◌≤◌, ◌<◌, ◌+◌, ◌^◌, IfSome, IsTrue, length};
+ghost use Rattle.plan_options.specs.Crew.{most_workers};
 ghost use Rattle.search_pool.specs.Rows.{AreBudgets, AreFrom, AreSpendings, all_granted, counted, is_spent, is_started};
 ghost use Rattle.search_pool.specs.Turns.{left};
 ghost use Rattle.search_traits.specs.Turns.{IsWithin};
@@ -29,7 +30,7 @@ pub(crate) fn are_from<B: Naming>(
     own: Option<u64>,
     each: Option<u64>,
 ) -> bool
-    requires { first + length results.now ≤ 64 }
+    requires { first + length results.now ≤ most_workers }
     ensures { IsTrue result → AreFrom first own each results.now }
 {
     let Some((done, rest)) = results.split_first() else {

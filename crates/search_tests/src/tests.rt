@@ -8,8 +8,6 @@ mod felt;
 mod gathered;
 mod kids;
 mod lanes;
-mod omissions;
-mod picks;
 mod pieces;
 mod rings;
 mod shortened;

@@ -14,8 +14,8 @@ use Rattle.torch_plan.specs.Answers.{Answers, Does, structure_in, table_in}
 use Rattle.torch_plan.specs.Given.{given}
 use Rattle.torch_plan.specs.Memory.{AnswersInMemory, IsAnswered, Reads, Writes, are_none, bytes_at}
 use Rattle.torch_plan.specs.Memory.{sources_of}
-use Rattle.torch_plan.specs.Sources.{LacksStructure, LacksTable, Sources, made_in}
-use Rattle.torch_plan.specs.Status.{status}
+use Rattle.run_system.specs.Sources.{LacksStructure, LacksTable, Sources, made_in}
+use Rattle.run_system.specs.Status.{status}
 use Rattle.torch_plan.specs.declared.memory.NamedFile.{NamedFile}
 
 -- a fault has a status without an answer

@@ -12,7 +12,7 @@ use Rattle.cave_runs.specs.declared.plan.Outcome.{Outcome}
 use Rattle.search_traits.specs.declared.planner.Allowance.{Allowance}
 use Rattle.torch_plan.specs.Answers.{AnswersDark, AnswersPlan, LeavesMade, LeavesOutput, structure_in}
 use Rattle.torch_plan.specs.Answers.{table_in}
-use Rattle.torch_plan.specs.Sources.{Sources, LacksStructure, LacksTable, made_in}
+use Rattle.run_system.specs.Sources.{Sources, LacksStructure, LacksTable, made_in}
 
 -- standard input, where that is named
 pub standard_in : (sources : Sources) (file : List ℕ) → bytes_eq file (codes "-") ≡ true

@@ -8,7 +8,7 @@ use Rattle.cave_runs.specs.declared.plan.Outcome.TheVariants.{Done, Stopped}
 use Rattle.proof_check.specs.declared.verdict.Verdict.{Verdict}
 use Rattle.proof_check.specs.declared.verdict.Verdict.TheVariants.{Accepted, Rejected}
 use Rattle.torch_plan.specs.Answers.{LeavesOutput, check_status, dark_status, plan_status}
-use Rattle.torch_plan.specs.Status.{IsRefused, status}
+use Rattle.run_system.specs.Status.{IsRefused, status}
 
 -- other statuses aren't such
 no_refusal : (code : ℕ) → code ≢ 1 → code ≢ 2 → code ≢ 3 → code ≢ 7 → ¬ IsRefused code

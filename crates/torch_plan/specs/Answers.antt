@@ -16,9 +16,9 @@ use Rattle.cave_runs.specs.declared.plan.Outcome.{Outcome}
 use Rattle.command_words.specs.Requests.{IsAsked}
 use Rattle.search_traits.specs.declared.planner.Allowance.{Allowance}
 use Rattle.torch_plan.specs.Given.{given}
-use Rattle.torch_plan.specs.Sources.{IsUnread, LacksStructure, LacksTable, MayOverwrite, MayStandApart, Sources}
-use Rattle.torch_plan.specs.Sources.{made_in}
-use Rattle.torch_plan.specs.Status.{end_status, judged, status}
+use Rattle.run_system.specs.Sources.{IsUnread, LacksStructure, LacksTable, MayOverwrite, MayStandApart, Sources}
+use Rattle.run_system.specs.Sources.{made_in}
+use Rattle.run_system.specs.Status.{end_status, judged, status}
 use Rattle.command_words.specs.Mistakes.{AreWellFormed}
 use Rattle.torch_plan.specs.Usage.{IsExplained}
 use Rattle.command_words.specs.declared.request.Request.{Request}

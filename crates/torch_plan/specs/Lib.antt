@@ -1,6 +1,4 @@
 -- public clauses cite
-pub mod Status
-pub mod Sources
 pub mod Kept
 pub mod Answers
 pub mod Usage

@@ -13,8 +13,8 @@ use Rattle.command_words.specs.declared.request.Request.TheVariants.{Dark, Plan,
 use Rattle.proof_check.specs.declared.verdict.Verdict.{Verdict}
 use Rattle.torch_plan.specs.Answers.{Answers, structure_in, table_in}
 use Rattle.torch_plan.specs.Given.{given}
-use Rattle.torch_plan.specs.Sources.{Sources, made_in}
-use Rattle.torch_plan.specs.Status.{end_status, judged}
+use Rattle.run_system.specs.Sources.{Sources, made_in}
+use Rattle.run_system.specs.Status.{end_status, judged}
 use Rattle.torch_plan.specs.Usage.{IsExplained}
 use Rattle.torch_plan.specs.declared.memory.NamedFile.{NamedFile}
 

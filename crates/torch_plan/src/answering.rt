@@ -2,21 +2,20 @@
 ghost use Rattle.std.specs.Io.KnownBytes.{Keeps};
 ghost use Rattle.std.specs.Prelude.{◌≡◌, ◌⊎◌, IsFalse, IsTrue, map, option_copied, string_bytes};
 ghost use Rattle.clap.specs.Words.{kind_of};
+ghost use Rattle.run_system.specs.Sources.{MayOverwrite, MayStandApart};
+ghost use Rattle.run_system.specs.Status.{IsRefused, status};
 ghost use Rattle.torch_plan.specs.Answers.{Answers, check_status, dark_status, plan_status};
 ghost use Rattle.torch_plan.specs.Kept.{held_by};
-ghost use Rattle.torch_plan.specs.Sources.{MayOverwrite, MayStandApart};
-ghost use Rattle.torch_plan.specs.Status.{IsRefused, status};
 ghost use Rattle.torch_plan.specs.Usage.{explained_status};
 
 use crate::environment::Environment;
 use crate::resources::Resources;
 use crate::runs::{answer_check, answer_dark, answer_plan};
-use crate::status::status_of;
-use crate::system::System;
 use cave_runs::{Outcome, RunFault, Verdict, Watcher};
 use clap::Error;
 use clap::error::ErrorKind;
 use command_words::{Request, request_of};
+use run_system::{System, status_of};
 use std::io::Write;
 use std::sync::Wait;
 use std::thread::Threads;

@@ -10,13 +10,11 @@ use instance_regions::Region;
 use parallel_search::{Helpers, plan_by_helpers, plan_on_by_helpers};
 use plan_options::Workers;
 use search_core::{BY_CELLS, SoFar, goes_on_by_picks, plan_by_one, plan_by_picks};
+use search_pool::FEW_PLACES;
 use search_traits::{Observer, RegionFault, RegionPlan, Strategy, first_of};
 use std::marker::PhantomData;
 use std::sync::{Arc, Wait};
 use std::thread::Threads;
-
-/// A region of no more places is planned by many workers as it is: it makes few pieces.
-const FEW: usize = 128;
 
 /// In a region of more cells a strategy for a part of the search begins with a reduction of all of it, unless places
 /// are picked: so many strategies would take too much memory.
@@ -50,7 +48,8 @@ impl<'e, X: Threads + Wait + Sync, S: Strategy + Send + Sync, O: Observer> Crew<
     pub(crate) fn plan_region(&self, region: &Arc<Region>, turns: Option<u64>) -> RegionPlan
         ensures { IsRegionPlan self.now.workers.number turns (arc_value region.now) result }
     {
-        if region.places().len() <= FEW {
+        // it makes few pieces
+        if region.places().len() <= FEW_PLACES {
             return self.plan_by_many(region, turns, None);
         }
         if let None = turns {

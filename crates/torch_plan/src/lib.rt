@@ -1,7 +1,6 @@
 //! What the words of a command line ask for is done, over whatever opens files for it, and an exit status answered.
 #![tactic(auto)]
 
-mod advance;
 mod answering;
 mod crew;
 mod crew_pieces;
@@ -11,10 +10,7 @@ mod planner;
 mod pool_answers;
 mod resources;
 mod runs;
-mod status;
-mod system;
 
-pub use advance::Advance;
 pub use answering::answer;
 pub use cave_model::Rule;
 pub use cave_runs::{
@@ -26,5 +22,4 @@ pub use memory::{Ended, NamedFile, answer_in_memory};
 pub use plan_options::{PlanOpts, Workers};
 pub use planner::{run_plan, run_plan_alone};
 pub use resources::Resources;
-pub use status::status_of;
-pub use system::System;
+pub use run_system::{Advance, System, status_of};

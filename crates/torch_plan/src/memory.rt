@@ -1,13 +1,13 @@
 //! A command line over files in memory, from its words to the bytes that it writes: specs/Memory.antt.
 ghost use Rattle.std.specs.Prelude.{◌≡◌, List, [], map, option_copied, option_map, string_bytes};
+ghost use Rattle.run_system.specs.Status.{IsRefused};
 ghost use Rattle.torch_plan.specs.Memory.{AnswersInMemory, bytes_at};
-ghost use Rattle.torch_plan.specs.Status.{IsRefused};
 
 use crate::answering::answer;
 use crate::resources::Resources;
-use crate::system::System;
 use cave_runs::{RunFault, Watcher};
 use clap::Error;
+use run_system::System;
 use std::alloc::Global;
 use std::sync::Wait;
 use std::thread::Threads;

@@ -32,4 +32,5 @@ pub use pass_at::PassAt;
 pub use pass_row::PassRow;
 pub use pool_desk::PoolDesk;
 pub use spending::Spending;
+pub use splitting::LONGEST_NAME;
 pub use step::{Step, Tried};

@@ -11,8 +11,8 @@ use cave_model::OutOfMemory;
 use proof_tree::{Opened, Piece};
 use search_traits::{Closer, SharedSearch};
 
-/// Pieces whose names are as long as this, or longer, are closed and not opened.
-const LONGEST: usize = 3;
+/// Pieces whose names are as long as this, or longer, are closed and not opened (this project's own).
+pub const LONGEST_NAME: usize = 3;
 
 /// The piece opened on a cell, with its kids. It comes back where it isn't to be opened, or memory was refused.
 pub(crate) fn split<C: Closer>(
@@ -51,9 +51,9 @@ fn cell_for<C: Closer>(
     size: u64,
 ) -> Result<Option<Cell>, OutOfMemory>
     ensures { IfOk result (λ found. IfSome found (λ _. (piece.now.region ≡ arc_value search.entry.region.now)
-        × (length piece.now.name < 3))) }
+        × (length piece.now.name < LONGEST_NAME))) }
 {
-    if piece.name().as_slice().len() >= LONGEST || !search.region.is_same(piece.region()) {
+    if piece.name().as_slice().len() >= LONGEST_NAME || !search.region.is_same(piece.region()) {
         return Ok(None);
     }
     search.closer.cell_to_open(search.alloc, piece, size)

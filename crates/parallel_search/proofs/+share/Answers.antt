@@ -80,20 +80,20 @@ sharing::share_kids-share_each-requires-clause-places g t c κs within =
     kids_chosen c.args.on.now.region.now c.args.node.now c.args.cell c.in_ok-places.places.items c.deref.result.now
     c.deref.ensures.value c.requires.cell c.in_ok-places.ensures
 
-pub sharing::share_each-become_kid-requires-clause-place : goal.sharing::share_each-become_kid-requires-clause-place
-sharing::share_each-become_kid-requires-clause-place g t c =
+pub sharing::push_each-become_kid-requires-clause-place : goal.sharing::push_each-become_kid-requires-clause-place
+sharing::push_each-become_kid-requires-clause-place g t c =
     inside c.args.on.now.region.now c.args.node.now c.args.places.now c.loop-index.index c.requires.places
     (omega (arith, c.loop-index-test.true))
 
-pub sharing::share_each-bar-requires : goal.sharing::share_each-bar-requires
-sharing::share_each-bar-requires g t c =
+pub sharing::push_each-bar-requires : goal.sharing::push_each-bar-requires
+sharing::push_each-bar-requires g t c =
     let one = inside c.args.on.now.region.now c.args.node.now c.args.places.now c.loop-index.index c.requires.places
     (omega (arith, c.loop-index-test.true)) in
     omega (arith, one, c.requires.at.state.places_whole, c.loop-index.invariant.kids.whole)
 
-pub sharing::share_each-first_and_others-requires-clause-at :
-    goal.sharing::share_each-first_and_others-requires-clause-at
-sharing::share_each-first_and_others-requires-clause-at g t c κs within =
+pub sharing::push_each-first_and_others-requires-clause-at :
+    goal.sharing::push_each-first_and_others-requires-clause-at
+sharing::push_each-first_and_others-requires-clause-at g t c κs within =
     let region = c.args.on.now.region.now in let node = c.args.node.now in let places = c.args.places.now in
     let i = c.loop-index.index in let before = c.loop-index.rest in let inv = c.loop-index.invariant in
     let kid = c.become_kid.new.self in let place = slice_index places i in
@@ -108,15 +108,15 @@ sharing::share_each-first_and_others-requires-clause-at g t c κs within =
           c.bar.ensures.chosen c.bar.ensures.unlit c.bar.ensures.barred,
     )
 
-pub sharing::share_each-first_and_others-requires-clause-others :
-    goal.sharing::share_each-first_and_others-requires-clause-others
-sharing::share_each-first_and_others-requires-clause-others g t c κs within =
+pub sharing::push_each-first_and_others-requires-clause-others :
+    goal.sharing::push_each-first_and_others-requires-clause-others
+sharing::push_each-first_and_others-requires-clause-others g t c κs within =
     later_chosen c.args.on.now.region.now c.args.node.now c.bar.new.self c.args.places.now c.split_at.result.1.now
     (c.loop-index.index + 1) c.split_at.ensures.back (c.bar.ensures.unlit ∙ c.loop-index.invariant.unlit)
     c.requires.places
 
-pub sharing::share_each-returns-then-may_wait-clause-good : goal.sharing::share_each-returns-then-may_wait-clause-good
-sharing::share_each-returns-then-may_wait-clause-good g t c =
+pub sharing::push_each-returns-then-may_wait-clause-good : goal.sharing::push_each-returns-then-may_wait-clause-good
+sharing::push_each-returns-then-may_wait-clause-good g t c =
     let region = c.args.on.now.region.now in let node = c.args.node.now in let places = c.args.places.now in
     let i = c.loop-index.index in let before = c.loop-index.rest in let inv = c.loop-index.invariant in
     let kid = c.become_kid.new.self in let place = slice_index places i in
@@ -130,8 +130,8 @@ sharing::share_each-returns-then-may_wait-clause-good g t c =
     (c.bar.ensures.chosen ∙ inv.chosen) c.split_at.ensures.back c.in_ok-tree.ensures.good.1 c.in_ok-push.ensures.items
     c.in_ok-append.ensures.items
 
-pub sharing::share_each-loop-index-preserved : goal.sharing::share_each-loop-index-preserved
-sharing::share_each-loop-index-preserved g t c =
+pub sharing::push_each-loop-index-preserved : goal.sharing::push_each-loop-index-preserved
+sharing::push_each-loop-index-preserved g t c =
     let region = c.args.on.now.region.now in let node = c.args.node.now in let places = c.args.places.now in
     let i = c.loop-index.index in let before = c.loop-index.rest in let inv = c.loop-index.invariant in
     let kid = c.become_kid.new.self in let place = slice_index places i in
@@ -148,8 +148,8 @@ sharing::share_each-loop-index-preserved g t c =
           (known_by c.share_node.new.hand.desk) inv.onward c.share_node.ensures.onward;
     }
 
-pub sharing::share_each-share_node-requires : goal.sharing::share_each-share_node-requires
-sharing::share_each-share_node-requires g t c κs within =
+pub sharing::push_each-share_node-requires : goal.sharing::push_each-share_node-requires
+sharing::push_each-share_node-requires g t c κs within =
     let region = c.args.on.now.region.now in let node = c.args.node.now in let places = c.args.places.now in
     let i = c.loop-index.index in let before = c.loop-index.rest in let inv = c.loop-index.invariant in
     let kid = c.become_kid.new.self in let place = slice_index places i in
@@ -179,9 +179,9 @@ sharing::share_each-share_node-requires g t c κs within =
 
 -- ---- a fork at a pick
 
-pub forks::both_trees-share_node-requires : goal.forks::both_trees-share_node-requires
-forks::both_trees-share_node-requires g t c κs within =
-    let most = few c.args.on.now.region.now c.args.kid c.requires.at.0.state in (
+pub forks::trees_in_turn-share_node-requires : goal.forks::trees_in_turn-share_node-requires
+forks::trees_in_turn-share_node-requires g t c κs within =
+    let most = few c.args.on.now.region.now c.args.kid.now c.requires.at.0.state in (
       omega (arith, most, c.requires.grows.0, c.decreases),
       (
         search rules,
@@ -189,13 +189,12 @@ forks::both_trees-share_node-requires g t c κs within =
       ),
     )
 
-pub forks::both_trees-returns-then-not-may_wait-clause-good :
-    goal.forks::both_trees-returns-then-not-may_wait-clause-good
-forks::both_trees-returns-then-not-may_wait-clause-good g t c =
-    let floor = c.share_node-then-not-may_wait.new.hand.desk.shown in (
-      closes_at_less c.args.on.now.region.now c.args.kid floor c.share_node.new.hand.desk.shown
-          (tree_of c.in_ok-with.with) c.share_node-then-not-may_wait.ensures.onward.shown c.in_ok-with.ensures.good,
-      subst (λ (r : Instance). Closes r c.args.rest floor (tree_of c.in_ok-without.without))
+pub forks::trees_in_turn-returns-clause-good : goal.forks::trees_in_turn-returns-clause-good
+forks::trees_in_turn-returns-clause-good g t c =
+    let floor = c.share_node-2.new.hand.desk.shown in (
+      closes_at_less c.args.on.now.region.now c.args.kid.now floor c.share_node.new.hand.desk.shown
+          (tree_of c.in_ok-with.with) c.share_node-2.ensures.onward.shown c.in_ok-with.ensures.good,
+      subst (λ (r : Instance). Closes r c.args.rest.now floor (tree_of c.in_ok-without.without))
           c.refusing-below.ensures.same c.in_ok-without.ensures.good,
     )
 
@@ -229,17 +228,17 @@ forks::both_trees-fork_at_pick-near-requires g t c κs within =
 
 pub forks::both_trees-returns-clause-good : goal.forks::both_trees-returns-clause-good
 forks::both_trees-returns-clause-good g t c =
-    let region = c.args.on.now.region.now in let floor = c.take-2.new.self.shown in
+    let region = c.args.on.now.region.now in let floor = c.both_found.new.desk.shown in
     let near = c.fork_at_pick-near.result.0 in let far = c.fork_at_pick-near.result.1 in
-    let with = IfOk-at_ok (λ tree. Closes region c.args.kid near.desk.shown (tree_of tree)) c.in_ok-near.was
-    c.fork_at_pick-near.ensures.0.closes in
+    let with = IfOk-at_ok (λ tree. Closes region c.args.kid near.desk.shown (tree_of tree))
+    c.in_ok-trees-2.ensures.found.0 c.fork_at_pick-near.ensures.0.closes in
     let without = IfOk-at_ok (λ tree. Closes c.refusing-below.result.region.now c.args.rest far.desk.shown
-    (tree_of tree)) c.in_ok-far.was c.fork_at_pick-near.ensures.1.closes in (
-      closes_at_less region c.args.kid floor near.desk.shown (tree_of c.in_ok-near.field-0)
-          (omega (arith, c.in_ok-take.ensures.less, c.take-2.ensures.onward.shown)) with,
-      closes_at_less region c.args.rest floor far.desk.shown (tree_of c.in_ok-far.field-0)
-          c.in_ok-take-2.ensures.less
-          (subst (λ (r : Instance). Closes r c.args.rest far.desk.shown (tree_of c.in_ok-far.field-0))
+    (tree_of tree)) c.in_ok-trees-2.ensures.found.1 c.fork_at_pick-near.ensures.1.closes in (
+      closes_at_less region c.args.kid floor near.desk.shown (tree_of c.in_ok-trees-2.trees.0)
+          c.in_ok-trees-2.ensures.less.0 with,
+      closes_at_less region c.args.rest floor far.desk.shown (tree_of c.in_ok-trees-2.trees.1)
+          c.in_ok-trees-2.ensures.less.1
+          (subst (λ (r : Instance). Closes r c.args.rest far.desk.shown (tree_of c.in_ok-trees-2.trees.1))
           c.refusing-below.ensures.same without),
     )
 
@@ -287,22 +286,20 @@ forks::first_and_others-fork_at_branch-near-requires g t c κs within =
 
 pub forks::first_and_others-returns-clause-good : goal.forks::first_and_others-returns-clause-good
 forks::first_and_others-returns-clause-good g t c =
-    let region = c.args.on.now.region.now in let floor = c.take-2.new.self.shown in
+    let region = c.args.on.now.region.now in let floor = c.both_found.new.desk.shown in
     let near = c.fork_at_branch-near.result.0 in let far = c.fork_at_branch-near.result.1 in
-    let first = IfOk-at_ok (λ tree. Closes region c.in_ok-kid.kid near.desk.shown (tree_of tree)) c.in_ok-near.was
+    let trees = c.in_ok-trees.trees in let found = c.in_ok-trees.ensures.found in
+    let less = c.in_ok-trees.ensures.less in
+    let first = IfOk-at_ok (λ tree. Closes region c.in_ok-kid.kid near.desk.shown (tree_of tree)) found.0
     c.fork_at_branch-near.ensures.0.closes in
-    let others = IfOk-at_ok (λ trees. ClosesKids c.split.result.region.now c.in_ok-rest.rest far.desk.shown
-    c.args.others.now (forest_of trees.items)) c.in_ok-far.was c.fork_at_branch-near.ensures.1.closes in (
-      closes_at_less region c.args.kid.now floor near.desk.shown (tree_of c.in_ok-near.field-0)
-          (omega (arith, c.in_ok-take.ensures.less, c.take-2.ensures.onward.shown))
-          (subst (λ (n : NodeState). Closes region n near.desk.shown (tree_of c.in_ok-near.field-0))
-          c.in_ok-kid.ensures first),
-      kids_at_less region c.args.rest.now floor far.desk.shown c.args.others.now c.in_ok-far.field-0.items
-          c.in_ok-take-2.ensures.less
-          (subst (λ (n : NodeState).
-          ClosesKids region n far.desk.shown c.args.others.now (forest_of c.in_ok-far.field-0.items))
+    let others = IfOk-at_ok (λ kids. ClosesKids c.split.result.region.now c.in_ok-rest.rest far.desk.shown
+    c.args.others.now (forest_of kids.items)) found.1 c.fork_at_branch-near.ensures.1.closes in (
+      closes_at_less region c.args.kid.now floor near.desk.shown (tree_of trees.0) less.0
+          (subst (λ (n : NodeState). Closes region n near.desk.shown (tree_of trees.0)) c.in_ok-kid.ensures first),
+      kids_at_less region c.args.rest.now floor far.desk.shown c.args.others.now trees.1.items less.1
+          (subst (λ (n : NodeState). ClosesKids region n far.desk.shown c.args.others.now (forest_of trees.1.items))
           c.in_ok-rest.ensures
           (subst (λ (r : Instance).
-          ClosesKids r c.in_ok-rest.rest far.desk.shown c.args.others.now (forest_of c.in_ok-far.field-0.items))
+          ClosesKids r c.in_ok-rest.rest far.desk.shown c.args.others.now (forest_of trees.1.items))
           c.split.ensures.same others)),
     )

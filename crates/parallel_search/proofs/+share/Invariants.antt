@@ -16,74 +16,82 @@ steps_left region node refused picks splits =
 
 abbrev pub decreases-sharing::share_node : goal.decreases-sharing::share_node
 decreases-sharing::share_node g l =
-    8 * steps_left l.on.now.region.now l.node.now l.on.now.refused l.on.now.picks l.on.now.splits + 5
+    10 * steps_left l.on.now.region.now l.node.now l.on.now.refused l.on.now.picks l.on.now.splits + 6
 
 abbrev pub decreases-sharing::share_barred : goal.decreases-sharing::share_barred
 decreases-sharing::share_barred g l =
-    8 * steps_left l.on.now.region.now l.node.now l.on.now.refused l.on.now.picks l.on.now.splits + 4
+    10 * steps_left l.on.now.region.now l.node.now l.on.now.refused l.on.now.picks l.on.now.splits + 5
 
 abbrev pub decreases-sharing::share_pick : goal.decreases-sharing::share_pick
 decreases-sharing::share_pick g l =
-    8 * steps_left l.on.now.region.now l.node.now l.on.now.refused l.on.now.picks l.on.now.splits + 3
+    10 * steps_left l.on.now.region.now l.node.now l.on.now.refused l.on.now.picks l.on.now.splits + 4
 
 abbrev pub decreases-sharing::share_kids : goal.decreases-sharing::share_kids
 decreases-sharing::share_kids g l =
-    8 * steps_left l.on.now.region.now l.node.now l.on.now.refused l.on.now.picks l.on.now.splits + 3
+    10 * steps_left l.on.now.region.now l.node.now l.on.now.refused l.on.now.picks l.on.now.splits + 4
 
 abbrev pub decreases-sharing::share_each : goal.decreases-sharing::share_each
 decreases-sharing::share_each g l =
-    8 * steps_left l.on.now.region.now l.node.now l.on.now.refused l.on.now.picks l.on.now.splits + 2
+    10 * steps_left l.on.now.region.now l.node.now l.on.now.refused l.on.now.picks l.on.now.splits + 3
+
+abbrev pub decreases-sharing::push_each : goal.decreases-sharing::push_each
+decreases-sharing::push_each g l =
+    10 * steps_left l.on.now.region.now l.node.now l.on.now.refused l.on.now.picks l.on.now.splits + 2
 
 -- ---- by two threads
 
 abbrev pub decreases-forks::both_trees : goal.decreases-forks::both_trees
 decreases-forks::both_trees g l =
-    8 * steps_left l.on.now.region.now l.rest l.on.now.refused l.on.now.picks l.on.now.splits + 1
+    10 * steps_left l.on.now.region.now l.rest l.on.now.refused l.on.now.picks l.on.now.splits + 1
+
+abbrev pub decreases-forks::trees_in_turn : goal.decreases-forks::trees_in_turn
+decreases-forks::trees_in_turn g l =
+    10 * steps_left l.on.now.region.now l.rest.now l.on.now.refused l.on.now.picks l.on.now.splits
 
 abbrev pub decreases-forks::first_and_others : goal.decreases-forks::first_and_others
 decreases-forks::first_and_others g l =
-    8 * steps_left l.on.now.region.now l.rest.now l.on.now.refused l.on.now.picks l.on.now.splits + 1
+    10 * steps_left l.on.now.region.now l.rest.now l.on.now.refused l.on.now.picks l.on.now.splits + 1
 
 abbrev pub decreases-forks::fork_at_pick : goal.decreases-forks::fork_at_pick
 decreases-forks::fork_at_pick g l =
     let near = l.near.on in let far = l.far.on in
-    8 * max (steps_left near.region.now l.near.node near.refused near.picks near.splits)
-    (steps_left far.region.now l.far.node far.refused far.picks far.splits) + 8
+    10 * max (steps_left near.region.now l.near.node near.refused near.picks near.splits)
+    (steps_left far.region.now l.far.node far.refused far.picks far.splits) + 9
 
 abbrev pub decreases-forks::fork_at_branch : goal.decreases-forks::fork_at_branch
 decreases-forks::fork_at_branch g l =
     let near = l.near.on in let far = l.far.on in
-    8 * max (steps_left near.region.now l.near.node near.refused near.picks near.splits)
-    (steps_left far.region.now l.far.node far.refused far.picks far.splits) + 8
+    10 * max (steps_left near.region.now l.near.node near.refused near.picks near.splits)
+    (steps_left far.region.now l.far.node far.refused far.picks far.splits) + 9
 
 abbrev pub decreases-forks::fork_at_pick-here : goal.decreases-forks::fork_at_pick-here
 decreases-forks::fork_at_pick-here g l =
-    let on = l.near.on in 8 * steps_left on.region.now l.near.node on.refused on.picks on.splits + 7
+    let on = l.near.on in 10 * steps_left on.region.now l.near.node on.refused on.picks on.splits + 8
 
 abbrev pub decreases-forks::fork_at_pick-there : goal.decreases-forks::fork_at_pick-there
 decreases-forks::fork_at_pick-there g l =
-    let on = l.far.on in 8 * steps_left on.region.now l.far.node on.refused on.picks on.splits + 7
+    let on = l.far.on in 10 * steps_left on.region.now l.far.node on.refused on.picks on.splits + 8
 
 abbrev pub decreases-forks::fork_at_branch-here : goal.decreases-forks::fork_at_branch-here
 decreases-forks::fork_at_branch-here g l =
-    let on = l.near.on in 8 * steps_left on.region.now l.near.node on.refused on.picks on.splits + 7
+    let on = l.near.on in 10 * steps_left on.region.now l.near.node on.refused on.picks on.splits + 8
 
 abbrev pub decreases-forks::fork_at_branch-there : goal.decreases-forks::fork_at_branch-there
 decreases-forks::fork_at_branch-there g l =
-    let on = l.far.on in 8 * steps_left on.region.now l.far.node on.refused on.picks on.splits + 7
+    let on = l.far.on in 10 * steps_left on.region.now l.far.node on.refused on.picks on.splits + 8
 
 abbrev pub decreases-forks::close_job : goal.decreases-forks::close_job
 decreases-forks::close_job g l =
-    let on = l.job.on in 8 * steps_left on.region.now l.job.node on.refused on.picks on.splits + 6
+    let on = l.job.on in 10 * steps_left on.region.now l.job.node on.refused on.picks on.splits + 7
 
 abbrev pub decreases-forks::close_others : goal.decreases-forks::close_others
 decreases-forks::close_others g l =
-    let on = l.job.on in 8 * steps_left on.region.now l.job.node on.refused on.picks on.splits + 6
+    let on = l.job.on in 10 * steps_left on.region.now l.job.node on.refused on.picks on.splits + 7
 
 -- ---- the kids so far
 
-abbrev pub invariant-sharing::share_each-loop-index : goal.invariant-sharing::share_each-loop-index
-invariant-sharing::share_each-loop-index g l = record {
+abbrev pub invariant-sharing::push_each-loop-index : goal.invariant-sharing::push_each-loop-index
+invariant-sharing::push_each-loop-index g l = record {
   kids : KidsSoFar l.on.region.now l.node l.hand.desk.shown (take l.index l.places) l.rest.barred
       (forest_of l.kids.items);
   chosen : l.rest.chosen ≡ l.node.chosen;

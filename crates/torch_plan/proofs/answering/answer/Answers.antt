@@ -5,7 +5,7 @@ use Rattle.clap.specs.Words.{Text, kind_of}
 use Rattle.clap.specs.declared.error.kind.ErrorKind.{ErrorKind}
 use Rattle.clap.specs.declared.error.kind.ErrorKind.TheVariants.{OutOfMemory}
 use Rattle.command_words.specs.Mistakes.{AreExplainedBy}
-use Rattle.torch_plan.specs.Status.{IsRefused}
+use Rattle.run_system.specs.Status.{IsRefused}
 use Rattle.torch_plan.specs.Usage.{IsExplained, explained_status}
 use Rattle.torch_plan.proofs.StatusLemmas.{check_silent, dark_silent, plan_silent}
 use Rattle.torch_plan.proofs.answering.answer.Goals as goal

@@ -1,8 +1,8 @@
 //! Command lines over real files: the exit status, what is printed, and what stands in the proof's file.
 
-use super::files::{folder, path_in};
-use crate::{Host, Progress};
+use super::host_files::{folder, path_in};
 use cave_files::caves::PILLAR;
+use host_system::{Host, Progress};
 use std::alloc::{AllocError, Global};
 use std::fs;
 use std::os::unix::fs::symlink;

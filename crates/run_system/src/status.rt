@@ -1,6 +1,6 @@
 //! The exit status of a refused run: `status` of specs/Status.antt.
 ghost use Rattle.std.specs.Prelude.{◌≡◌};
-ghost use Rattle.torch_plan.specs.Status.{status};
+ghost use Rattle.run_system.specs.Status.{status};
 
 use cave_runs::RunFault;
 

@@ -1,6 +1,6 @@
 //! Files of the host, in a temporary folder.
 
-use crate::{Host, Progress};
+use host_system::{Host, Progress};
 use std::io::{Read, Write};
 use std::os::unix::fs::symlink;
 use std::path::PathBuf;

@@ -1,6 +1,6 @@
 //! What the program asks of the system that it runs on: files, streams, and words for its user.
 ghost use Rattle.std.specs.Prelude.{◌≡◌, IfSome, IsFalse};
-ghost use Rattle.torch_plan.specs.Sources.{Sources};
+ghost use Rattle.run_system.specs.Sources.{Sources};
 
 use cave_runs::RunFault;
 use clap::Error;

@@ -1,4 +1,0 @@
-//! The host over real files.
-
-mod answers;
-mod files;

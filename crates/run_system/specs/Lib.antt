@@ -1,0 +1,3 @@
+-- public clauses cite
+pub mod Sources
+pub mod Status
