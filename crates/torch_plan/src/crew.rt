@@ -43,12 +43,12 @@ impl<'e, X: Threads + Wait + Sync, S: Strategy + Send + Sync, O: Observer> Crew<
     }
 
     /// The fewest places that light every cell of the region, and a tree that proves it. One turn is one node worked
-    /// on. With any number of turns all workers share one search of a large region; with so many alone, and in a very
+    /// on. Where turns aren't limited, all workers share one search of a large region. Where they are, and in a very
     /// large region where no places are picked, they share out pieces of it.
     pub(crate) fn plan_region(&self, region: &Arc<Region>, turns: Option<u64>) -> RegionPlan
         ensures { IsRegionPlan self.now.workers.number turns (arc_value region.now) result }
     {
-        // it makes few pieces
+        // so small a region makes few pieces
         if region.places().len() <= FEW_PLACES {
             return self.plan_by_many(region, turns, None);
         }

@@ -1,6 +1,7 @@
 //! Command lines, as words.
 
-use case_texts::{Files, unknown};
+use crate::fields::unknown;
+use crate::shelf::Files;
 use std::alloc::{AllocError, Global};
 use std::test::Fail;
 

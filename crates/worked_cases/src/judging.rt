@@ -1,6 +1,6 @@
 //! What came of a run, against what is due.
 
-use case_texts::{Due, Text, Way};
+use crate::due::{Due, Text, Way};
 use std::alloc::{AllocError, Global};
 
 /// What came of a run. The lines that were told begin with a word that says how.

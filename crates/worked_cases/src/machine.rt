@@ -1,7 +1,7 @@
 //! A machine whose files lie in memory. A path `locked` can't be made, and `output` is where standard output goes.
 
 use crate::record::{Kept, Record};
-use case_texts::Files;
+use crate::shelf::Files;
 use clap::Error;
 use std::alloc::Global;
 use std::io::{self, Read};

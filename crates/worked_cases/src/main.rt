@@ -6,15 +6,25 @@
 //! top what its lines mean.
 #![tactic(auto)]
 
+mod cases;
+mod caves;
+mod changes;
 mod commands;
+mod due;
+mod fields;
 mod judging;
 mod machine;
 mod record;
 mod running;
+mod series;
+mod shelf;
 mod sides;
+mod texts;
 
+use crate::caves::put_caves;
 use crate::running::{Tally, tried};
-use case_texts::{Shelf, put_caves, put_texts};
+use crate::shelf::Shelf;
+use crate::texts::put_texts;
 use std::test::Fail;
 use std::{env, fs};
 

@@ -1,12 +1,15 @@
 //! The runs of a case: each of its lines, for each number of its series, by each number of workers, from the file that
 //! the line names and from standard input, with all bytes at once and one by one.
 
+use crate::cases::{Case, case_of};
 use crate::commands::{Command, check_of, command_of, piped};
+use crate::fields::{parts_of, unknown};
 use crate::judging::{Came, difference};
 use crate::machine::Machine;
 use crate::record::Record;
+use crate::series::Series;
+use crate::shelf::{Files, Shelf};
 use crate::sides::Sides;
-use case_texts::{Case, Files, Series, Shelf, case_of, parts_of, unknown};
 use std::alloc::{AllocError, Global};
 use std::sync::Wait;
 use std::test::Fail;

@@ -1,0 +1,15 @@
+//! The tests, by what they run.
+mod counted;
+mod dark_streams;
+mod entering;
+mod faults;
+mod gates;
+mod helped;
+mod limits;
+mod plan_streams;
+mod planning;
+mod ring_caves;
+mod search;
+mod through;
+mod told_regions;
+mod worlds;
