@@ -1,6 +1,5 @@
-//! Tests of what no clause says and no file of cases can express: runs over streams that fail, the words of faults,
-//! rings planned by workers that gates hold back, the machine's own files and streams; and worked searches over small
-//! regions, with what their pieces, events and workers come to.
+//! Tests of what no clause says and no file of cases can express: runs over streams that fail, inputs at their limits,
+//! the words of faults, rings planned by workers that gates hold back, and searches over small regions.
 #![tactic(auto)]
 
 #[cfg(test)]
