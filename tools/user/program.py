@@ -1,5 +1,6 @@
 """Running the planner, and passing on what it tells meanwhile."""
 import os
+import select
 import subprocess
 import sys
 
@@ -16,6 +17,22 @@ class Ended(Exception):
     def __init__(self, status, unknown):
         super().__init__(status)
         self.status, self.unknown = status, unknown
+
+
+def lines_of(pipe):
+    """The lines of a pipe, as they come. It looks up once a second: Python hears of a signal that comes just before a
+    read only when that read has ended."""
+    rest = b""
+    while True:
+        if not select.select([pipe], [], [], 1)[0]:
+            continue
+        data = os.read(pipe.fileno(), 65536)
+        if not data:
+            break
+        *lines, rest = (rest + data).split(b"\n")
+        yield from (line + b"\n" for line in lines)
+    if rest:
+        yield rest
 
 
 class Program:
@@ -45,7 +62,7 @@ class Program:
         child = self.start([command, *words, *self.options], out)
         unknown = None
         try:
-            for line in child.stderr:
+            for line in lines_of(child.stderr):
                 line = line.decode("utf-8", "replace")
                 if line.startswith(UNKNOWN):
                     unknown = line[len(UNKNOWN):].rstrip("\n")

@@ -10,7 +10,6 @@ import stat
 import subprocess
 import sys
 import tempfile
-import time
 import unittest
 import unittest.mock
 
@@ -307,17 +306,15 @@ class Refusals(Commands):
         self.assertEqual(sorted(os.listdir(self.path("in", "room-torches"))), FILES)
 
     def test_stopped_by_hand_or_by_the_system(self):
-        self.answers["plan"]["sleep"] = 30
+        begun = "torchplan: it has begun\n"
+        self.answers["plan"].update(err=begun, sleep=30)
         for number, status in [(signal.SIGINT, 130), (signal.SIGTERM, 143)]:
             self.prepare()
             words = [sys.executable, SCRIPT, "room.nbt"]
             # A process in the background of a script ignores the first of these, and so do those that it starts.
             child = subprocess.Popen(words, text=True, stdout=subprocess.PIPE, stderr=subprocess.PIPE,
                                      preexec_fn=lambda: signal.signal(signal.SIGINT, signal.SIG_DFL))
-            for _ in range(200):
-                if len(self.calls()) == 2:
-                    break
-                time.sleep(0.05)
+            self.assertEqual(child.stderr.readline(), begun)
             child.send_signal(number)
             out, err = child.communicate(timeout=20)
             self.assertEqual((child.returncode, out), (status, ""))
