@@ -14,6 +14,7 @@ import unittest
 import unittest.mock
 
 import paths
+from program import lines_of
 from repository import EXAMPLES, TOOLS
 from saved_worlds import V1_16, V1_18, V1_21, Saved, chunk, nbt
 from small_nbt import read_packed
@@ -320,6 +321,19 @@ class Refusals(Commands):
             self.assertEqual((child.returncode, out), (status, ""))
             self.assertNotIn("Traceback", err)
             self.assertEqual(os.listdir(self.folder), ["room.nbt"])
+
+
+class LinesOfThePlanner(unittest.TestCase):
+    def test_a_line_is_whole_however_its_bytes_come(self):
+        end, start = os.pipe()
+        with open(end, "rb") as pipe:
+            lines = lines_of(pipe)
+            os.write(start, b"one\ntw")
+            self.assertEqual(next(lines), b"one\n")
+            os.write(start, b"o\n\nthree")
+            self.assertEqual([next(lines), next(lines)], [b"two\n", b"\n"])
+            os.close(start)
+            self.assertEqual(list(lines), [b"three"])
 
 
 class OfWorlds(Commands):
