@@ -1,6 +1,7 @@
 pub mod NameLemmas
 pub mod StateLemmas
 pub mod TurnLemmas
+pub mod KidLemmas
 pub mod OpenLemmas
 pub mod RunLemmas
 pub mod GoodLemmas

@@ -1,21 +1,25 @@
 -- A new shape at a name does what an event does.
 use Rattle.std.proofs.Common.{◌≡◌, ◌≢◌, inl, inr, ℕ, zero, suc, ◌<◌, List, [], ◌∷◌, ◌++◌, length, Option, Some, None}
-use Rattle.std.proofs.Common.{refl, sym, ap, ◌∙◌, subst, arith, append-nil, append_assoc}
-use Rattle.std.specs.Prelude.{take, slice_index}
+use Rattle.std.proofs.Common.{refl, sym, ap, ◌∙◌, subst, arith, append-nil, ◌↔◌}
+use Rattle.std.specs.Prelude.{MatchOption}
 use Rattle.std.proofs.lemmas.Bool.{cases_lt}
-use Rattle.set_cover.specs.Instance.{of_instance}
 use Rattle.proof_rules.specs.Tree.{Tree}
-use Rattle.proof_rules.specs.Good.{AreOpen, IsUnlit}
-use Rattle.proof_tree.specs.Piece.{Fathomed}
-use Rattle.event_core.specs.State.{State, Part, Status, waiting, held, closed, HasPart, IsLeft}
-use Rattle.event_core.specs.Events.{Turns, Opens, IsParted, MayTake, MayLeave, MayOpen, MayClose}
-use Rattle.event_core.specs.Shape.{Shape, at_rest, in_hand, settled, parted, status_of, part_in, part_below, put_in}
+use Rattle.proof_tree.specs.Bars.{places_of}
+use Rattle.proof_tree.specs.Opened.{ArePlacesOn, MayBeOpened, Step, below_bars, step_at, steps_on}
+use Rattle.proof_tree.specs.Piece.{Fathomed, Subproblem}
+use Rattle.proof_tree.specs.declared.bars.Bar.{Bar}
+use Rattle.proof_tree.specs.declared.branching.Branching.{Branching}
+use Rattle.proof_tree.specs.declared.branching.Branching.TheVariants.{Cell, Place}
+use Rattle.event_core.specs.State.{State, Part, Status, Way, waiting, held, closed, HasPart, IsLeft, piece_of}
+use Rattle.event_core.specs.Events.{Turns, Opens, IsParted, MayTake, MayLeave, MayOpen, MayClose, IsEnabled, Does}
+use Rattle.event_core.specs.Events.{opening_on}
+use Rattle.event_core.specs.Shape.{Shape, at_rest, in_hand, settled, status_of, part_in, part_below, put_in}
 use Rattle.event_core.specs.Shape.{shape_count}
-use Rattle.event_core.specs.Finished.{all_at_rest, IsWhole, AreWhole}
+use Rattle.event_core.specs.Finished.{all_at_rest, newly, IsWhole, AreWhole}
 use Rattle.event_core.specs.Kept.{Kept, state_of, put_kept}
 use Rattle.event_core.specs.Tracing.{IsTracedTo, IsStanding, StandsAs}
 use Rattle.event_core.specs.Opening.{IsOpening}
-use Rattle.event_core.specs.Moving.{IsMade}
+use Rattle.event_core.specs.Moving.{IsLeftPiece, IsMade}
 use Rattle.event_core.specs.NodeShape.{shape_of}
 use Rattle.event_core.specs.declared.node.PieceNode.{PieceNode}
 use Rattle.event_core.specs.declared.tracing.Standing.{Standing}
@@ -23,7 +27,7 @@ use Rattle.event_core.specs.declared.tracing.Standing.TheVariants.{Waiting, Held
 use Rattle.event_core.specs.declared.tracing.Traced.{Traced}
 use Rattle.event_core.proofs.NameLemmas.{begins_or_not}
 use Rattle.event_core.proofs.StateLemmas.{same_part, same_parts}
-use Rattle.event_core.proofs.NodeLemmas.{no_place}
+use Rattle.event_core.proofs.NodeLemmas.{no_step}
 use Rattle.event_core.proofs.ShapeLemmas.{put_there, put_apart, nothing_below}
 
 -- ---- a piece gets another status
@@ -113,136 +117,171 @@ close_turns kept w k may = turns kept k.piece.name k.piece.chosen k.piece.barred
 
 -- ---- a piece is opened
 
--- a kid at rest waits, with its place chosen and those before it barred
-rest_here : (c b places : List ℕ) (number : ℕ) → number < length places
-    → part_below c b places (all_at_rest places) number [] ≡ Some
-    (record { chosen = c ++ slice_index places number ∷ []; barred = b ++ take number places; status = waiting })
-rest_here c b [] number lt = absurd (omega arith)
-rest_here c b (q ∷ qs) zero lt =
-    ap (λ (x : List ℕ). Some (record { chosen = c ++ q ∷ []; barred = x; status = waiting })) (sym (append-nil b))
-rest_here c b (q ∷ qs) (suc number) lt =
-    rest_here c (b ++ q ∷ []) qs number (omega arith)
-    ∙ ap (λ (x : List ℕ). Some (record { chosen = c ++ slice_index qs number ∷ []; barred = x; status = waiting }))
-    (append_assoc b (q ∷ []) (take number qs))
+-- a kid at rest waits, with the places of its step chosen and barred
+rest_here : (c b : List ℕ) (steps : List Step) (count number : ℕ) → number < length steps → number < count
+    → part_below c b steps (all_at_rest count) number [] ≡ Some (record {
+      chosen = c ++ (step_at steps number).chosen;
+      barred = b ++ (step_at steps number).barred;
+      status = waiting;
+    })
+rest_here c b [] count number lt less = absurd (omega arith)
+rest_here c b (q ∷ qs) zero number lt less = absurd (omega arith)
+rest_here c b (q ∷ qs) (suc count) zero lt less = refl
+rest_here c b (q ∷ qs) (suc count) (suc number) lt less = rest_here c b qs count number (omega arith) (omega arith)
 
 -- a kid at rest has no kids of its own
-rest_below : (c b places others : List ℕ) (number k : ℕ) (rest : List ℕ)
-    → part_below c b places (all_at_rest others) number (k ∷ rest) ≡ None
-rest_below c b [] others number k rest = refl
-rest_below c b (q ∷ qs) [] number k rest = refl
-rest_below c b (q ∷ qs) (o ∷ os) zero k rest = refl
-rest_below c b (q ∷ qs) (o ∷ os) (suc number) k rest = rest_below c (b ++ q ∷ []) qs os number k rest
+rest_below : (c b : List ℕ) (steps : List Step) (count number k : ℕ) (rest : List ℕ)
+    → part_below c b steps (all_at_rest count) number (k ∷ rest) ≡ None
+rest_below c b [] count number k rest = refl
+rest_below c b (q ∷ qs) zero number k rest = refl
+rest_below c b (q ∷ qs) (suc count) zero k rest = refl
+rest_below c b (q ∷ qs) (suc count) (suc number) k rest = rest_below c b qs count number k rest
 
--- there is a kid at rest for each place
-rest_count : (places : List ℕ) → shape_count (all_at_rest places) ≡ length places
-rest_count [] = refl
-rest_count (q ∷ qs) = omega (arith, rest_count qs)
+-- there are so many kids at rest
+rest_count : (count : ℕ) → shape_count (all_at_rest count) ≡ count
+rest_count zero = refl
+rest_count (suc count) = omega (arith, rest_count count)
 
 -- kids at rest are whole
-rest_whole : (places : List ℕ) → AreWhole (all_at_rest places)
-rest_whole [] = tt
-rest_whole (q ∷ qs) = (tt, rest_whole qs)
-
-abbrev pub newly : ℕ → List ℕ → Shape
-newly cell places = parted cell places (length places) (all_at_rest places)
+rest_whole : (count : ℕ) → AreWhole (all_at_rest count)
+rest_whole zero = tt
+rest_whole (suc count) = (tt, rest_whole count)
 
 -- a newly opened piece is whole
-pub newly_whole : (shape : Shape) (cell : ℕ) (places : List ℕ) → shape ≡ newly cell places → IsWhole shape
-newly_whole shape cell places e = subst IsWhole (sym e) (rest_count places, refl, rest_whole places)
+pub newly_whole : (shape : Shape) (way : Way) (places : List ℕ) → shape ≡ newly way places → IsWhole shape
+newly_whole shape way places e = subst IsWhole (sym e)
+    (rest_count (length (steps_on way.on places)), refl, refl, rest_whole (length (steps_on way.on places)))
 
-module _ (kept : Kept) (name : List ℕ) (cell : ℕ) (places c b : List ℕ) (was : Status)
+module _ (kept : Kept) (name : List ℕ) (way : Way) (places c b : List ℕ) (was : Status)
     (is : HasPart (state_of kept) name c b was) (left : IsLeft was) where
   abbrev shape : Shape
-  shape = newly cell places
+  shape = newly way places
+
+  abbrev steps : List Step
+  steps = steps_on way.on places
 
   elsewhere_too : (other rest : List ℕ) → other ≢ name
-      → ((number : ℕ) → number < length places → other ≢ name ++ number ∷ []) → other ≡ name ++ rest
+      → ((number : ℕ) → number < length steps → other ≢ name ++ number ∷ []) → other ≡ name ++ rest
       → (state_of (put_kept kept name shape)).part_at other ≡ (state_of kept).part_at other
   elsewhere_too other [] ne no_kid e = absurd (ne (e ∙ append-nil name))
-  elsewhere_too other (k ∷ []) ne no_kid e = elim (cases_lt k (length places)) [
+  elsewhere_too other (k ∷ []) ne no_kid e = elim (cases_lt k (length steps)) [
     | inl lt ↦ absurd (no_kid k lt e)
-    | inr le ↦ below kept name c b was shape is left k [] other e (no_place c b places (all_at_rest places) k [] le)
+    | inr le ↦ below kept name c b was shape is left k [] other e
+        (no_step c (b ++ places_of way.bars) steps (all_at_rest (length steps)) k [] le)
   ]
   elsewhere_too other (k ∷ j ∷ rest) ne no_kid e = below kept name c b was shape is left k (j ∷ rest) other e
-      (rest_below c b places places k j rest)
+      (rest_below c (b ++ places_of way.bars) steps (length steps) k j rest)
 
-  parted_is : IsParted (state_of kept) name c b cell places (state_of (put_kept kept name shape))
+  parted_is : IsParted (state_of kept) name c b way places (state_of (put_kept kept name shape))
   parted_is = record {
     here = here kept name c b was shape is left c b was is;
     kids = λ number lt. put_there [] [] kept.root shape name (number ∷ [])
-        (record { chosen = c; barred = b; status = was }) is ∙ rest_here c b places number lt;
+        (record { chosen = c; barred = b; status = was }) is
+        ∙ rest_here c (b ++ places_of way.bars) steps (length steps) number lt lt;
     others = λ other ne no_kid. elim (begins_or_not name other) [
       | inl x ↦ elsewhere_too other x.0 ne no_kid x.1
       | inr none_of ↦ apart kept name c b was shape is left other none_of
     ];
   }
 
-  opens_here : AreOpen (of_instance kept.region) b cell places
-      → Opens (state_of kept) name cell (state_of (put_kept kept name shape))
+  opens_here : ArePlacesOn (below_bars (piece_of (state_of kept) name c b) way.bars) way.on places
+      → Opens (state_of kept) name way (state_of (put_kept kept name shape))
   opens_here all = record {
     kept = refl;
     parted = λ c2 b2 was2 h. (let same = same_parts (state_of kept) name c b c2 b2 was was2 is h in
         let x : c ≡ c2 = same.chosen in let y : b ≡ b2 = same.barred in (
           places,
-          subst (λ (l : List ℕ). AreOpen (of_instance kept.region) l cell places) y all,
-          subst (λ (l : List ℕ). IsParted (state_of kept) name c2 l cell places (state_of (put_kept kept name shape))) y
-              (subst (λ (l : List ℕ). IsParted (state_of kept) name l b cell places
+          subst (λ (l : List ℕ). ArePlacesOn (below_bars (piece_of (state_of kept) name c2 l) way.bars) way.on places) y
+              (subst (λ (l : List ℕ). ArePlacesOn
+              (below_bars (piece_of (state_of kept) name l b) way.bars) way.on places)
+              x all),
+          subst (λ (l : List ℕ). IsParted (state_of kept) name c2 l way places (state_of (put_kept kept name shape))) y
+              (subst (λ (l : List ℕ). IsParted (state_of kept) name l b way places
               (state_of (put_kept kept name shape)))
               x parted_is),
         ));
   }
 
 -- a piece put as newly opened is opened, with waiting kids
-pub opens : (kept : Kept) (name : List ℕ) (cell : ℕ) (node : PieceNode) → MayOpen (state_of kept) name cell
-    → ((c b : List ℕ) (was : Status) → HasPart (state_of kept) name c b was → IsOpening kept.region b cell node)
-    → Opens (state_of kept) name cell (state_of (put_kept kept name (shape_of node)))
-opens kept name cell node may made =
+pub opens : (kept : Kept) (name : List ℕ) (way : Way) (node : PieceNode) → MayOpen (state_of kept) name way
+    → ((c b : List ℕ) (was : Status) → HasPart (state_of kept) name c b was
+    → IsOpening (piece_of (state_of kept) name c b) way node)
+    → Opens (state_of kept) name way (state_of (put_kept kept name (shape_of node)))
+opens kept name way node may made =
     let o = made may.chosen may.barred may.status may.there in
-    subst (λ (s : Shape). Opens (state_of kept) name cell (state_of (put_kept kept name s))) (sym o.shape)
-    (opens_here kept name cell o.places may.chosen may.barred may.status may.there may.left o.all)
+    subst (λ (s : Shape). Opens (state_of kept) name way (state_of (put_kept kept name s))) (sym o.shape)
+    (opens_here kept name way o.places may.chosen may.barred may.status may.there may.left o.all)
 
 -- and it is whole
-pub opened_whole : (kept : Kept) (name : List ℕ) (cell : ℕ) (node : PieceNode) → MayOpen (state_of kept) name cell
-    → ((c b : List ℕ) (was : Status) → HasPart (state_of kept) name c b was → IsOpening kept.region b cell node)
+pub opened_whole : (kept : Kept) (name : List ℕ) (way : Way) (node : PieceNode) → MayOpen (state_of kept) name way
+    → ((c b : List ℕ) (was : Status) → HasPart (state_of kept) name c b was
+    → IsOpening (piece_of (state_of kept) name c b) way node)
     → IsWhole (shape_of node)
-opened_whole kept name cell node may made =
-    (let o = made may.chosen may.barred may.status may.there in newly_whole (shape_of node) cell o.places o.shape)
+opened_whole kept name way node may made =
+    (let o = made may.chosen may.barred may.status may.there in newly_whole (shape_of node) way o.places o.shape)
 
 -- ---- what was asked before
 
 -- what stands elsewhere than past the tree is still to be closed
-left_where : (s : Standing) (status : Status) → StandsAs s status → (¬ (s ≡ Past)) → IsLeft status
+pub left_where : (s : Standing) (status : Status) → StandsAs s status → (¬ (s ≡ Past)) → IsLeft status
 left_where Waiting status e ne = subst IsLeft (sym e) tt
 left_where (Held w) status e ne = subst IsLeft (sym e) tt
 left_where Past status e ne = absurd (ne refl)
 
-module _ (kept : Kept) (name : List ℕ) (cell : ℕ) (t : Traced) (node : PieceNode) (not_past : ¬ (t.standing ≡ Past))
-    (unlit : IsUnlit (of_instance kept.region) kept.region.cells t.chosen.items cell)
-    (opening : IsOpening kept.region t.barred.items cell node) where
-  made_at : (p : Part) → part_in [] [] kept.root name ≡ Some p → p.chosen ≡ t.chosen.items → p.barred ≡ t.barred.items
-      → StandsAs t.standing p.status → IsMade kept name cell (Some node)
-  made_at p e chosen barred s = (
-    record {
-      chosen = p.chosen;
-      barred = p.barred;
-      status = p.status;
-      there = e;
-      left = left_where t.standing p.status s not_past;
-      unlit = subst (λ (l : List ℕ). IsUnlit (of_instance kept.region) kept.region.cells l cell) (sym chosen) unlit;
-    },
-    λ c b was h. subst (λ (l : List ℕ). IsOpening kept.region l cell node)
-        (sym barred ∙ (same_parts (state_of kept) name p.chosen p.barred c b p.status was e h).barred) opening,
-  )
+module _ (kept : Kept) (name : List ℕ) (way : Way) where
+  -- where no piece of the name waits or is held, none may be opened
+  pub none_made : IsLeftPiece (state_of kept) name None → IsMade kept name way None
+  none_made none_left may = none_left may.chosen may.barred may.status may.there may.left
 
-  made_where : (o : Option Part) → part_in [] [] kept.root name ≡ o
-      → IsTracedTo t.chosen.items t.barred.items t.standing o → IsMade kept name cell (Some node)
-  made_where None e h = absurd h
-  made_where (Some p) e h = made_at p e h.0 h.1 h.2
+  module _ (piece : Subproblem) (left : IsLeftPiece (state_of kept) name (Some piece)) where
+    -- each part of the name is this piece
+    this_piece : (c b : List ℕ) (was : Status) → HasPart (state_of kept) name c b was
+        → piece_of (state_of kept) name c b ≡ piece
+    this_piece c b was h =
+        let same = same_parts (state_of kept) name piece.chosen piece.barred c b left.1 was left.2 h in
+        let x : piece.chosen ≡ c = same.chosen in let y : piece.barred ≡ b = same.barred in
+        sym (left.0 ∙ (λ i. piece_of (state_of kept) name (x i) (y i)))
 
-  -- the node made is the piece opened
-  pub made_is : IsTracedTo t.chosen.items t.barred.items t.standing (part_in [] [] kept.root name)
-      → IsMade kept name cell (Some node)
-  made_is h = made_where (part_in [] [] kept.root name) refl h
+    -- where it may not be opened so, there is no event that does
+    pub not_made : (¬ MayBeOpened piece way.bars way.on) → IsMade kept name way None
+    not_made not may = not (subst (λ (p : Subproblem). MayBeOpened p way.bars way.on)
+        (this_piece may.chosen may.barred may.status may.there) may.opens)
+
+    -- where it may, the node made is the piece opened
+    pub made_is : (node : PieceNode) → MayBeOpened piece way.bars way.on → IsOpening piece way node
+        → IsMade kept name way (Some node)
+    made_is node opens opening = (
+      record {
+        chosen = piece.chosen;
+        barred = piece.barred;
+        status = left.1;
+        there = left.2;
+        left = left.3;
+        opens = subst (λ (p : Subproblem). MayBeOpened p way.bars way.on) left.0 opens;
+      },
+      λ c b was h. subst (λ (p : Subproblem). IsOpening p way node) (sym (this_piece c b was h)) opening,
+    )
+
+    -- either way, what was found is made
+    pub made_or_not : (found : Option PieceNode) → MatchOption found (¬ MayBeOpened piece way.bars way.on)
+        (λ (node : PieceNode). MayBeOpened piece way.bars way.on × IsOpening piece way node)
+        → IsMade kept name way found
+    made_or_not None not = not_made not
+    made_or_not (Some node) found = made_is node found.0 found.1
+
+-- ---- the event that opens a piece
+
+-- it is enabled just where the piece may be opened
+pub opening_enabled : (state : State) (name : List ℕ) (bars : List Bar) (on : Branching)
+    → MayOpen state name (record { bars = bars; on = on }) ↔ IsEnabled state (opening_on name bars on)
+opening_enabled state name bars (Cell cell) = (λ m. m, λ m. m)
+opening_enabled state name bars (Place place) = (λ m. m, λ m. m)
+
+-- and opens it
+pub opening_does : (old : State) (name : List ℕ) (bars : List Bar) (on : Branching) (new : State)
+    → Opens old name (record { bars = bars; on = on }) new ↔ Does old (opening_on name bars on) new
+opening_does old name bars (Cell cell) new = (λ o. o, λ o. o)
+opening_does old name bars (Place place) new = (λ o. o, λ o. o)
 
 -- settling by an equal name, floor and tree is settling by the piece's own
 pub close_same : (kept : Kept) (k : Fathomed) (name : List ℕ) (floor : ℕ) (tree : Tree) → name ≡ k.piece.name

@@ -1,7 +1,7 @@
 -- The shapes of nodes.
-use Rattle.std.proofs.Common.{◌≡◌, ℕ, zero, suc, ◌<◌, ◌≤◌, List, [], ◌∷◌, ◌++◌, length, get_or, set, None, refl, sym}
-use Rattle.std.proofs.Common.{ap, ◌∙◌, arith, append_assoc, append-nil}
-use Rattle.std.specs.Prelude.{take, slice_index}
+use Rattle.std.proofs.Common.{◌≡◌, ℕ, zero, suc, ◌+◌, ◌<◌, ◌≤◌, List, [], ◌∷◌, ◌++◌, length, get_or, set, None, refl}
+use Rattle.std.proofs.Common.{ap, ◌∙◌, arith}
+use Rattle.proof_tree.specs.Opened.{Step, step_at}
 use Rattle.event_core.specs.Shape.{Shape, Shapes, at_rest, no_shape, one_shape, part_in, part_below, put_in}
 use Rattle.event_core.specs.Shape.{put_below, shape_size, shapes_size, shape_count}
 use Rattle.event_core.specs.Finished.{all_at_rest}
@@ -9,34 +9,30 @@ use Rattle.event_core.specs.NodeShape.{shape_of, shapes_of}
 use Rattle.event_core.specs.declared.node.PieceNode.{PieceNode}
 
 -- the part below a kid's number is that of the kid
-pub kid_here : (c b places : List ℕ) (ns : List PieceNode) (k : ℕ) (d : PieceNode) (ks : List ℕ) → k < length places
-    → k < length ns
-    → part_below c b places (shapes_of ns) k ks ≡ part_in (c ++ slice_index places k ∷ []) (b ++ take k places)
-    (shape_of (get_or ns k d)) ks
+pub kid_here : (c b : List ℕ) (steps : List Step) (ns : List PieceNode) (k : ℕ) (d : PieceNode) (ks : List ℕ)
+    → k < length steps → k < length ns
+    → part_below c b steps (shapes_of ns) k ks
+    ≡ part_in (c ++ (step_at steps k).chosen) (b ++ (step_at steps k).barred) (shape_of (get_or ns k d)) ks
 kid_here c b [] ns k d ks lt less = absurd (omega arith)
 kid_here c b (q ∷ qs) [] k d ks lt less = absurd (omega arith)
-kid_here c b (q ∷ qs) (n ∷ ns) zero d ks lt less = ap (λ (x : List ℕ). part_in (c ++ q ∷ []) x (shape_of n) ks)
-    (sym (append-nil b))
-kid_here c b (q ∷ qs) (n ∷ ns) (suc k) d ks lt less =
-    kid_here c (b ++ q ∷ []) qs ns k d ks (omega arith) (omega arith)
-    ∙ ap (λ (x : List ℕ). part_in (c ++ slice_index qs k ∷ []) x (shape_of (get_or ns k d)) ks)
-    (append_assoc b (q ∷ []) (take k qs))
+kid_here c b (q ∷ qs) (n ∷ ns) zero d ks lt less = refl
+kid_here c b (q ∷ qs) (n ∷ ns) (suc k) d ks lt less = kid_here c b qs ns k d ks (omega arith) (omega arith)
 
--- past the last place there is none
-pub no_place : (c b places : List ℕ) (kids : Shapes) (k : ℕ) (ks : List ℕ) → length places ≤ k
-    → part_below c b places kids k ks ≡ None
-no_place c b [] kids k ks le = refl
-no_place c b (q ∷ qs) no_shape k ks le = refl
-no_place c b (q ∷ qs) (one_shape s ss) zero ks le = absurd (omega arith)
-no_place c b (q ∷ qs) (one_shape s ss) (suc k) ks le = no_place c (b ++ q ∷ []) qs ss k ks (omega arith)
+-- past the last step there is none
+pub no_step : (c b : List ℕ) (steps : List Step) (kids : Shapes) (k : ℕ) (ks : List ℕ) → length steps ≤ k
+    → part_below c b steps kids k ks ≡ None
+no_step c b [] kids k ks le = refl
+no_step c b (q ∷ qs) no_shape k ks le = refl
+no_step c b (q ∷ qs) (one_shape s ss) zero ks le = absurd (omega arith)
+no_step c b (q ∷ qs) (one_shape s ss) (suc k) ks le = no_step c b qs ss k ks (omega arith)
 
 -- past the last kid there is none
-pub no_node : (c b places : List ℕ) (ns : List PieceNode) (k : ℕ) (ks : List ℕ) → length ns ≤ k
-    → part_below c b places (shapes_of ns) k ks ≡ None
+pub no_node : (c b : List ℕ) (steps : List Step) (ns : List PieceNode) (k : ℕ) (ks : List ℕ) → length ns ≤ k
+    → part_below c b steps (shapes_of ns) k ks ≡ None
 no_node c b [] ns k ks le = refl
 no_node c b (q ∷ qs) [] k ks le = refl
 no_node c b (q ∷ qs) (n ∷ ns) zero ks le = absurd (omega arith)
-no_node c b (q ∷ qs) (n ∷ ns) (suc k) ks le = no_node c (b ++ q ∷ []) qs ns k ks (omega arith)
+no_node c b (q ∷ qs) (n ∷ ns) (suc k) ks le = no_node c b qs ns k ks (omega arith)
 
 -- a shape put below a kid's number is put in the kid
 pub put_kid : (ns : List PieceNode) (k : ℕ) (ks : List ℕ) (new : Shape) (n d : PieceNode) → k < length ns
@@ -83,7 +79,13 @@ pub nodes_push : (ns : List PieceNode) (n : PieceNode) → shape_of n ≡ at_res
 nodes_push [] n e = ap (λ (s : Shape). one_shape s no_shape) e
 nodes_push (m ∷ ms) n e = ap (one_shape (shape_of m)) (nodes_push ms n e)
 
--- a place more is a kid at rest more
-pub rest_push : (xs : List ℕ) (x : ℕ) → all_at_rest (xs ++ x ∷ []) ≡ added (all_at_rest xs)
-rest_push [] x = refl
-rest_push (y ∷ ys) x = ap (one_shape at_rest) (rest_push ys x)
+-- one kid at rest more
+pub rest_push : (count : ℕ) → all_at_rest (count + 1) ≡ added (all_at_rest count)
+rest_push count = ap all_at_rest (one_up count) ∙ rest_suc count
+  where
+    one_up : (n : ℕ) → n + 1 ≡ suc n
+    one_up n = omega arith
+
+    rest_suc : (n : ℕ) → all_at_rest (suc n) ≡ added (all_at_rest n)
+    rest_suc zero = refl
+    rest_suc (suc n) = ap (one_shape at_rest) (rest_suc n)

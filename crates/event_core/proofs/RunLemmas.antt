@@ -11,13 +11,15 @@ use Rattle.proof_rules.specs.Good.{Good, IsCoverOfPiece}
 use Rattle.proof_rules.proofs.BoundLemmas.{bounds, piece_serves}
 use Rattle.proof_rules.proofs.ListLemmas.{distinct_nil}
 use Rattle.proof_tree.specs.Piece.{Fathomed}
-use Rattle.event_core.specs.State.{State, Part, Status, waiting, held, opened, closed, HasPart, IsLeft, IsDone, Begins}
+use Rattle.proof_tree.specs.declared.branching.Branching.TheVariants.{Cell, Place}
+use Rattle.event_core.specs.State.{State, Part, Status, Way, waiting, held, opened, closed, HasPart, IsLeft, IsDone}
+use Rattle.event_core.specs.State.{Begins}
 use Rattle.event_core.specs.Laws.{IsReached, IsAnyCover}
 use Rattle.event_core.specs.Sound.{IsSoundState, IsLeftOver, HasKids}
 use Rattle.event_core.specs.Events.{MayOpen, MayClose, IsEnabled, Does, Turns, Opens, smaller}
 use Rattle.event_core.specs.Plays.{Steps, Plays}
 use Rattle.event_core.specs.declared.event.Event.{Event}
-use Rattle.event_core.specs.declared.event.Event.TheVariants.{Look, Offer, Take, Open, Close, Leave}
+use Rattle.event_core.specs.declared.event.Event.TheVariants.{Look, Offer, Take, Open, Pick, Close, Leave}
 use Rattle.event_core.proofs.StateLemmas.{AreSame, same_parts, not_none, waiting_not_closed, held_not_closed}
 use Rattle.event_core.proofs.StateLemmas.{waiting_not_opened, held_not_opened, closed_not_opened, same_closed}
 use Rattle.event_core.proofs.TurnLemmas as turning
@@ -51,12 +53,19 @@ look_sound old worker lt sound = record {
         status = l.status;
         there = l.there;
         left = l.left;
+        cover = l.cover;
+        no_more = l.no_more;
         covers = l.covers;
       });
   reached = sound.reached;
   proved = sound.proved;
-  kids = λ m c b cell h. (let k = sound.kids m c b cell h in
-      record { unlit = k.unlit; places = k.places; all = k.all; there = k.there; no_more = k.no_more });
+  kids = λ m c b way h. (let k = sound.kids m c b way h in record {
+    opens = record { dominated = k.opens.dominated; may = k.opens.may };
+    places = k.places;
+    all = k.all;
+    there = k.there;
+    no_more = k.no_more;
+  });
 }
 
 -- so does a cover that is no larger than the best
@@ -75,12 +84,19 @@ better_sound old best le sound = record {
         status = l.status;
         there = l.there;
         left = l.left;
+        cover = l.cover;
+        no_more = l.no_more;
         covers = l.covers;
       });
   reached = λ m c b floor tree h. le_trans le (sound.reached m c b floor tree h);
   proved = sound.proved;
-  kids = λ m c b cell h. (let k = sound.kids m c b cell h in
-      record { unlit = k.unlit; places = k.places; all = k.all; there = k.there; no_more = k.no_more });
+  kids = λ m c b way h. (let k = sound.kids m c b way h in record {
+    opens = record { dominated = k.opens.dominated; may = k.opens.may };
+    places = k.places;
+    all = k.all;
+    there = k.there;
+    no_more = k.no_more;
+  });
 }
 
 -- the smaller of two covers is no larger than the best
@@ -92,27 +108,27 @@ not_larger new old = grind (arith, nat_tests)
 -- so does a turn of a piece that is left, where what it says of it is true
 turn_sound : (old : State) (n : List ℕ) (status : Status) (new : State) (c b : List ℕ) (was : Status) → IsSoundState old
     → Turns old n status new → HasPart old n c b was → IsLeft was
-    → ((cell : ℕ) → status ≢ opened cell)
+    → ((way : Way) → status ≢ opened way)
     → ((places : List ℕ) → length places < length old.best → cov old c b places → IsLeft status)
     → ((floor : ℕ) (tree : Tree) → status ≡ closed floor tree → length old.best ≤ floor)
     → ((floor : ℕ) (tree : Tree) → status ≡ closed floor tree
     → Good (of_instance old.region) old.region.cells c b floor tree) → IsSoundState new
-turn_sound old n status new c b was sound t is left no_cell still reach prove =
+turn_sound old n status new c b was sound t is left no_way still reach prove =
     subst IsSoundState (sym t.kept) (turning.turned_sound old new.part_at n c b was status sound is left
-    (t.here c b was is) t.others no_cell still reach prove)
+    (t.here c b was is) t.others no_way still reach prove)
 
 -- a piece that is left may wait
 wait_sound : (old : State) (n : List ℕ) (new : State) (c b : List ℕ) (was : Status) → IsSoundState old
     → Turns old n waiting new → HasPart old n c b was → IsLeft was → IsSoundState new
 wait_sound old n new c b was sound t is left = turn_sound old n waiting new c b was sound t is left
-    (λ cell e. waiting_not_opened cell e) (λ places lt covers. tt) (λ floor tree e. waiting_not_closed floor tree e)
+    (λ way e. waiting_not_opened way e) (λ places lt covers. tt) (λ floor tree e. waiting_not_closed floor tree e)
     (λ floor tree e. waiting_not_closed floor tree e)
 
 -- and may be held
 hold_sound : (old : State) (n : List ℕ) (w : ℕ) (new : State) (c b : List ℕ) (was : Status) → IsSoundState old
     → Turns old n (held w) new → HasPart old n c b was → IsLeft was → IsSoundState new
 hold_sound old n w new c b was sound t is left = turn_sound old n (held w) new c b was sound t is left
-    (λ cell e. held_not_opened w cell e) (λ places lt covers. tt) (λ floor tree e. held_not_closed w floor tree e)
+    (λ way e. held_not_opened w way e) (λ places lt covers. tt) (λ floor tree e. held_not_closed w floor tree e)
     (λ floor tree e. held_not_closed w floor tree e)
 
 -- a piece that a worker may close may be closed
@@ -124,7 +140,7 @@ close_sound old w k new sound may t =
     subst (λ (r : Instance). Good (of_instance r) r.cells c b k.floor k.tree) may.of_it may.proved in
     let above = sound.seen w may.known in
     turn_sound old k.piece.name (closed k.floor k.tree) new c b (held w) sound t may.holds tt
-    (λ cell e. closed_not_opened k.floor k.tree cell e)
+    (λ way e. closed_not_opened k.floor k.tree way e)
     (λ places lt covers. (let floor = bounds (of_instance old.region) old.region.cells c b k.tree k.floor places
     (sound.distinct k.piece.name c b (held w) may.holds) good
     (piece_serves (of_instance old.region) old.region.cells c b places covers) in let reaches = may.reaches in
@@ -136,13 +152,13 @@ close_sound old w k new sound may t =
     s.0 (subst (λ (x : Tree). Good (of_instance old.region) old.region.cells c b k.floor x) s.1 good)))
 
 -- a piece that may be opened may be
-open_sound : (old : State) (n : List ℕ) (cell : ℕ) (new : State) → IsSoundState old → MayOpen old n cell
-    → Opens old n cell new → IsSoundState new
-open_sound old n cell new sound may o =
+open_sound : (old : State) (n : List ℕ) (way : Way) (new : State) → IsSoundState old → MayOpen old n way
+    → Opens old n way new → IsSoundState new
+open_sound old n way new sound may o =
     let p = o.parted may.chosen may.barred may.status may.there in
-    subst IsSoundState (sym o.kept) (opening.opened_sound old new.part_at n may.chosen may.barred may.status cell
+    subst IsSoundState (sym o.kept) (opening.opened_sound old new.part_at n may.chosen may.barred may.status way
     p.0 sound
-    may.there may.left may.unlit p.1
+    may.there may.left may.opens p.1
     (record { here = p.2.here; kids = p.2.kids; others = p.2.others }))
 
 -- each enabled event keeps the state sound
@@ -154,7 +170,10 @@ does_sound old (Offer w cover) new sound may does = subst IsSoundState (sym does
     (better_sound old (smaller cover.places old.best) (not_larger cover.places old.best) sound)
 does_sound old (Take w n) new sound may does = hold_sound old n w new may.chosen may.barred waiting sound does
     may.waits tt
-does_sound old (Open n cell) new sound may does = open_sound old n cell new sound may does
+does_sound old (Open n bars cell) new sound may does =
+    open_sound old n (record { bars = bars; on = Cell cell }) new sound may does
+does_sound old (Pick n bars place) new sound may does =
+    open_sound old n (record { bars = bars; on = Place place }) new sound may does
 does_sound old (Close w k) new sound may does = close_sound old w k new sound may does
 does_sound old (Leave w n) new sound may does = wait_sound old n new may.chosen may.barred (held w) sound does
     may.holds tt
@@ -185,11 +204,13 @@ begin_sound region places workers state s = record {
     status = waiting;
     there = s.root;
     left = tt;
+    cover = cover;
+    no_more = omega arith;
     covers = covers;
   };
   reached = λ n c b floor tree h. waiting_not_closed floor tree (only n c b (closed floor tree) h).status;
   proved = λ n c b floor tree h. waiting_not_closed floor tree (only n c b (closed floor tree) h).status;
-  kids = λ n c b cell h. waiting_not_opened cell (only n c b (opened cell) h).status;
+  kids = λ n c b way h. waiting_not_opened way (only n c b (opened way) h).status;
 }
   where
     no_kid : {A : Type 0} (n : List ℕ) (i : ℕ) (p : Part) → state.part_at (n ++ i ∷ []) ≡ Some p → A
@@ -211,7 +232,8 @@ does_region : (old : State) (event : Event) (new : State) → Does old event new
 does_region old (Look w) new does = ap (λ (s : State). s.region) does
 does_region old (Offer w cover) new does = ap (λ (s : State). s.region) does
 does_region old (Take w n) new does = ap (λ (s : State). s.region) does.kept
-does_region old (Open n cell) new does = ap (λ (s : State). s.region) does.kept
+does_region old (Open n bars cell) new does = ap (λ (s : State). s.region) does.kept
+does_region old (Pick n bars place) new does = ap (λ (s : State). s.region) does.kept
 does_region old (Close w k) new does = ap (λ (s : State). s.region) does.kept
 does_region old (Leave w n) new does = ap (λ (s : State). s.region) does.kept
 
@@ -239,7 +261,7 @@ pub reached_region : (region : Instance) (events : List Event) (state : State) �
     → state.region ≡ region
 reached_region region events state r = plays_region r.start events state r.plays ∙ r.begins.of_it
 
--- a cover smaller than the best is left over in some piece
+-- for a cover smaller than the best one of no more places is left over in some piece
 pub reached_left : (region : Instance) (events : List Event) (state : State) (places : List ℕ)
     → IsReached region events state → IsAnyCover region places → length places < length state.best
     → IsLeftOver state places
@@ -256,8 +278,8 @@ reached_best region events state places r done covers = elim (cases_lt (length p
 ]
 
 -- an opened piece has a kid for each place that may light its cell
-pub reached_kids : (region : Instance) (events : List Event) (state : State) (name chosen barred : List ℕ) (cell : ℕ)
-    → IsReached region events state → HasPart state name chosen barred (opened cell)
-    → HasKids state name chosen barred cell
-reached_kids region events state name chosen barred cell r h = (reached_sound region events state r).kids name chosen
-    barred cell h
+pub reached_kids : (region : Instance) (events : List Event) (state : State) (name chosen barred : List ℕ) (way : Way)
+    → IsReached region events state → HasPart state name chosen barred (opened way)
+    → HasKids state name chosen barred way
+reached_kids region events state name chosen barred way r h = (reached_sound region events state r).kids name chosen
+    barred way h

@@ -1,5 +1,7 @@
 -- What a new shape at a name changes.
 use Rattle.std.proofs.Common.{◌≡◌, ◌≢◌, ℕ, zero, suc, ◌+◌, List, [], ◌∷◌, ◌++◌, Some, None, refl, sym, ap, ◌∙◌, subst}
+use Rattle.proof_tree.specs.Bars.{places_of}
+use Rattle.proof_tree.specs.Opened.{Step, steps_on}
 use Rattle.event_core.specs.State.{opened, Part, IsLeft}
 use Rattle.event_core.specs.Shape.{Shape, Shapes, at_rest, in_hand, settled, parted, no_shape, one_shape, status_of}
 use Rattle.event_core.specs.Shape.{part_in, part_below, put_in, put_below, shape_count}
@@ -17,17 +19,18 @@ mutual
   put_there c b at_rest new (k ∷ ks) rest p h = not_none p h
   put_there c b (in_hand w) new (k ∷ ks) rest p h = not_none p h
   put_there c b (settled f t) new (k ∷ ks) rest p h = not_none p h
-  put_there c b (parted cell places room kids) new (k ∷ ks) rest p h = put_there_below c b places kids new k ks rest p h
+  put_there c b (parted way places trees boxes kids) new (k ∷ ks) rest p h =
+      put_there_below c (b ++ places_of way.bars) (steps_on way.on places) kids new k ks rest p h
 
   -- and below a kid's number
-  pub put_there_below : (c b places : List ℕ) (kids : Shapes) (new : Shape) (k : ℕ) (ks rest : List ℕ) (p : Part)
-      → part_below c b places kids k ks ≡ Some p
-      → part_below c b places (put_below kids k ks new) k (ks ++ rest) ≡ part_in p.chosen p.barred new rest
+  pub put_there_below : (c b : List ℕ) (steps : List Step) (kids : Shapes) (new : Shape) (k : ℕ) (ks rest : List ℕ)
+      (p : Part) → part_below c b steps kids k ks ≡ Some p
+      → part_below c b steps (put_below kids k ks new) k (ks ++ rest) ≡ part_in p.chosen p.barred new rest
   put_there_below c b [] kids new k ks rest p h = not_none p h
   put_there_below c b (q ∷ qs) no_shape new k ks rest p h = not_none p h
-  put_there_below c b (q ∷ qs) (one_shape s ss) new zero ks rest p h = put_there (c ++ q ∷ []) b s new ks rest p h
-  put_there_below c b (q ∷ qs) (one_shape s ss) new (suc k) ks rest p h = put_there_below c
-      (b ++ q ∷ []) qs ss new k ks rest p h
+  put_there_below c b (q ∷ qs) (one_shape s ss) new zero ks rest p h =
+      put_there (c ++ q.chosen) (b ++ q.barred) s new ks rest p h
+  put_there_below c b (q ∷ qs) (one_shape s ss) new (suc k) ks rest p h = put_there_below c b qs ss new k ks rest p h
 
 -- names equal but for a first number stay equal when it is raised
 up : (j k : ℕ) (js ks : List ℕ) → j ∷ js ≡ k ∷ ks → suc j ∷ js ≡ suc k ∷ ks
@@ -42,22 +45,23 @@ mutual
   put_apart c b at_rest new (k ∷ ks) other ne = refl
   put_apart c b (in_hand w) new (k ∷ ks) other ne = refl
   put_apart c b (settled f t) new (k ∷ ks) other ne = refl
-  put_apart c b (parted cell places room kids) new (k ∷ ks) [] ne = refl
-  put_apart c b (parted cell places room kids) new (k ∷ ks) (j ∷ js) ne =
-      put_apart_below c b places kids new k ks j js ne
+  put_apart c b (parted way places trees boxes kids) new (k ∷ ks) [] ne = refl
+  put_apart c b (parted way places trees boxes kids) new (k ∷ ks) (j ∷ js) ne =
+      put_apart_below c (b ++ places_of way.bars) (steps_on way.on places) kids new k ks j js ne
 
   -- and stays below other kids
-  pub put_apart_below : (c b places : List ℕ) (kids : Shapes) (new : Shape) (k : ℕ) (ks : List ℕ) (j : ℕ) (js : List ℕ)
+  pub put_apart_below : (c b : List ℕ) (steps : List Step) (kids : Shapes) (new : Shape) (k : ℕ) (ks : List ℕ)
+      (j : ℕ) (js : List ℕ)
       → ((rest : List ℕ) → j ∷ js ≢ (k ∷ ks) ++ rest)
-      → part_below c b places (put_below kids k ks new) j js ≡ part_below c b places kids j js
+      → part_below c b steps (put_below kids k ks new) j js ≡ part_below c b steps kids j js
   put_apart_below c b [] kids new k ks j js ne = refl
   put_apart_below c b (q ∷ qs) no_shape new k ks j js ne = refl
-  put_apart_below c b (q ∷ qs) (one_shape s ss) new zero ks zero js ne = put_apart (c ++ q ∷ []) b s new ks js
-      (λ rest e. ne rest (ap (λ (l : List ℕ). 0 ∷ l) e))
+  put_apart_below c b (q ∷ qs) (one_shape s ss) new zero ks zero js ne =
+      put_apart (c ++ q.chosen) (b ++ q.barred) s new ks js (λ rest e. ne rest (ap (λ (l : List ℕ). 0 ∷ l) e))
   put_apart_below c b (q ∷ qs) (one_shape s ss) new zero ks (suc j) js ne = refl
   put_apart_below c b (q ∷ qs) (one_shape s ss) new (suc k) ks zero js ne = refl
   put_apart_below c b (q ∷ qs) (one_shape s ss) new (suc k) ks (suc j) js ne =
-      put_apart_below c (b ++ q ∷ []) qs ss new k ks j js (λ rest e. ne rest (up j k js (ks ++ rest) e))
+      put_apart_below c b qs ss new k ks j js (λ rest e. ne rest (up j k js (ks ++ rest) e))
 
 -- nothing stands below what isn't opened
 mutual
@@ -68,25 +72,25 @@ mutual
   nothing_below c b at_rest [] k rest p h left = refl
   nothing_below c b (in_hand w) [] k rest p h left = refl
   nothing_below c b (settled f t) [] k rest p h left = refl
-  nothing_below c b (parted cell places room kids) [] k rest p h left =
+  nothing_below c b (parted way places trees boxes kids) [] k rest p h left =
       absurd (subst IsLeft (sym (ap (λ (q : Part). q.status)
-      (same_part (record { chosen = c; barred = b; status = opened cell }) p h))) left)
+      (same_part (record { chosen = c; barred = b; status = opened way }) p h))) left)
   nothing_below c b at_rest (j ∷ js) k rest p h left = refl
   nothing_below c b (in_hand w) (j ∷ js) k rest p h left = refl
   nothing_below c b (settled f t) (j ∷ js) k rest p h left = refl
-  nothing_below c b (parted cell places room kids) (j ∷ js) k rest p h left =
-      nothing_below_kid c b places kids j js k rest p h left
+  nothing_below c b (parted way places trees boxes kids) (j ∷ js) k rest p h left =
+      nothing_below_kid c (b ++ places_of way.bars) (steps_on way.on places) kids j js k rest p h left
 
   -- nor below such a kid
-  pub nothing_below_kid : (c b places : List ℕ) (kids : Shapes) (j : ℕ) (js : List ℕ) (k : ℕ) (rest : List ℕ) (p : Part)
-      → part_below c b places kids j js ≡ Some p → IsLeft p.status
-      → part_below c b places kids j (js ++ k ∷ rest) ≡ None
+  pub nothing_below_kid : (c b : List ℕ) (steps : List Step) (kids : Shapes) (j : ℕ) (js : List ℕ) (k : ℕ)
+      (rest : List ℕ) (p : Part) → part_below c b steps kids j js ≡ Some p → IsLeft p.status
+      → part_below c b steps kids j (js ++ k ∷ rest) ≡ None
   nothing_below_kid c b [] kids j js k rest p h left = refl
   nothing_below_kid c b (q ∷ qs) no_shape j js k rest p h left = refl
   nothing_below_kid c b (q ∷ qs) (one_shape s ss) zero js k rest p h left =
-      nothing_below (c ++ q ∷ []) b s js k rest p h left
-  nothing_below_kid c b (q ∷ qs) (one_shape s ss) (suc j) js k rest p h left = nothing_below_kid c
-      (b ++ q ∷ []) qs ss j js k rest p h left
+      nothing_below (c ++ q.chosen) (b ++ q.barred) s js k rest p h left
+  nothing_below_kid c b (q ∷ qs) (one_shape s ss) (suc j) js k rest p h left =
+      nothing_below_kid c b qs ss j js k rest p h left
 
 -- each opened piece keeps its room
 mutual
@@ -96,8 +100,8 @@ mutual
   put_whole at_rest new (k ∷ ks) w n = tt
   put_whole (in_hand v) new (k ∷ ks) w n = tt
   put_whole (settled f t) new (k ∷ ks) w n = tt
-  put_whole (parted cell places room kids) new (k ∷ ks) w n =
-      (put_count kids k ks new ∙ w.0, w.1, put_whole_below kids k ks new w.2 n)
+  put_whole (parted way places trees boxes kids) new (k ∷ ks) w n =
+      (put_count kids k ks new ∙ w.0, w.1, w.2, put_whole_below kids k ks new w.3 n)
 
   -- and so do its kids
   pub put_whole_below : (kids : Shapes) (k : ℕ) (ks : List ℕ) (new : Shape) → AreWhole kids → IsWhole new

@@ -1,12 +1,13 @@
 -- What holds after any events still holds where a piece that waits or is held gets another status.
 use Rattle.std.proofs.Common.{◌≡◌, ◌≢◌, ◌⊎◌, inl, inr, ℕ, ◌<◌, ◌≤◌, List, [], ◌∷◌, ◌++◌, length, Option, Some, None}
-use Rattle.std.proofs.Common.{sym, ap, ◌∙◌, subst}
-use Rattle.std.specs.Prelude.{take, slice_index}
+use Rattle.std.proofs.Common.{sym, ap, ◌∙◌, subst, arith}
 use Rattle.cave_model.specs.Plan.{AreDistinct}
 use Rattle.set_cover.specs.Instance.{of_instance}
 use Rattle.proof_rules.specs.Tree.{Tree}
 use Rattle.proof_rules.specs.Good.{Good, IsCoverOfPiece}
-use Rattle.event_core.specs.State.{State, Part, Status, opened, closed, HasPart, IsLeft}
+use Rattle.event_core.specs.State.{State, Part, Status, Way, opened, closed, HasPart, IsLeft}
+use Rattle.proof_tree.specs.Bars.{places_of}
+use Rattle.proof_tree.specs.Opened.{step_at, steps_on}
 use Rattle.event_core.specs.Sound.{IsSoundState, IsLeftOver, HasKids}
 use Rattle.event_core.proofs.NameLemmas.{same_or_not}
 use Rattle.event_core.proofs.StateLemmas.{not_none, AreSame, same_parts, left_not_opened}
@@ -38,10 +39,10 @@ module _ (old : State) (f : List ℕ → Option Part) (n c b : List ℕ) (was st
   ]
 
   -- an opened piece stays
-  stays : (m c2 b2 : List ℕ) (cell : ℕ) → HasPart old m c2 b2 (opened cell) → HasPart new m c2 b2 (opened cell)
-  stays m c2 b2 cell h = elim (same_or_not m n) [
-    | inl e ↦ (let same = same_parts old n c b c2 b2 was (opened cell) is (ap old.part_at (sym e) ∙ h) in
-        left_not_opened was cell left same.status)
+  stays : (m c2 b2 : List ℕ) (way : Way) → HasPart old m c2 b2 (opened way) → HasPart new m c2 b2 (opened way)
+  stays m c2 b2 way h = elim (same_or_not m n) [
+    | inl e ↦ (let same = same_parts old n c b c2 b2 was (opened way) is (ap old.part_at (sym e) ∙ h) in
+        left_not_opened was way left same.status)
     | inr ne ↦ others m ne ∙ h
   ]
 
@@ -58,23 +59,25 @@ module _ (old : State) (f : List ℕ → Option Part) (n c b : List ℕ) (was st
     | inr ne ↦ (p, sym (others m ne) ∙ h)
   ]
 
-  kids_stay : (m c2 b2 : List ℕ) (cell : ℕ) → HasKids old m c2 b2 cell → HasKids new m c2 b2 cell
-  kids_stay m c2 b2 cell k = record {
-    unlit = k.unlit;
+  kids_stay : (m c2 b2 : List ℕ) (way : Way) → HasKids old m c2 b2 way → HasKids new m c2 b2 way
+  kids_stay m c2 b2 way k = record {
+    opens = record { dominated = k.opens.dominated; may = k.opens.may };
     places = k.places;
     all = k.all;
-    there = λ i lt. (let t = k.there i lt in forth (m ++ i ∷ []) (c2 ++ slice_index k.places i ∷ [])
-        (b2 ++ take i k.places) t.0 t.1);
+    there = λ i lt. (let t = k.there i lt in forth (m ++ i ∷ [])
+        (c2 ++ (step_at (steps_on way.on k.places) i).chosen)
+        ((b2 ++ places_of way.bars) ++ (step_at (steps_on way.on k.places) i).barred) t.0 t.1);
     no_more = λ i le. none_there (m ++ i ∷ []) (k.no_more i le);
   }
 
-  left_over : (places : List ℕ) → (IsCoverOfPiece (of_instance old.region) old.region.cells c b places → IsLeft status)
+  left_over : (places : List ℕ) → ((cover : List ℕ) → length cover ≤ length places
+      → IsCoverOfPiece (of_instance old.region) old.region.cells c b cover → IsLeft status)
       → IsLeftOver old places → IsLeftOver new places
   left_over places still l = elim (same_or_not l.name n) [
     | inl e ↦ (let same = same_parts old n l.chosen l.barred c b l.status was (ap old.part_at (sym e) ∙ l.there) is in
-        let covers = subst (λ (x : List ℕ). IsCoverOfPiece (of_instance old.region) old.region.cells x b places)
+        let covers = subst (λ (x : List ℕ). IsCoverOfPiece (of_instance old.region) old.region.cells x b l.cover)
         same.chosen
-        (subst (λ (x : List ℕ). IsCoverOfPiece (of_instance old.region) old.region.cells l.chosen x places)
+        (subst (λ (x : List ℕ). IsCoverOfPiece (of_instance old.region) old.region.cells l.chosen x l.cover)
         same.barred l.covers) in
         record {
           name = n;
@@ -82,7 +85,9 @@ module _ (old : State) (f : List ℕ → Option Part) (n c b : List ℕ) (was st
           barred = b;
           status = status;
           there = here;
-          left = still covers;
+          left = still l.cover l.no_more covers;
+          cover = l.cover;
+          no_more = l.no_more;
           covers = covers;
         })
     | inr ne ↦ record {
@@ -93,20 +98,22 @@ module _ (old : State) (f : List ℕ → Option Part) (n c b : List ℕ) (was st
       there = others l.name ne
           ∙ l.there;
       left = l.left;
+      cover = l.cover;
+      no_more = l.no_more;
       covers = l.covers;
     }
   ]
 
   -- the new status is no opened one; it is left where the piece has a smaller cover; and where a tree closes it, the
   -- tree is good
-  pub turned_sound : ((cell : ℕ) → status ≢ opened cell)
+  pub turned_sound : ((way : Way) → status ≢ opened way)
       → ((places : List ℕ) → length places < length old.best
       → IsCoverOfPiece (of_instance old.region) old.region.cells c b places → IsLeft status)
       → ((floor : ℕ) (tree : Tree) → status ≡ closed floor tree → length old.best ≤ floor)
       → ((floor : ℕ) (tree : Tree) → status ≡ closed floor tree
       → Good (of_instance old.region) old.region.cells c b floor tree)
       → IsSoundState new
-  turned_sound no_cell still reach prove = record {
+  turned_sound no_way still reach prove = record {
     seen = sound.seen;
     rooted = forth [] [] [] sound.rooted.0 sound.rooted.1;
     parents = λ m i p h. (let q = some_there (m ++ i ∷ []) p h in let up = sound.parents m i q.0 q.1 in
@@ -115,7 +122,8 @@ module _ (old : State) (f : List ℕ → Option Part) (n c b : List ℕ) (was st
       | inl e ↦ subst AreDistinct e.1.chosen (sound.distinct n c b was is)
       | inr o ↦ sound.distinct m c2 b2 s2 o.1
     ];
-    covered = λ places covers lt. left_over places (still places lt) (sound.covered places covers lt);
+    covered = λ places covers lt. left_over places
+        (λ cover le. still cover (omega (arith, le, lt))) (sound.covered places covers lt);
     reached = λ m c2 b2 floor tree h. elim (back m c2 b2 (closed floor tree) h) [
       | inl e ↦ reach floor tree e.1.status
       | inr o ↦ sound.reached m c2 b2 floor tree o.1
@@ -126,8 +134,8 @@ module _ (old : State) (f : List ℕ → Option Part) (n c b : List ℕ) (was st
           e.1.barred (prove floor tree e.1.status))
       | inr o ↦ sound.proved m c2 b2 floor tree o.1
     ];
-    kids = λ m c2 b2 cell h. elim (back m c2 b2 (opened cell) h) [
-      | inl e ↦ absurd (no_cell cell e.1.status)
-      | inr o ↦ kids_stay m c2 b2 cell (sound.kids m c2 b2 cell o.1)
+    kids = λ m c2 b2 way h. elim (back m c2 b2 (opened way) h) [
+      | inl e ↦ absurd (no_way way e.1.status)
+      | inr o ↦ kids_stay m c2 b2 way (sound.kids m c2 b2 way o.1)
     ];
   }

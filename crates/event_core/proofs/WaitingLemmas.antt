@@ -3,15 +3,17 @@ use Rattle.std.proofs.Common.{◌≡◌, inl, inr, ℕ, zero, suc, ◌+◌, true
 use Rattle.std.proofs.Common.{◌++◌, length}
 use Rattle.std.proofs.Common.{Contains, Option, Some, None, refl, sym, ap, ◌∙◌, subst, arith, append_assoc, append-nil}
 use Rattle.std.proofs.Common.{length-append}
-use Rattle.std.specs.Prelude.{take, drop, slice_index, All}
+use Rattle.std.specs.Prelude.{All}
 use Rattle.std.proofs.lemmas.Bool.{cases_lt}
-use Rattle.std.proofs.lemmas.List.Elements.{Contains-append_left, Contains-append_right, Contains-push_cases}
-use Rattle.std.proofs.lemmas.List.Elements.{Contains-append_cases}
-use Rattle.std.proofs.lemmas.List.Elements.{Contains-get_or}
-use Rattle.std.proofs.lemmas.List.{take-append-drop}
-use Rattle.proof_rules.proofs.ListLemmas.{no_member, all_members, at_member}
+use Rattle.std.proofs.lemmas.List.Elements.{All-append, Contains-append_left, Contains-append_right}
+use Rattle.proof_rules.proofs.ListLemmas.{no_member, all_members}
+use Rattle.set_cover.specs.Instance.{of_instance}
+use Rattle.proof_tree.specs.Bars.{places_of}
+use Rattle.proof_tree.specs.Opened.{Step, below_bars, step_at, steps_on}
+use Rattle.proof_tree.proofs.KidLemmas.{bars_of_it}
+use Rattle.event_core.proofs.KidLemmas.{step_here}
 use Rattle.proof_tree.specs.Piece.{IsPiece}
-use Rattle.event_core.specs.State.{State, Part, Status, waiting, held, opened, closed, HasPart}
+use Rattle.event_core.specs.State.{State, Part, Status, Way, waiting, held, opened, closed, HasPart, piece_of}
 use Rattle.event_core.specs.Shape.{Shape, Shapes, at_rest, in_hand, settled, parted, no_shape, one_shape, part_in}
 use Rattle.event_core.specs.Shape.{part_below}
 use Rattle.event_core.specs.WaitingNames.{waiting_in, waiting_below}
@@ -27,7 +29,7 @@ use Rattle.event_core.proofs.StateLemmas.{same_part, not_none, same_parts, waiti
 abbrev waits : Status → Bool
 waits waiting = true
 waits (held w) = false
-waits (opened cell) = false
+waits (opened way) = false
 waits (closed floor tree) = false
 
 -- what waits isn't held
@@ -55,18 +57,18 @@ mutual
       (record { chosen = c; barred = b; status = held w }) c2 b2 h)
   listed c b name (settled f t) [] c2 b2 h = waiting_not_closed f t (status_is
       (record { chosen = c; barred = b; status = closed f t }) c2 b2 h)
-  listed c b name (parted cell places room kids) [] c2 b2 h =
-      waiting_not_opened cell (status_is (record { chosen = c; barred = b; status = opened cell }) c2 b2 h)
+  listed c b name (parted way places trees boxes kids) [] c2 b2 h =
+      waiting_not_opened way (status_is (record { chosen = c; barred = b; status = opened way }) c2 b2 h)
   listed c b name at_rest (k ∷ ks) c2 b2 h = not_none (as_waiting c2 b2) h
   listed c b name (in_hand w) (k ∷ ks) c2 b2 h = not_none (as_waiting c2 b2) h
   listed c b name (settled f t) (k ∷ ks) c2 b2 h = not_none (as_waiting c2 b2) h
-  listed c b name (parted cell places room kids) (k ∷ ks) c2 b2 h = listed_below c b places kids name 0 k k
-      (omega arith) ks c2 b2 h
+  listed c b name (parted way places trees boxes kids) (k ∷ ks) c2 b2 h =
+      listed_below c (b ++ places_of way.bars) (steps_on way.on places) kids name 0 k k (omega arith) ks c2 b2 h
 
   -- and so is one below a kid
-  pub listed_below : (c b places : List ℕ) (kids : Shapes) (name : List ℕ) (number k at : ℕ) → at ≡ number + k
-      → (ks c2 b2 : List ℕ)
-      → part_below c b places kids k ks ≡ Some (as_waiting c2 b2) → Contains (waiting_below name number kids)
+  pub listed_below : (c b : List ℕ) (steps : List Step) (kids : Shapes) (name : List ℕ) (number k at : ℕ)
+      → at ≡ number + k → (ks c2 b2 : List ℕ)
+      → part_below c b steps kids k ks ≡ Some (as_waiting c2 b2) → Contains (waiting_below name number kids)
       (name ++ at ∷ ks)
   listed_below c b [] kids name number k at e ks c2 b2 h = not_none (as_waiting c2 b2) h
   listed_below c b (q ∷ qs) no_shape name number k at e ks c2 b2 h = not_none (as_waiting c2 b2) h
@@ -74,12 +76,12 @@ mutual
       let same : number ≡ at = omega arith in
       let there = Contains-append_left (waiting_in (name ++ number ∷ []) s) (waiting_below name (number + 1) ss)
       ((name ++ number ∷ []) ++ ks)
-      (listed (c ++ q ∷ []) b (name ++ number ∷ []) s ks c2 b2 h) in
+      (listed (c ++ q.chosen) (b ++ q.barred) (name ++ number ∷ []) s ks c2 b2 h) in
       subst (λ (n : ℕ). Contains (waiting_below name number (one_shape s ss)) (name ++ n ∷ ks)) same
       (subst (Contains (waiting_below name number (one_shape s ss))) (append_assoc name (number ∷ []) ks) there)
   listed_below c b (q ∷ qs) (one_shape s ss) name number (suc k) at e ks c2 b2 h =
       Contains-append_right (waiting_in (name ++ number ∷ []) s) (waiting_below name (number + 1) ss) (name ++ at ∷ ks)
-      (listed_below c (b ++ q ∷ []) qs ss name (number + 1) k at (omega arith) ks c2 b2 h)
+      (listed_below c b qs ss name (number + 1) k at (omega arith) ks c2 b2 h)
 
 -- ---- places
 
@@ -95,29 +97,23 @@ module _ (state : State) (sound : IsSoundState state) where
   none_here : AreHere []
   none_here = all_members (Contains state.region.places) [] (λ q h. no_member q h)
 
-  -- a kid's places are its parent's, and some that light the parent's cell
-  kid_places_here : (name : List ℕ) (number : ℕ) (up down : List ℕ) (cell : ℕ) (c b : List ℕ) (s : Status)
-      → HasPart state name up down (opened cell)
+  -- a kid's places are its parent's, those that bars leave out, and those of its step
+  kid_places_here : (name : List ℕ) (number : ℕ) (up down : List ℕ) (way : Way) (c b : List ℕ) (s : Status)
+      → HasPart state name up down (opened way)
       → AreHere up × AreHere down → HasPart state (name ++ number ∷ []) c b s → AreHere c × AreHere b
-  kid_places_here name number up down cell c b s is before h =
-      let k = sound.kids name up down cell is in let place = slice_index k.places number in
-      let legal : (q : ℕ) → Contains k.places q → Contains state.region.places q = λ q g. ((k.all.exact q).0 g).legal in
-      elim (cases_lt number (length k.places)) [
-        | inl lt ↦ (let t = k.there number lt in
-            let same = same_parts state (name ++ number ∷ []) (up ++ place ∷ [])
-            (down ++ take number k.places) c b t.0 s t.1 h in (
-              subst AreHere same.chosen (all_members (Contains state.region.places) (up ++ place ∷ []) (λ q g. elim
-                  (Contains-push_cases up place q g) [
-                    | inl old ↦ at_member (Contains state.region.places) up q before.0 old
-                    | inr new ↦ subst (Contains state.region.places) new (legal place
-                        (Contains-get_or k.places number 0 lt))
-                  ])),
-              subst AreHere same.barred (all_members (Contains state.region.places) (down ++ take number k.places)
-                  (λ q g. elim (Contains-append_cases down (take number k.places) q g) [
-                    | inl old ↦ at_member (Contains state.region.places) down q before.1 old
-                    | inr new ↦ legal q (subst (λ (l : List ℕ). Contains l q) (take-append-drop number k.places)
-                        (Contains-append_left (take number k.places) (drop number k.places) q new))
-                  ])),
+  kid_places_here name number up down way c b s is before h =
+      let k = sound.kids name up down way is in let steps = steps_on way.on k.places in
+      let low = below_bars (piece_of state name up down) way.bars in
+      elim (cases_lt number (length steps)) [
+        | inl lt ↦ (let t = k.there number lt in let step = step_at steps number in
+            let same = same_parts state (name ++ number ∷ []) (up ++ step.chosen) (low.barred ++ step.barred) c b t.0 s
+            t.1 h in
+            let here = step_here low way.on k.places k.opens.may k.all number lt in
+            let out = bars_of_it state.region.places (of_instance state.region) state.region.cells up down way.bars
+            (λ place legal. legal) k.opens.dominated in (
+              subst AreHere same.chosen (All-append (Contains state.region.places) up step.chosen before.0 here.0),
+              subst AreHere same.barred (All-append (Contains state.region.places) low.barred step.barred
+                  (All-append (Contains state.region.places) down (places_of way.bars) before.1 out) here.1),
             ))
         | inr le ↦ not_none (record { chosen = c; barred = b; status = s }) (sym (k.no_more number le) ∙ h)
       ]
@@ -146,12 +142,23 @@ module _ (state : State) (sound : IsSoundState state) where
 
 -- ---- what a name leads to
 
--- a piece that is traced to and waits
+-- a piece that is traced to is in the state
+pub traced_there : (kept : Kept) (name c b : List ℕ) (standing : Standing) (o : Option Part)
+    → part_in [] [] kept.root name ≡ o → IsTracedTo c b standing o
+    → (status : Status) × HasPart (state_of kept) name c b status × StandsAs standing status
+traced_there kept name c b standing None e t = absurd t
+traced_there kept name c b standing (Some p) e t =
+    let chosen : p.chosen ≡ c = t.0 in let barred : p.barred ≡ b = t.1 in (
+      p.status,
+      e ∙ ap Some (λ i. record { chosen = chosen i; barred = barred i; status = p.status }),
+      t.2,
+    )
+
+-- one that waits waits in the state
 pub traced_part : (kept : Kept) (name c b : List ℕ) (standing : Standing) (o : Option Part)
     → part_in [] [] kept.root name ≡ o
     → IsTracedTo c b standing o → standing ≡ Waiting → HasPart (state_of kept) name c b waiting
-traced_part kept name c b standing None e t w = absurd t
-traced_part kept name c b standing (Some p) e t w =
-    let chosen : p.chosen ≡ c = t.0 in let barred : p.barred ≡ b = t.1 in
-    let status : p.status ≡ waiting = subst (λ (s : Standing). StandsAs s p.status) w t.2 in
-    e ∙ ap Some (λ i. record { chosen = chosen i; barred = barred i; status = status i })
+traced_part kept name c b standing o e t w =
+    let there = traced_there kept name c b standing o e t in
+    let status : there.0 ≡ waiting = subst (λ (s : Standing). StandsAs s there.0) w there.2 in
+    subst (HasPart (state_of kept) name c b) status there.1

@@ -13,7 +13,7 @@ pub shape_falls : (n : PieceNode) → deep-PieceNode n ≤ shape_size (shape_of 
 shape_falls Waiting = omega arith
 shape_falls (Held worker) = omega arith
 shape_falls (Closed floor proof) = omega arith
-shape_falls (Opened cell places kids room) = omega arith
+shape_falls (Opened bars on places kids trees boxes) = omega arith
 
 -- no node of a list measures more than the size of all their shapes together
 pub most_falls : (ns : List PieceNode) → most (λ n. deep-PieceNode n) ns ≤ shapes_size (shapes_of ns)

@@ -15,5 +15,6 @@ pub mod NodeShape
 pub mod Falls
 pub mod Tracing
 pub mod Opening
+pub mod Joining
 pub mod Moving
 pub mod WaitingNames

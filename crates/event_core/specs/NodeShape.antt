@@ -10,7 +10,8 @@ abbrev pub shape_of : PieceNode → Shape
 shape_of Waiting = at_rest
 shape_of (Held worker) = in_hand worker
 shape_of (Closed floor proof) = settled floor (tree_of proof)
-shape_of (Opened cell places kids room) = parted cell places (length room.items) kids
+shape_of (Opened bars on places kids trees boxes) =
+    parted (record { bars = bars; on = on }) places (length trees.items) (length boxes.items) kids
 
 -- the shapes of the nodes, in their order
 abbrev pub shapes_of : List PieceNode → Shapes

@@ -1,12 +1,14 @@
 -- What holds after any events.
-use Rattle.std.specs.Prelude.{◌≡◌, ℕ, ◌<◌, ◌≤◌, List, [], ◌∷◌, ◌++◌, length, slice_index, take, Some, None}
+use Rattle.std.specs.Prelude.{◌≡◌, ℕ, ◌<◌, ◌≤◌, List, [], ◌∷◌, ◌++◌, length, slice_index, Some, None}
 use Rattle.cave_model.specs.Plan.{AreDistinct}
 use Rattle.set_cover.specs.Instance.{of_instance}
 use Rattle.proof_rules.specs.Tree.{Tree}
-use Rattle.proof_rules.specs.Good.{Good, IsCoverOfPiece, IsUnlit, AreOpen}
-use Rattle.event_core.specs.State.{State, Part, Status, opened, closed, HasPart, IsLeft}
+use Rattle.proof_rules.specs.Good.{Good, IsCoverOfPiece}
+use Rattle.proof_tree.specs.Bars.{places_of}
+use Rattle.proof_tree.specs.Opened.{MayBeOpened, ArePlacesOn, below_bars, step_at, steps_on}
+use Rattle.event_core.specs.State.{State, Part, Status, Way, opened, closed, HasPart, IsLeft, piece_of}
 
--- the places cover a piece that waits or is held
+-- a cover of a piece that waits or is held has no more places than these
 pub record IsLeftOver (state : State) (places : List ℕ) : Type 0 where
   pub name : List ℕ
   pub chosen : List ℕ
@@ -14,25 +16,28 @@ pub record IsLeftOver (state : State) (places : List ℕ) : Type 0 where
   pub status : Status
   pub there : HasPart state name chosen barred status
   pub left : IsLeft status
-  pub covers : IsCoverOfPiece (of_instance state.region) state.region.cells chosen barred places
+  pub cover : List ℕ
+  pub no_more : length cover ≤ length places
+  pub covers : IsCoverOfPiece (of_instance state.region) state.region.cells chosen barred cover
 
--- there is a kid for each place that may light the cell, and no other
-pub record HasKids (state : State) (name chosen barred : List ℕ) (cell : ℕ) : Type 0 where
-  pub unlit : IsUnlit (of_instance state.region) state.region.cells chosen cell
+-- the piece may be opened so, and there is a kid for each step, and no other
+pub record HasKids (state : State) (name chosen barred : List ℕ) (way : Way) : Type 0 where
+  pub opens : MayBeOpened (piece_of state name chosen barred) way.bars way.on
   pub places : List ℕ
-  pub all : AreOpen (of_instance state.region) barred cell places
-  pub there : (number : ℕ) → number < length places → (status : Status)
-      × HasPart state (name ++ number ∷ []) (chosen ++ slice_index places number ∷ [])
-      (barred ++ take number places) status
-  pub no_more : (number : ℕ) → length places ≤ number → state.part_at (name ++ number ∷ []) ≡ None
+  pub all : ArePlacesOn (below_bars (piece_of state name chosen barred) way.bars) way.on places
+  pub there : (number : ℕ) → number < length (steps_on way.on places) → (status : Status)
+      × HasPart state (name ++ number ∷ []) (chosen ++ (step_at (steps_on way.on places) number).chosen)
+      ((barred ++ places_of way.bars) ++ (step_at (steps_on way.on places) number).barred) status
+  pub no_more : (number : ℕ) → length (steps_on way.on places) ≤ number
+      → state.part_at (name ++ number ∷ []) ≡ None
 
--- what holds of each state: names lead from the root on, what is closed is proved at the best size or more, and a
--- smaller cover of the region covers some piece that waits or is held
+-- what holds of each state: names lead from the root on, what is closed is proved at the best size or more, and for a
+-- smaller cover of the region some piece that waits or is held has a cover of no more places
 pub record IsSoundState (state : State) : Type 0 where
   pub seen : (worker : ℕ) → worker < length state.seen → length state.best ≤ slice_index state.seen worker
   pub rooted : (status : Status) × HasPart state [] [] [] status
   pub parents : (name : List ℕ) (number : ℕ) (part : Part) → state.part_at (name ++ number ∷ []) ≡ Some part
-      → (chosen : List ℕ) × (barred : List ℕ) × (cell : ℕ) × HasPart state name chosen barred (opened cell)
+      → (chosen : List ℕ) × (barred : List ℕ) × (way : Way) × HasPart state name chosen barred (opened way)
   pub distinct : (name chosen barred : List ℕ) (status : Status) → HasPart state name chosen barred status
       → AreDistinct chosen
   pub covered : (places : List ℕ) → IsCoverOfPiece (of_instance state.region) state.region.cells [] [] places
@@ -42,5 +47,5 @@ pub record IsSoundState (state : State) : Type 0 where
   pub proved : (name chosen barred : List ℕ) (floor : ℕ) (tree : Tree)
       → HasPart state name chosen barred (closed floor tree)
       → Good (of_instance state.region) state.region.cells chosen barred floor tree
-  pub kids : (name chosen barred : List ℕ) (cell : ℕ) → HasPart state name chosen barred (opened cell)
-      → HasKids state name chosen barred cell
+  pub kids : (name chosen barred : List ℕ) (way : Way) → HasPart state name chosen barred (opened way)
+      → HasKids state name chosen barred way

@@ -2,14 +2,22 @@
 use Rattle.std.specs.Prelude.{◌≡◌, ℕ, List, [], ◌∷◌, length, replicate, Option, Some, None}
 use Rattle.set_cover.specs.Instance.{Instance}
 use Rattle.proof_rules.specs.Tree.{Tree}
+use Rattle.proof_tree.specs.Piece.{Subproblem}
+use Rattle.proof_tree.specs.declared.bars.Bar.{Bar}
+use Rattle.proof_tree.specs.declared.branching.Branching.{Branching}
+
+-- how a piece is opened: below which bars, and on what
+pub record Way : Type 0 where
+  pub bars : List Bar
+  pub on : Branching
 
 -- what became of a piece
 pub data Status : Type 0 where
   waiting : Status
   -- by this worker
   held : ℕ → Status
-  -- on this cell
-  opened : ℕ → Status
+  -- in this way
+  opened : Way → Status
   -- at this floor, by this tree
   closed : ℕ → Tree → Status
 
@@ -34,11 +42,16 @@ abbrev pub HasPart : State → List ℕ → List ℕ → List ℕ → Status →
 HasPart state name chosen barred status =
     state.part_at name ≡ Some (record { chosen = chosen; barred = barred; status = status })
 
+-- the piece of this name, in which these places are chosen and barred
+abbrev pub piece_of : State → List ℕ → List ℕ → List ℕ → Subproblem
+piece_of state name chosen barred =
+    record { region = state.region; name = name; chosen = chosen; barred = barred }
+
 -- it is still to be closed
 abbrev pub IsLeft : Status → Type 0
 IsLeft waiting = Unit {0}
 IsLeft (held worker) = Unit {0}
-IsLeft (opened cell) = ⊥
+IsLeft (opened way) = ⊥
 IsLeft (closed floor tree) = ⊥
 
 -- at first the root waits alone, and each worker has seen the size of the cover handed in

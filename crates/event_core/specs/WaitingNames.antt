@@ -8,7 +8,7 @@ abbrev mutual
   waiting_in name at_rest = name ∷ []
   waiting_in name (in_hand worker) = []
   waiting_in name (settled floor tree) = []
-  waiting_in name (parted cell places room kids) = waiting_below name 0 kids
+  waiting_in name (parted way places trees boxes kids) = waiting_below name 0 kids
 
   -- the same among kids from this number on
   pub waiting_below : List ℕ → ℕ → Shapes → List (List ℕ)

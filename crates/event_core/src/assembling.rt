@@ -4,8 +4,9 @@ ghost use Rattle.event_core.specs.Finished.{assembled, is_done, are_done, IsWhol
 ghost use Rattle.event_core.specs.NodeShape.{shape_of, shapes_of};
 ghost use Rattle.proof_tree.specs.Shape.{tree_of};
 
+use crate::joining::joined;
 use crate::node::PieceNode;
-use proof_tree::{Kids, Proof};
+use proof_tree::Proof;
 
 /// Whether no piece waits or is held.
 #[cycle(done)]
@@ -17,10 +18,12 @@ pub(crate) fn is_done(node: &PieceNode) -> bool
         PieceNode::Held(_) => false,
         PieceNode::Closed { .. } => true,
         PieceNode::Opened {
-            cell: _,
+            bars: _,
+            on: _,
             places: _,
             kids,
-            room: _,
+            trees: _,
+            boxes: _,
         } => are_done(kids.as_slice()),
     }
 }
@@ -46,22 +49,21 @@ pub(crate) fn assemble(node: PieceNode) -> Proof
     match node {
         PieceNode::Closed { floor: _, proof } => proof,
         PieceNode::Opened {
-            cell,
+            bars,
+            on,
             places: _,
             kids,
-            mut room,
+            mut trees,
+            boxes,
         } => {
             let mut index = 0usize;
             for kid in kids.into_items() {
-                if index < room.len() {
-                    room[index] = assemble(kid);
+                if index < trees.len() {
+                    trees[index] = assemble(kid);
                     index += 1;
                 }
             }
-            Proof::Branch {
-                cell,
-                kids: Kids::of(room),
-            }
+            joined(bars.into_vec(), on, trees, boxes)
         }
         PieceNode::Waiting => unreachable!(),
         PieceNode::Held(_) => unreachable!(),

@@ -5,13 +5,14 @@ ghost use Rattle.event_core.specs.Kept.{Kept, StepsTo, state_of};
 ghost use Rattle.event_core.specs.Laws.{IsAnyCover, IsReached};
 ghost use Rattle.event_core.specs.Plays.{Steps};
 ghost use Rattle.event_core.specs.Sound.{HasKids, IsLeftOver};
-ghost use Rattle.event_core.specs.State.{State, HasPart, IsDone, opened};
+ghost use Rattle.event_core.specs.State.{State, HasPart, IsDone, Way, opened};
 ghost use Rattle.event_core.specs.declared.event.Event.{Event};
 ghost use Rattle.proof_rules.specs.Good.{Good};
 ghost use Rattle.proof_rules.specs.Tree.{Tree};
 ghost use Rattle.set_cover.specs.Instance.{Instance, of_instance};
 
-/// Each cover smaller than the best is a cover of a piece that waits or is held.
+/// For each cover smaller than the best some piece that waits or is held has a cover of no more places. It may be
+/// another one: a place that was left out gave way to one that does as well.
 pub fn smaller_covers_are_left()
     ensures { (region : Instance) (events : List Event) (state : State) (places : List ℕ)
         → IsReached region events state → IsAnyCover region places → length places < length state.best
@@ -31,12 +32,13 @@ pub fn done_is_best()
         → length state.best ≤ length places }
 {}
 
-/// An opened piece has a kid for each place that lights its cell and isn't barred in it, and no other: the place is
-/// chosen in the kid too, and the places before it barred.
+/// A piece that is opened on a cell has a kid for each place that lights it and is open below the bars, and no other:
+/// the place is chosen in the kid too, and the places before it barred. One that is opened at a place has a kid in
+/// which it is chosen, and one in which it is barred.
 pub fn opened_has_kids()
-    ensures { (region : Instance) (events : List Event) (state : State) (name chosen barred : List ℕ) (cell : ℕ)
-        → IsReached region events state → HasPart state name chosen barred (opened cell)
-        → HasKids state name chosen barred cell }
+    ensures { (region : Instance) (events : List Event) (state : State) (name chosen barred : List ℕ) (way : Way)
+        → IsReached region events state → HasPart state name chosen barred (opened way)
+        → HasKids state name chosen barred way }
 {}
 
 /// What a call of `step` answers and leaves is a step of the state that the core stands for.

@@ -3,7 +3,7 @@ ghost use Rattle.std.specs.Prelude.{◌≡◌};
 ghost use Rattle.event_core.specs.NodeShape.{shapes_of};
 
 use cave_base::Sequence;
-use proof_tree::Proof;
+use proof_tree::{Bar, Below, Branching, Proof};
 use std::marker::Model;
 
 /// The kids of an opened piece, in the order of their places.
@@ -13,7 +13,8 @@ pub(crate) struct Siblings {
     items: Vec<PieceNode>,
 }
 
-/// A piece by what became of it. An opened one has the places of its kids, and room for their trees.
+/// A piece by what became of it. An opened one has the places of its kids, and room for their trees and for those that
+/// stand below others.
 #[cycle(node)]
 #[derive(Drop)]
 pub(crate) enum PieceNode {
@@ -24,10 +25,12 @@ pub(crate) enum PieceNode {
         proof: Proof,
     },
     Opened {
-        cell: u32,
+        bars: Sequence<Bar>,
+        on: Branching,
         places: Sequence<u32>,
         kids: Siblings,
-        room: Vec<Proof>,
+        trees: Vec<Proof>,
+        boxes: Vec<Below>,
     },
 }
 

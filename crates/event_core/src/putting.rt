@@ -15,28 +15,34 @@ pub(crate) fn put(node: PieceNode, name: &[u32], new: PieceNode) -> PieceNode
     };
     match node {
         PieceNode::Opened {
-            cell,
+            bars,
+            on,
             places,
             kids,
-            room,
+            trees,
+            boxes,
         } => {
             let number = *first as usize;
             let mut nodes = kids.into_items();
             if number >= nodes.len() {
                 return PieceNode::Opened {
-                    cell,
+                    bars,
+                    on,
                     places,
                     kids: Siblings::of(nodes),
-                    room,
+                    trees,
+                    boxes,
                 };
             }
             let kid = mem::replace(&mut nodes[number], PieceNode::Waiting);
             nodes[number] = put(kid, rest, new);
             PieceNode::Opened {
-                cell,
+                bars,
+                on,
                 places,
                 kids: Siblings::of(nodes),
-                room,
+                trees,
+                boxes,
             }
         }
         other => other,

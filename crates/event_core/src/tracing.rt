@@ -1,10 +1,11 @@
 //! Finding a piece by its name.
-ghost use Rattle.std.specs.Prelude.{◌≡◌, [], ◌∷◌, ◌++◌, IfOk};
+ghost use Rattle.std.specs.Prelude.{IfOk};
 ghost use Rattle.event_core.specs.NodeShape.{shape_of};
 ghost use Rattle.event_core.specs.Shape.{status_of};
 ghost use Rattle.event_core.specs.Tracing.{IsTraced, StandsAs};
 
 use crate::node::PieceNode;
+use crate::steps::{kid_count, with_barred, with_bars, with_chosen};
 use cave_base::Cell;
 use std::alloc::AllocError;
 
@@ -54,38 +55,25 @@ pub(crate) fn trace(
     };
     match node {
         PieceNode::Opened {
-            cell: _,
+            bars,
+            on,
             places,
             kids,
-            room: _,
+            trees: _,
+            boxes: _,
         } => {
             let number = *first as usize;
             let places = places.as_slice();
             let nodes = kids.as_slice();
-            if number >= places.len() || number >= nodes.len() {
+            if number >= kid_count(*on, places) || number >= nodes.len() {
                 return Ok(None);
             }
-            let chosen = with_one(chosen, places[number])?;
-            let barred = with_all(barred, &places[..number])?;
+            let low = with_bars(barred, bars.as_slice())?;
+            let chosen = with_chosen(chosen, *on, places, number)?;
+            let barred = with_barred(low, *on, places, number)?;
             let traced = trace(&nodes[number], rest, chosen, barred)?;
             Ok(traced)
         }
         _ => Ok(None),
     }
-}
-
-/// The places with one more.
-fn with_one(mut places: Vec<Cell>, place: Cell) -> Result<Vec<Cell>, AllocError>
-    ensures { IfOk result (λ more. more.items ≡ places.items ++ place ∷ []) }
-{
-    places.push(place)?;
-    Ok(places)
-}
-
-/// The places with these too.
-fn with_all(mut places: Vec<Cell>, others: &[Cell]) -> Result<Vec<Cell>, AllocError>
-    ensures { IfOk result (λ more. more.items ≡ places.items ++ others.now) }
-{
-    places.extend_from_slice(others)?;
-    Ok(places)
 }

@@ -1,10 +1,13 @@
-//! The pieces that wait.
+//! The pieces that wait or are held.
 ghost use Rattle.std.specs.Prelude.{◌≡◌, ◌↔◌, ◌++◌, IfOk, IsTrue};
-ghost use Rattle.event_core.specs.Kept.{state_of};
+ghost use Rattle.event_core.specs.Kept.{IsKept, state_of};
+ghost use Rattle.event_core.specs.Moving.{IsLeftPiece};
 ghost use Rattle.event_core.specs.NodeShape.{shape_of, shapes_of};
+ghost use Rattle.event_core.specs.State.{piece_of};
 ghost use Rattle.event_core.specs.Waiting.{AreAllWaiting, IsWaitingPiece};
 ghost use Rattle.event_core.specs.WaitingNames.{waiting_in, waiting_below};
-ghost use Rattle.event_core.specs.declared.tracing.Standing.TheVariants.{Waiting};
+ghost use Rattle.proof_tree.specs.Piece.{IsPiece};
+ghost use Rattle.event_core.specs.declared.tracing.Standing.TheVariants.{Past, Waiting};
 
 use crate::event_state::Core;
 use crate::node::PieceNode;
@@ -34,10 +37,33 @@ impl Core {
         if !is_waiting(traced.standing) {
             return Ok(None);
         }
+        Ok(Some(self.named(name, traced)?))
+    }
+
+    /// The piece of this name, where it waits or is held.
+    pub(crate) fn left_piece(&self, name: &Name) -> Result<Option<Piece>, AllocError>
+        ensures left { IfOk result (IsLeftPiece (state_of self.now) name.now) }
+        ensures kept { IsKept self.now }
+    {
+        let Some(traced) = self.traced(name.as_slice())? else {
+            return Ok(None);
+        };
+        if is_past(traced.standing) {
+            return Ok(None);
+        }
+        Ok(Some(self.named(name, traced)?))
+    }
+
+    /// The piece of this name, to which it was traced.
+    fn named(&self, name: &Name, traced: Traced) -> Result<Piece, AllocError>
+        requires { IsPiece (piece_of (state_of self.now) name.now traced.chosen.items traced.barred.items) }
+        ensures { IfOk result (λ piece.
+            piece ≡ piece_of (state_of self.now) name.now traced.chosen.items traced.barred.items) }
+    {
         let region = Arc::try_clone(self.shared())?;
         let name = name.try_clone()?;
         let Traced { chosen, barred, .. } = traced;
-        Ok(Some(Piece::new(region, name, chosen, barred)))
+        Ok(Piece::new(region, name, chosen, barred))
     }
 }
 
@@ -48,6 +74,16 @@ fn is_waiting(standing: Standing) -> bool
         Standing::Waiting => true,
         Standing::Held(_) => false,
         Standing::Past => false,
+    }
+}
+
+fn is_past(standing: Standing) -> bool
+    ensures { IsTrue result ↔ (standing ≡ Past) }
+{
+    match standing {
+        Standing::Waiting => false,
+        Standing::Held(_) => false,
+        Standing::Past => true,
     }
 }
 
@@ -64,10 +100,12 @@ fn add_names(node: &PieceNode, name: &Name, mut names: Vec<Name>) -> Result<Vec<
         PieceNode::Held(_) => Ok(names),
         PieceNode::Closed { .. } => Ok(names),
         PieceNode::Opened {
-            cell: _,
+            bars: _,
+            on: _,
             places: _,
             kids,
-            room: _,
+            trees: _,
+            boxes: _,
         } => {
             let names = add_below(kids.as_slice(), name, names)?;
             Ok(names)

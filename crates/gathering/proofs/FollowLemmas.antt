@@ -1,5 +1,5 @@
 -- Where each event of the works' list is enabled, playing the works does it, and leaves nothing.
-use Rattle.std.proofs.Common.{◌≡◌, ◌≢◌, ℕ, ◌+◌, Bool, true, false, eqb, List, [], ◌∷◌, ◌++◌, length, map}
+use Rattle.std.proofs.Common.{◌≡◌, ◌≢◌, ℕ, zero, suc, ◌+◌, Bool, true, false, eqb, List, [], ◌∷◌, ◌++◌, length, map}
 use Rattle.std.proofs.Common.{if◌then◌else◌, Option, Some, None, refl, sym, ap, ◌∙◌, subst, arith, append_assoc}
 use Rattle.std.proofs.Common.{length-append}
 use Rattle.instance_regions.specs.Cover.{Covering}
@@ -9,13 +9,17 @@ use Rattle.event_core.specs.State.{State, waiting, held, opened, closed}
 use Rattle.event_core.specs.Events.{IsEnabled, MayTake, MayClose, Turns, Opens}
 use Rattle.event_core.specs.Plays.{Steps, Plays}
 use Rattle.event_core.specs.declared.event.Event.{Event}
-use Rattle.event_core.specs.declared.event.Event.TheVariants.{Look, Offer, Take, Open, Close, Leave}
+use Rattle.event_core.specs.declared.event.Event.TheVariants.{Look, Offer, Take, Close, Leave}
+use Rattle.event_core.proofs.MoveLemmas.{opening_does}
 use Rattle.event_core.proofs.StateLemmas.{same_parts, held_not_opened, held_not_closed, waiting_not_closed}
 use Rattle.schedule_law.specs.Worked.{Worked}
 use Rattle.schedule_law.specs.Joined.{all_closed}
-use Rattle.schedule_law.specs.Listing.{opens_as_long, opens, offer_of, offers, looks, closes_of, closes, AllEnabled}
-use Rattle.schedule_law.proofs.LongLemmas.{as_long, all_as_long}
-use Rattle.gathering.specs.Playing.{tries_open, tries_as_long, tries, one_if, TriesClose, TriesCloses, TriesAllCloses}
+use Rattle.schedule_law.specs.Listing.{opening_of, opens_as_long, opens, opens_to, offer_of, offers, looks, closes_of}
+use Rattle.schedule_law.specs.Listing.{closes, AllEnabled}
+use Rattle.schedule_law.proofs.LongLemmas.{as_long, all_as_long, in_turn}
+use Rattle.schedule_law.proofs.TurnLemmas.{way_of}
+use Rattle.gathering.specs.Playing.{tries_open, tries_as_long, tries, tries_to, one_if, TriesClose, TriesCloses}
+use Rattle.gathering.specs.Playing.{TriesAllCloses}
 use Rattle.gathering.specs.Gathered.{GleansOne, Gleans}
 use Rattle.gathering.proofs.PlayLemmas.{plays_split}
 use Rattle.gathering.proofs.GleanLemmas.{step_done}
@@ -43,7 +47,7 @@ pub record IsOpened (old : State) (split : Split) (new : State) : Type 0 where
   pub taken : State
   pub may : MayTake old worker split.piece.name
   pub takes : Turns old split.piece.name (held worker) taken
-  pub opens : Opens taken split.piece.name split.cell new
+  pub opens : Opens taken split.piece.name (way_of split) new
 
 -- workers take pieces in turn and open them
 abbrev pub AllOpened : State → List Split → State → Type 0
@@ -63,7 +67,7 @@ pub record IsOpenedTo (old : State) (splits : List Split) (new : State) (rest : 
 
 -- a piece that is taken and opened can't be left
 follow_open : (w : ℕ) (s : Split) (rest : List Event) (old new : State)
-    → AllEnabled old (Take w s.piece.name ∷ Open s.piece.name s.cell ∷ rest) → Plays old (tries_open w s) new
+    → AllEnabled old (Take w s.piece.name ∷ opening_of s ∷ rest) → Plays old (tries_open w s) new
     → IsOpenedTo old (s ∷ []) new rest
 follow_open w s rest old new e p =
     let name = s.piece.name in
@@ -72,11 +76,12 @@ follow_open w s rest old new e p =
     let may = e.0 in
     let t = step_done old (Take w name) p.0 p.1 may p.2 in
     let e1 = e.1 p.1 t.1 in
-    let o = step_done p.1 (Open name s.cell) q.0 q.1 e1.0 q.2 in
-    let parted = o.1.parted may.chosen may.barred (held w) (t.1.here may.chosen may.barred waiting may.waits) in
+    let o = step_done p.1 (opening_of s) q.0 q.1 e1.0 q.2 in
+    let opens = (opening_does p.1 name s.bars s.on q.1).1 o.1 in
+    let parted = opens.parted may.chosen may.barred (held w) (t.1.here may.chosen may.barred waiting may.waits) in
     let passed : r.1 ≡ q.1 = step_passed q.1 (Leave w name) r.0 r.1
-    (λ l. held_not_opened w s.cell (same_parts q.1 name l.chosen l.barred may.chosen may.barred
-    (held w) (opened s.cell) l.holds parted.2.here).status) r.2 in
+    (λ l. held_not_opened w (way_of s) (same_parts q.1 name l.chosen l.barred may.chosen may.barred
+    (held w) (opened (way_of s)) l.holds parted.2.here).status) r.2 in
     let is : new ≡ q.1 = r.3 ∙ passed in
     record {
       opened_all = (
@@ -86,7 +91,7 @@ follow_open w s rest old new e p =
           taken = p.1;
           may = may;
           takes = t.1;
-          opens = subst (λ (x : State). Opens p.1 name s.cell x) (sym is) o.1;
+          opens = subst (λ (x : State). Opens p.1 name (way_of s) x) (sym is) opens;
         },
         refl,
       );
@@ -96,7 +101,7 @@ follow_open w s rest old new e p =
 -- the piece is opened before the others, or passed over
 follow_if : (b : Bool) (w : ℕ) (s : Split) (others : List Split) (events tried rest : List Event) (old new : State)
     → ((now : State) → AllEnabled now (events ++ rest) → Plays now tried new → IsOpenedTo now others new rest)
-    → AllEnabled old (((if b then Take w s.piece.name ∷ Open s.piece.name s.cell ∷ [] else []) ++ events) ++ rest)
+    → AllEnabled old (((if b then Take w s.piece.name ∷ opening_of s ∷ [] else []) ++ events) ++ rest)
     → Plays old ((if b then tries_open w s else []) ++ tried) new
     → IsOpenedTo old (if b then s ∷ others else others) new rest
 follow_if true w s others events tried rest old new go e p =
@@ -139,6 +144,25 @@ follow_tries size w (x ∷ xs) rest old new e p =
       opened_all = all_opened-append old (as_long size x.opened) (all_as_long size xs) parts.0 new
           here.opened_all others.opened_all;
       enabled = others.enabled;
+    }
+
+-- and trying those with longer and longer names
+pub follow_tries_to : (size : ℕ) (works : List Worked) (rest : List Event) (old new : State)
+    → AllEnabled old (opens_to size works ++ rest) → Plays old (tries_to size works) new
+    → IsOpenedTo old (in_turn size works) new rest
+follow_tries_to zero works rest old new e p = record {
+  opened_all = p;
+  enabled = subst (λ (x : State). AllEnabled x rest) (sym p) e;
+}
+follow_tries_to (suc size) works rest old new e p =
+    let parts = plays_split old (tries_to size works) (tries (suc size) 0 works) new p in
+    let low = follow_tries_to size works (opens (suc size) 0 works ++ rest) old parts.0
+    (subst (AllEnabled old) (append_assoc (opens_to size works) (opens (suc size) 0 works) rest) e) parts.1.0 in
+    let last = follow_tries (suc size) 0 works rest parts.0 new low.enabled parts.1.1 in
+    record {
+      opened_all = all_opened-append old (in_turn size works) (all_as_long (suc size) works) parts.0 new
+          low.opened_all last.opened_all;
+      enabled = last.enabled;
     }
 
 -- ---- covers and looks leave the pieces

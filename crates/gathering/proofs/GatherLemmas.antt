@@ -1,5 +1,5 @@
 -- What is gathered.
-use Rattle.std.proofs.Common.{◌≡◌, ℕ, ◌+◌, ◌<◌, ◌≤◌, List, [], length, Contains, sym, ap}
+use Rattle.std.proofs.Common.{◌≡◌, ℕ, ◌+◌, ◌<◌, ◌≤◌, List, [], length, sym, ap}
 use Rattle.std.proofs.Common.{◌∙◌, subst, arith}
 use Rattle.std.proofs.lemmas.List.{length-replicate}
 use Rattle.set_cover.specs.Instance.{Instance, of_instance}
@@ -7,6 +7,10 @@ use Rattle.instance_regions.specs.Cover.{Covering}
 use Rattle.proof_rules.specs.Tree.{Tree, leaf}
 use Rattle.proof_rules.specs.Good.{Good}
 use Rattle.proof_rules.proofs.ListLemmas.{all_members, no_member}
+use Rattle.proof_tree.specs.Opened.{Split}
+use Rattle.instance_regions.specs.Region.{IsRegion}
+use Rattle.std.specs.Prelude.{slice_index}
+use Rattle.std.proofs.lemmas.List.Elements.{Contains-get_or}
 use Rattle.proof_tree.specs.Piece.{Subproblem, root_of}
 use Rattle.pack_bound.specs.Pieces.{IsScattered, SomeWhereUnlit}
 use Rattle.event_core.specs.State.{State, Begins, IsDone}
@@ -23,7 +27,7 @@ use Rattle.gathering.proofs.LikeLemmas.{IsLike, like_plays, like_all_closes, lik
 
 -- ---- once the works were played
 
-pub record ArePlayed (region : Instance) (first : List ℕ) (root : ℕ) (works : List Worked) (counts : List ℕ)
+pub record ArePlayed (region : Instance) (first : List ℕ) (root : Split) (works : List Worked) (counts : List ℕ)
     (closed : State) : Type 0 where
   pub start : State
   pub begins : Begins region first (length works + 1) start
@@ -32,7 +36,8 @@ pub record ArePlayed (region : Instance) (first : List ℕ) (root : ℕ) (works 
   pub closes : TriesAllCloses opened 0 works counts closed
 
 -- from the start through all that comes before closing, and all closing, the works were played
-pub played : (region same : Instance) (first : List ℕ) (root : ℕ) (works some others : List Worked) (counts : List ℕ)
+pub played : (region same : Instance) (first : List ℕ) (root : Split) (works some others : List Worked)
+    (counts : List ℕ)
     (caller : ℕ) (start opened closed : State)
     → same ≡ region → caller ≡ length some → some ≡ works → others ≡ works → Begins same first (caller + 1) start
     → Plays start (tries_before_closes root others) opened → TriesAllCloses opened 0 works counts closed → ArePlayed
@@ -49,7 +54,7 @@ played region same first root works some others counts caller start opened close
       closes = closes;
     }
 
-module _ (region : Instance) (first : List ℕ) (root : ℕ) (works : List Worked) (counts : List ℕ) (closed : State)
+module _ (region : Instance) (first : List ℕ) (root : Split) (works : List Worked) (counts : List ℕ) (closed : State)
     (p : ArePlayed region first root works counts closed) where
   -- after all closing no piece is held
   pub played_none_held : NoneHeld closed
@@ -111,14 +116,15 @@ module _ (region : Instance) (first : List ℕ) (root : ℕ) (works : List Worke
 -- ---- once the turns are spent
 
 -- scattered cells of the root bound every cover of the region from below
-pub scattered_floor : (region : Instance) (root : ℕ) (cells : List ℕ) (size : ℕ) (piece : Subproblem)
-    → piece ≡ root_of region → size ≡ length cells → Contains region.cells root
-    → IsScattered piece cells → SomeWhereUnlit piece cells → (1 ≤ size) × NoneBelow region size
-scattered_floor region root cells size piece is e there apart some =
-    let least : 0 < length cells = subst (λ (p : Subproblem). SomeWhereUnlit p cells) is some root
+pub scattered_floor : (region : Instance) (cells : List ℕ) (size : ℕ) (piece : Subproblem)
+    → IsRegion region → piece ≡ root_of region → size ≡ length cells → IsScattered piece cells
+    → SomeWhereUnlit piece cells → (1 ≤ size) × NoneBelow region size
+scattered_floor region cells size piece kept is e apart some =
+    let cell = slice_index region.cells 0 in
+    let least : 0 < length cells = subst (λ (p : Subproblem). SomeWhereUnlit p cells) is some cell
     (record {
-      of_it = there;
-      unlit = all_members (λ place. ¬ (of_instance region).Covers place root) []
+      of_it = Contains-get_or region.cells 0 0 kept.filled;
+      unlit = all_members (λ place. ¬ (of_instance region).Covers place cell) []
           (λ y h. no_member y h);
     }) in
     let scattered = subst (λ (p : Subproblem). IsScattered p cells) is apart in

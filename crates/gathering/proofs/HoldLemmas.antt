@@ -1,30 +1,33 @@
 -- What workers hold while their works are played: nothing between one piece and the next.
-use Rattle.std.proofs.Common.{◌≡◌, ◌≢◌, ◌⊎◌, inl, inr, ℕ, ◌+◌, ◌<◌, Bool, true, false, List, [], ◌∷◌, ◌++◌}
+use Rattle.std.proofs.Common.{◌≡◌, ◌≢◌, ◌⊎◌, inl, inr, ℕ, zero, suc, ◌+◌, ◌<◌, Bool, true, false, List, [], ◌∷◌, ◌++◌}
 use Rattle.std.proofs.Common.{length, Some, None, Option}
 use Rattle.std.proofs.Common.{refl, sym, ap, ◌∙◌, subst}
 use Rattle.std.specs.Prelude.{if◌then◌else◌, eqb}
 use Rattle.set_cover.specs.Instance.{Instance}
 use Rattle.instance_regions.specs.Cover.{Covering}
 use Rattle.proof_tree.specs.Piece.{Fathomed}
-use Rattle.proof_tree.specs.Opened.{Split}
-use Rattle.event_core.specs.State.{State, Status, waiting, held, opened, closed, HasPart, Begins}
+use Rattle.proof_tree.specs.Opened.{Split, steps_on}
+use Rattle.event_core.specs.State.{State, Status, Way, waiting, held, opened, closed, HasPart, Begins}
 use Rattle.event_core.specs.Events.{Turns, Opens, MayOpen}
 use Rattle.event_core.specs.Plays.{Steps, Plays}
-use Rattle.event_core.specs.declared.event.Event.TheVariants.{Look, Offer, Take, Open, Close, Leave}
+use Rattle.event_core.specs.declared.event.Event.TheVariants.{Look, Offer, Take, Close, Leave}
+use Rattle.event_core.proofs.MoveLemmas.{opening_does, opening_enabled}
 use Rattle.event_core.proofs.NameLemmas.{same_or_not, kid_or_not}
 use Rattle.event_core.proofs.StateLemmas.{same_parts, not_none, held_not_closed, held_not_opened}
 use Rattle.event_core.proofs.WaitingLemmas.{waiting_not_held}
 use Rattle.schedule_law.specs.Worked.{Worked}
-use Rattle.schedule_law.specs.Listing.{offer_of, offers, looks}
-use Rattle.gathering.specs.Playing.{tries_open, tries_one, tries_as_long, tries, tries_before_closes, TriesClose}
-use Rattle.gathering.specs.Playing.{TriesCloses, TriesAllCloses}
+use Rattle.schedule_law.specs.Joined.{all_opened}
+use Rattle.schedule_law.specs.Listing.{longest_name, opening_of, offer_of, offers, looks}
+use Rattle.schedule_law.proofs.TurnLemmas.{way_of}
+use Rattle.gathering.specs.Playing.{tries_open, tries_one, tries_as_long, tries, tries_to, tries_before_closes}
+use Rattle.gathering.specs.Playing.{TriesClose, TriesCloses, TriesAllCloses}
 use Rattle.gathering.specs.Gleaning.{NoneHeld}
 use Rattle.gathering.proofs.PlayLemmas.{plays_split}
 
 abbrev holder : Status → ℕ
 holder waiting = 0
 holder (held worker) = worker
-holder (opened cell) = 0
+holder (opened way) = 0
 holder (closed floor tree) = 0
 
 -- a piece is held by one worker
@@ -44,14 +47,14 @@ turned_back old name c b was status new is t m c2 b2 s h = elim (same_or_not m n
 ]
 
 -- what is held once a piece is opened was held before
-opened_back : (old : State) (name : List ℕ) (cell : ℕ) (new : State) → MayOpen old name cell → Opens old name cell new
+opened_back : (old : State) (name : List ℕ) (way : Way) (new : State) → MayOpen old name way → Opens old name way new
     → (m c b : List ℕ) (w : ℕ) → HasPart new m c b (held w) → HasPart old m c b (held w)
-opened_back old name cell new may o m c b w h =
+opened_back old name way new may o m c b w h =
     let p = o.parted may.chosen may.barred may.status may.there in
     elim (same_or_not m name) [
-      | inl e ↦ held_not_opened w cell (sym (same_parts new name may.chosen may.barred c b (opened cell)
+      | inl e ↦ held_not_opened w way (sym (same_parts new name may.chosen may.barred c b (opened way)
           (held w) p.2.here (ap new.part_at (sym e) ∙ h)).status)
-      | inr ne ↦ elim (kid_or_not name m (length p.0)) [
+      | inr ne ↦ elim (kid_or_not name m (length (steps_on way.on p.0))) [
         | inl k ↦ waiting_not_held w (same_parts new (name ++ k.0 ∷ []) _ _ c b waiting (held w) (p.2.kids k.0 k.1)
             (ap new.part_at (sym k.2) ∙ h)).status
         | inr none_of ↦ sym (p.2.others m ne none_of) ∙ h
@@ -111,14 +114,16 @@ before_same : (old new : State) → new ≡ old → IsHeldBefore old new
 before_same old new e = subst (IsHeldBefore old) (sym e) (record { back = λ m c b w h. h; seen = refl })
 
 -- after a piece is opened, what is held was held before
-opened_before : (name : List ℕ) (cell : ℕ) (old new : State) (done : Bool) → Steps old (Open name cell) done new
+opened_before : (split : Split) (old new : State) (done : Bool) → Steps old (opening_of split) done new
     → IsHeldBefore old new
-opened_before name cell old new true s = record {
-  back = opened_back old name cell new s.0 s.1;
-  seen = ap (λ
-      (n : State). length n.seen) s.1.kept;
-}
-opened_before name cell old new false s = before_same old new s.1
+opened_before split old new true s =
+    let name = split.piece.name in
+    let may = (opening_enabled old name split.bars split.on).1 s.0 in
+    let opens = (opening_does old name split.bars split.on new).1 s.1 in record {
+      back = opened_back old name (way_of split) new may opens;
+      seen = ap (λ (n : State). length n.seen) opens.kept;
+    }
+opened_before split old new false s = before_same old new s.1
 
 -- and after one is closed
 closed_before : (w : ℕ) (k : Fathomed) (old new : State) (done : Bool) → Steps old (Close w k) done new
@@ -159,7 +164,7 @@ free_open : (w : ℕ) (split : Split) (old new : State) → NoneHeld old → Pla
 free_open w split old new none p =
     let name = split.piece.name in let q = p.3 in let r = q.3 in
     let only = taken_held w name old p.1 p.0 none p.2 in
-    let still = before_only w name p.1 q.1 (opened_before name split.cell p.1 q.1 q.0 q.2) only in
+    let still = before_only w name p.1 q.1 (opened_before split p.1 q.1 q.0 q.2) only in
     subst NoneHeld (sym r.3) (left_free w name q.1 r.1 r.0 still r.2)
 
 -- no piece is held after a worker tried to open one, or didn't since its name has another length
@@ -215,21 +220,28 @@ free_looks w [] old new none p = subst NoneHeld (sym p) none
 free_looks w (work ∷ works) old new none p = free_looks (w + 1) works p.1 new (free_look w old p.1 p.0 none p.2) p.3
 
 -- opening the root leaves none held
-free_root : (cell : ℕ) (old new : State) (done : Bool) → NoneHeld old → Steps old (Open [] cell) done new → NoneHeld new
-free_root cell old new done none s = λ m c b w h. none m c b w ((opened_before [] cell old new done s).back m c b w h)
+free_root : (root : Split) (old new : State) (done : Bool) → NoneHeld old → Steps old (opening_of root) done new
+    → NoneHeld new
+free_root root old new done none s = λ m c b w h. none m c b w ((opened_before root old new done s).back m c b w h)
+
+-- nor do workers that open pieces in turn
+free_tries_to : (size : ℕ) (works : List Worked) (old new : State) → NoneHeld old → Plays old (tries_to size works) new
+    → NoneHeld new
+free_tries_to zero works old new none p = subst NoneHeld (sym p) none
+free_tries_to (suc size) works old new none p =
+    let q = plays_split old (tries_to size works) (tries (suc size) 0 works) new p in
+    free_tries (suc size) 0 works q.0 new (free_tries_to size works old q.0 none q.1.0) q.1.1
 
 -- after all that comes before closing none is held
-pub free_before_closes : (cell : ℕ) (works : List Worked) (old new : State) → NoneHeld old
-    → Plays old (tries_before_closes cell works) new → NoneHeld new
-free_before_closes cell works old new none p =
-    let one = tries 1 0 works in let two = tries 2 0 works in
-    let looked = plays_split p.1 (one ++ two ++ offers 0 works) (looks 0 works) new p.3 in
-    let offered = plays_split p.1 (one ++ two) (offers 0 works) looked.0 looked.1.0 in
-    let both = plays_split p.1 one two offered.0 offered.1.0 in
-    let start = free_root cell old p.1 p.0 none p.2 in
-    let first = free_tries 1 0 works p.1 both.0 start both.1.0 in
-    let second = free_tries 2 0 works both.0 offered.0 first both.1.1 in
-    free_looks 0 works looked.0 new (free_offers 0 works offered.0 looked.0 second offered.1.1) looked.1.1
+pub free_before_closes : (root : Split) (works : List Worked) (old new : State) → NoneHeld old
+    → Plays old (tries_before_closes root works) new → NoneHeld new
+free_before_closes root works old new none p =
+    let most = longest_name (all_opened works) in
+    let looked = plays_split p.1 (tries_to most works ++ offers 0 works) (looks 0 works) new p.3 in
+    let offered = plays_split p.1 (tries_to most works) (offers 0 works) looked.0 looked.1.0 in
+    let start = free_root root old p.1 p.0 none p.2 in
+    let opened = free_tries_to most works p.1 offered.0 start offered.1.0 in
+    free_looks 0 works looked.0 new (free_offers 0 works offered.0 looked.0 opened offered.1.1) looked.1.1
 
 -- ---- what is closed
 

@@ -1,36 +1,37 @@
 -- From joined results alone: how many pieces are closed, and by whom.
-use Rattle.std.proofs.Common.{◌≡◌, ◌≢◌, ◌⊎◌, inl, inr, ℕ, ◌+◌, ◌<◌, ◌≤◌, List, [], ◌∷◌, ◌++◌, length, All}
+use Rattle.std.proofs.Common.{◌≡◌, inl, inr, ℕ, zero, suc, ◌+◌, ◌≤◌, List, [], ◌∷◌, ◌++◌, length, All}
 use Rattle.std.proofs.Common.{refl, sym, ap, ◌∙◌, subst, arith, append_assoc}
-use Rattle.std.proofs.lemmas.Bool.{cases_eq}
-use Rattle.std.proofs.lemmas.List.Elements.{All-head, All-tail, All-cons, All-nil, All-append}
+use Rattle.std.proofs.lemmas.List.Elements.{All-head, All-tail, All-nil, All-append}
 use Rattle.set_cover.specs.Instance.{Instance}
-use Rattle.proof_tree.specs.Piece.{Subproblem, Fathomed, root_of}
+use Rattle.proof_tree.specs.Piece.{Subproblem, Fathomed}
 use Rattle.proof_tree.specs.Opened.{Split, kids_of}
 use Rattle.proof_tree.specs.Weights.{weigh}
 use Rattle.event_core.specs.State.{State, waiting, HasPart, Begins}
 use Rattle.event_core.specs.Plays.{Plays}
-use Rattle.event_core.specs.Events.{Does}
+use Rattle.event_core.specs.Events.{Opens}
 use Rattle.event_core.specs.declared.event.Event.{Event}
-use Rattle.event_core.specs.declared.event.Event.TheVariants.{Open}
+use Rattle.event_core.proofs.MoveLemmas.{opening_does}
 use Rattle.event_core.proofs.NameLemmas.{same_or_not}
 use Rattle.event_core.proofs.StateLemmas.{not_none}
 use Rattle.schedule_law.specs.Worked.{Worked, IsWork, IsOpenedIn}
-use Rattle.schedule_law.specs.Joined.{AreJoined, root_split, all_kids, all_opened, all_closed, all_back, least_size}
+use Rattle.schedule_law.specs.Joined.{AreJoined, all_kids, all_opened, all_closed, all_back, least_size}
 use Rattle.schedule_law.specs.Joined.{pieces_opened, pieces_closed}
-use Rattle.schedule_law.specs.Listing.{opens, offers, looks, closes, AllEnabled}
-use Rattle.schedule_law.proofs.PieceLemmas.{named, one_named, IsAmong, weigh-append, among_others, count_named_is}
+use Rattle.schedule_law.specs.Listing.{longest_name, opening_of, opens_to, offers, looks, closes, AllEnabled}
+use Rattle.schedule_law.proofs.PieceLemmas.{named, one_named, same_self, IsAmong, weigh-append, among_others}
+use Rattle.schedule_law.proofs.PieceLemmas.{count_named_is}
 use Rattle.schedule_law.proofs.KidLemmas.{nil_all}
-use Rattle.schedule_law.proofs.LongLemmas.{all_as_long, all_as_long_are, all_in_long, IsOneOrTwo}
-use Rattle.schedule_law.proofs.LongLemmas.{pieces_by_length, kids_by_length, kids-append, pieces-append}
-use Rattle.schedule_law.proofs.LawLemmas.{law, single_name}
-use Rattle.schedule_law.proofs.TurnLemmas.{opened_keeps}
-use Rattle.gathering.specs.Playing.{tries, tries_before_closes}
+use Rattle.schedule_law.proofs.LongLemmas.{all_as_long, all_as_long_are, all_in_long, in_turn, pieces_in_turn}
+use Rattle.schedule_law.proofs.LongLemmas.{kids_in_turn, pieces_all, kids_all}
+use Rattle.schedule_law.proofs.LawLemmas.{law, single_name, some_numbers}
+use Rattle.schedule_law.proofs.TurnLemmas.{opened_keeps, way_of}
+use Rattle.gathering.specs.Playing.{tries_to, tries_before_closes}
 use Rattle.gathering.specs.Gathered.{Gathering, IsGathered}
 use Rattle.gathering.specs.Counted.{AreCounted}
 use Rattle.gathering.proofs.PlayLemmas.{plays_split}
 use Rattle.gathering.proofs.GleanLemmas.{step_done}
-use Rattle.gathering.proofs.WaitLemmas.{many, not_named, AreWaiting, same_waiting, all_gone_waiting, none_waiting}
-use Rattle.gathering.proofs.FollowLemmas.{all_opened-append, enabled_after, follow_tries, follow_all_closes}
+use Rattle.gathering.proofs.WaitLemmas.{many, not_named, without, without_same, AreWaiting, same_waiting}
+use Rattle.gathering.proofs.WaitLemmas.{all_gone_waiting, none_waiting}
+use Rattle.gathering.proofs.FollowLemmas.{enabled_after, follow_tries_to, follow_all_closes}
 use Rattle.gathering.proofs.FollowLemmas.{same_offers, same_looks, gleans_gone}
 use Rattle.gathering.proofs.OpenedLemmas.{opened_waiting, opened_all}
 
@@ -46,11 +47,6 @@ many_closed (k ∷ ks) = omega (arith, many_closed ks)
 
 -- ---- what workers opened
 
--- a list with no element is empty
-nil_of : (x : List ℕ) → length x ≡ 0 → x ≡ []
-nil_of [] e = refl
-nil_of (x ∷ xs) e = absurd (omega arith)
-
 -- each piece that a worker opened is one of the region with a short name
 opened_in_all : (region : Instance) (least : ℕ) (works : List Worked) → All (IsWork region least) works
     → All (IsOpenedIn region) (all_opened works)
@@ -59,41 +55,22 @@ opened_in_all region least (x ∷ xs) all = All-append (IsOpenedIn region) x.ope
     (All-head (IsWork region least) x xs all).opened
     (opened_in_all region least xs (All-tail (IsWork region least) x xs all))
 
--- the numbers below three but zero
-one_or_two : (n : ℕ) → n ≢ 0 → n < 3 → (n ≡ 1) ⊎ (n ≡ 2)
-one_or_two n some few = elim (cases_eq n 1) [
-  | inl e ↦ inl e
-  | inr ne ↦ inr (omega arith)
-]
-
--- short names are of one number or two where none is empty
-all_one_or_two : (region : Instance) (ss : List Split) → All (IsOpenedIn region) ss
-    → weigh (named []) (pieces_opened ss) ≡ 0 → All IsOneOrTwo ss
-all_one_or_two region [] all none = All-nil IsOneOrTwo
-all_one_or_two region (s ∷ ss) all none =
-    let named_so : s.piece.name ≢ [] = λ e. absurd (let one = one_named s.piece in
-    let same = ap (λ x. named x s.piece) e in omega arith) in
-    All-cons IsOneOrTwo s ss
-    (one_or_two (length s.piece.name) (λ e. named_so (nil_of s.piece.name e))
-    (All-head (IsOpenedIn region) s ss all).short)
-    (all_one_or_two region ss (All-tail (IsOpenedIn region) s ss all) (omega arith))
-
-module _ (region : Instance) (first : List ℕ) (cell : ℕ) (places : List ℕ) (works : List Worked)
-    (left : List Subproblem) (j : AreJoined region first cell places works left) where
-  abbrev root : Split
-  root = root_split region cell places
-
+module _ (region : Instance) (first : List ℕ) (root : Split) (works : List Worked)
+    (left : List Subproblem) (j : AreJoined region first root works left) where
   abbrev came : List Subproblem
   came = all_kids (root ∷ all_opened works)
 
-  -- those with names of one number, then those with two
+  abbrev most : ℕ
+  most = longest_name (all_opened works)
+
+  -- those that workers opened, shorter names first
   abbrev turns : List Split
-  turns = all_as_long 1 works ++ all_as_long 2 works
+  turns = in_turn most works
 
   -- no name stands twice among the pieces that came to be
   single : (x : List ℕ) → weigh (named x) came ≤ 1
   single x =
-      let a = single_name region first cell places works left j x in
+      let a = single_name region first root works left j x in
       let b = count_named_is x came in
       omega arith
 
@@ -101,36 +78,27 @@ module _ (region : Instance) (first : List ℕ) (cell : ℕ) (places : List ℕ)
   all_in_it : All (IsOpenedIn region) (all_opened works)
   all_in_it = opened_in_all region (least_size (length first) works) works j.fit
 
-  -- its names are of one number or two, as no worker opened the root
-  ones_and_twos : All IsOneOrTwo (all_opened works)
-  ones_and_twos = all_one_or_two region (all_opened works) all_in_it
-      (let a = j.balance (named []) in let b = nil_all (root ∷ all_opened works) in omega arith)
-
   -- so are those with names of each length
   in_it : (n : ℕ) → All (IsOpenedIn region) (all_as_long n works)
   in_it n = subst (All (IsOpenedIn region)) (sym (all_as_long_are n works))
       (all_in_long (IsOpenedIn region) n (all_opened works) all_in_it)
 
   -- so are all whose turn comes
-  turns_in_it : All (IsOpenedIn region) turns
-  turns_in_it = All-append (IsOpenedIn region) (all_as_long 1 works) (all_as_long 2 works) (in_it 1) (in_it 2)
+  turns_in_it : (n : ℕ) → All (IsOpenedIn region) (in_turn n works)
+  turns_in_it zero = All-nil (IsOpenedIn region)
+  turns_in_it (suc n) = All-append (IsOpenedIn region) (in_turn n works) (all_as_long (suc n) works)
+      (turns_in_it n) (in_it (suc n))
 
   -- those whose turn comes are all that workers opened
   weigh_pieces : (h : Subproblem → ℕ) → weigh h (pieces_opened turns) ≡ weigh h (pieces_opened (all_opened works))
-  weigh_pieces h =
-      let one = all_as_long 1 works in
-      let two = all_as_long 2 works in
-      ap (weigh h) (pieces-append one two) ∙ weigh-append h (pieces_opened one) (pieces_opened two)
-      ∙ pieces_by_length h works ones_and_twos
+  weigh_pieces h = pieces_in_turn h works most
+      ∙ pieces_all h works (some_numbers region first root works left j)
 
   -- their kids and the root's are all pieces that came to be
   weigh_kids : (h : Subproblem → ℕ) → weigh h (kids_of root) + weigh h (all_kids turns) ≡ weigh h came
   weigh_kids h =
-      let one = all_as_long 1 works in
-      let two = all_as_long 2 works in
       let sum : weigh h (all_kids turns) ≡ weigh h (all_kids (all_opened works)) =
-      ap (weigh h) (kids-append one two) ∙ weigh-append h (all_kids one) (all_kids two)
-      ∙ kids_by_length h works ones_and_twos in
+      kids_in_turn h works most ∙ kids_all h works (some_numbers region first root works left j) in
       omega (arith, weigh-append h (kids_of root) (all_kids (all_opened works)))
 
   -- each of them came to be
@@ -140,49 +108,68 @@ module _ (region : Instance) (first : List ℕ) (cell : ℕ) (places : List ℕ)
 
   -- ---- the root
 
+  -- the root has no number
+  nameless : root.piece.name ≡ []
+  nameless = ap (λ (p : Subproblem). p.name) j.of_root.0
+
   -- no name stands twice among the root and its kids
-  once_with_root : (x : List ℕ) → weigh (named x) ((root_of region ∷ []) ++ kids_of root) ≤ 1
+  once_with_root : (x : List ℕ) → weigh (named x) ((root.piece ∷ []) ++ kids_of root) ≤ 1
   once_with_root x =
       let a = single x in
       let b = weigh_kids (named x) in
       elim (same_or_not x []) [
         | inl e ↦ (let none : weigh (named x) came ≡ 0 =
             ap (λ y. weigh (named y) came) e ∙ nil_all (root ∷ all_opened works) in
-            let one : named x (root_of region) ≡ 1 = ap (λ y. named y (root_of region)) e in
+            let one : named x root.piece ≡ 1 = ap (λ y. named y root.piece) (e ∙ sym nameless)
+            ∙ one_named root.piece in
             omega arith)
-        | inr ne ↦ (let none = not_named x (root_of region) ne in omega arith)
+        | inr ne ↦ (let none = not_named x root.piece (λ f. ne (f ∙ nameless)) in omega arith)
       ]
 
   module _ (start : State) (begins : Begins region first (length works + 1) start) where
+    root_there : HasPart start root.piece.name root.piece.chosen root.piece.barred waiting
+    root_there = subst (λ (p : Subproblem). HasPart start p.name p.chosen p.barred waiting) (sym j.of_root.0)
+        begins.root
+
+    root_region : start.region ≡ root.piece.region
+    root_region = begins.of_it ∙ sym (ap (λ (p : Subproblem). p.region) j.of_root.0)
+
     -- at first the root waits alone
-    root_waits : AreWaiting start (root_of region ∷ [])
+    root_waits : AreWaiting start (root.piece ∷ [])
     root_waits = record {
       wait = λ p at. elim at [
-        | inl e ↦ subst (λ (q : Subproblem). HasPart start q.name q.chosen q.barred waiting) (sym e) begins.root
+        | inl e ↦ subst (λ (q : Subproblem). HasPart start q.name q.chosen q.barred waiting) (sym e) root_there
         | inr none ↦ absurd none
       ];
       only = only_root;
       once = λ x. (let a = once_with_root x in
-          let b = weigh-append (named x) (root_of region ∷ []) (kids_of root) in omega arith);
+          let b = weigh-append (named x) (root.piece ∷ []) (kids_of root) in omega arith);
     }
       where
         only_root : (name chosen barred : List ℕ) → HasPart start name chosen barred waiting
-            → 1 ≤ weigh (named name) (root_of region ∷ [])
-        only_root [] c b h = omega arith
+            → 1 ≤ weigh (named name) (root.piece ∷ [])
+        only_root [] c b h =
+            let one : named [] root.piece ≡ 1 = ap (λ y. named y root.piece) (sym nameless) ∙ one_named root.piece in
+            omega arith
         only_root (n ∷ ns) c b h =
             not_none (record { chosen = c; barred = b; status = waiting }) (sym (begins.alone n ns) ∙ h)
 
     -- once the root is open, its kids wait
-    kids_wait : (next : State) → Does start (Open [] cell) next → AreWaiting next (kids_of root)
-    kids_wait next o = opened_waiting start start next root waiting (root_of region ∷ []) begins.root
-        (λ other ne. refl) begins.of_it j.root o root_waits once_with_root
+    kids_wait : (next : State) → Opens start root.piece.name (way_of root) next → AreWaiting next (kids_of root)
+    kids_wait next o =
+        let all = opened_waiting start start next root waiting (root.piece ∷ []) root_there
+        (λ other ne. refl) root_region j.of_root.1 o root_waits once_with_root in
+        subst (λ (l : List Subproblem). AreWaiting next (l ++ kids_of root)) none_left all
+      where
+        -- the root is the one that waited
+        none_left : without root.piece.name (root.piece ∷ []) ≡ []
+        none_left = without_same root.piece.name root.piece [] (same_self root.piece.name)
 
     -- ---- the whole play
 
-    -- events of five lists, grouped to the right
-    regroup : (a b c d e : List Event) → (((a ++ b) ++ c) ++ d) ++ e ≡ a ++ (b ++ (c ++ (d ++ e)))
-    regroup a b c d e = append_assoc ((a ++ b) ++ c) d e ∙ append_assoc (a ++ b) c (d ++ e)
-        ∙ append_assoc a b (c ++ (d ++ e))
+    -- events of four lists, grouped to the right
+    regroup : (a b c d : List Event) → ((a ++ b) ++ c) ++ d ≡ a ++ (b ++ (c ++ d))
+    regroup a b c d = append_assoc (a ++ b) c d ∙ append_assoc a b (c ++ d)
 
     -- once workers opened their pieces, as many wait as the works say, and each that they closed may be closed
     record IsPlayed (state : State) : Type 0 where
@@ -192,27 +179,21 @@ module _ (region : Instance) (first : List ℕ) (cell : ℕ) (places : List ℕ)
       pub enabled : AllEnabled state (closes 0 works)
 
     -- the play goes through every event of the list before all closing
-    played : (opened : State) → Plays start (tries_before_closes cell works) opened → IsPlayed opened
+    played : (opened : State) → Plays start (tries_before_closes root works) opened → IsPlayed opened
     played opened p =
-        let one = tries 1 0 works in
-        let two = tries 2 0 works in
-        let looked = plays_split p.1 (one ++ two ++ offers 0 works) (looks 0 works) opened p.3 in
-        let offered = plays_split p.1 (one ++ two) (offers 0 works) looked.0 looked.1.0 in
-        let both = plays_split p.1 one two offered.0 offered.1.0 in
-        let e = law region first cell places works left j start begins in
-        let o = step_done start (Open [] cell) p.0 p.1 e.0 p.2 in
+        let looked = plays_split p.1 (tries_to most works ++ offers 0 works) (looks 0 works) opened p.3 in
+        let offered = plays_split p.1 (tries_to most works) (offers 0 works) looked.0 looked.1.0 in
+        let e = law region first root works left j start begins in
+        let o = step_done start (opening_of root) p.0 p.1 e.0 p.2 in
+        let opens = (opening_does start root.piece.name root.bars root.on p.1).1 o.1 in
         let e1 = subst (AllEnabled p.1)
-        (regroup (opens 1 0 works) (opens 2 0 works) (offers 0 works) (looks 0 works) (closes 0 works))
-        (e.1 p.1 o.1) in
-        let f = follow_tries 1 0 works _ p.1 both.0 e1 both.1.0 in
-        let g = follow_tries 2 0 works _ both.0 offered.0 f.enabled both.1.1 in
-        let e2 = enabled_after (offers 0 works) _ offered.0 looked.0 g.enabled offered.1.1 in
+        (regroup (opens_to most works) (offers 0 works) (looks 0 works) (closes 0 works)) (e.1 p.1 o.1) in
+        let f = follow_tries_to most works _ p.1 offered.0 e1 offered.1.0 in
+        let e2 = enabled_after (offers 0 works) _ offered.0 looked.0 f.enabled offered.1.1 in
         let e3 = enabled_after (looks 0 works) (closes 0 works) looked.0 opened e2 looked.1.1 in
-        let of = (opened_keeps start [] cell p.1 o.1).same_region ∙ begins.of_it in
-        let all = all_opened-append p.1 (all_as_long 1 works) (all_as_long 2 works) both.0 offered.0
-        f.opened_all g.opened_all in
-        let a = opened_all region came single turns p.1 offered.0 (kids_of root) of (kids_wait p.1 o.1) turns_in_it
-        turns_came (λ h. (let b = weigh_kids h in omega arith)) all in
+        let of = (opened_keeps start root.piece.name (way_of root) p.1 opens).same_region ∙ begins.of_it in
+        let a = opened_all region came single turns p.1 offered.0 (kids_of root) of (kids_wait p.1 opens)
+        (turns_in_it most) turns_came (λ h. (let b = weigh_kids h in omega arith)) f.opened_all in
         let same = same_looks 0 works looked.0 opened looked.1.1 ∙ same_offers 0 works offered.0 looked.0 offered.1.1 in
         record {
           now = a.now;
@@ -222,7 +203,7 @@ module _ (region : Instance) (first : List ℕ) (cell : ℕ) (places : List ℕ)
         }
 
   -- at the end none waits, so that all that waited was closed by a worker or by the caller's thread
-  pub counted : (gathered : Gathering) → IsGathered region first cell works gathered → AreCounted works left gathered
+  pub counted : (gathered : Gathering) → IsGathered region first root works gathered → AreCounted works left gathered
   counted gathered g =
       let p = played g.start g.begins g.opened g.opens in
       let ended = follow_all_closes 0 works g.opened gathered.closed_by g.closed p.enabled g.closes in

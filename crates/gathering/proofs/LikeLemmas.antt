@@ -6,7 +6,7 @@ use Rattle.event_core.specs.State.{State}
 use Rattle.event_core.specs.Events.{Does}
 use Rattle.event_core.specs.Plays.{Steps, Plays}
 use Rattle.event_core.specs.declared.event.Event.{Event}
-use Rattle.event_core.specs.declared.event.Event.TheVariants.{Look, Offer, Take, Open, Close, Leave}
+use Rattle.event_core.specs.declared.event.Event.TheVariants.{Look, Offer, Take, Open, Pick, Close, Leave}
 use Rattle.schedule_law.specs.Worked.{Worked}
 use Rattle.gathering.specs.Playing.{TriesClose, TriesCloses, TriesAllCloses}
 use Rattle.gathering.specs.Gathered.{Gleans, GleansOne}
@@ -42,10 +42,13 @@ like_does old (Take w n) new does = record {
   workers = ap (λ
       (s : State). length s.seen) does.kept;
 }
-like_does old (Open n cell) new does = record {
+like_does old (Open n bars cell) new does = record {
   of_it = ap (λ (s : State). s.region) does.kept;
-  workers = ap (λ
-      (s : State). length s.seen) does.kept;
+  workers = ap (λ (s : State). length s.seen) does.kept;
+}
+like_does old (Pick n bars place) new does = record {
+  of_it = ap (λ (s : State). s.region) does.kept;
+  workers = ap (λ (s : State). length s.seen) does.kept;
 }
 like_does old (Close w k) new does = record {
   of_it = ap (λ (s : State). s.region) does.kept;

@@ -2,12 +2,10 @@
 use Rattle.std.proofs.Common.{◌≡◌, ◌≢◌, inl, inr, ℕ, ◌+◌, ◌≤◌, List, [], ◌∷◌, ◌++◌, length, All}
 use Rattle.std.proofs.Common.{refl, sym, ap, ◌∙◌, subst, arith}
 use Rattle.std.proofs.lemmas.List.Elements.{All-head, All-tail}
-use Rattle.set_cover.specs.Instance.{Instance, of_instance}
-use Rattle.proof_rules.specs.Good.{AreOpen}
+use Rattle.set_cover.specs.Instance.{Instance}
 use Rattle.proof_tree.specs.Piece.{Subproblem}
 use Rattle.proof_tree.specs.Opened.{Split, IsSplit, kids_of}
 use Rattle.proof_tree.specs.Weights.{weigh}
-use Rattle.proof_tree.proofs.OrderLemmas.{rises_from, one_order}
 use Rattle.event_core.specs.State.{State, Status, waiting, held, opened, HasPart}
 use Rattle.event_core.specs.Events.{Opens, IsParted}
 use Rattle.event_core.proofs.NameLemmas.{same_or_not, kid_or_not, kid_other}
@@ -16,34 +14,24 @@ use Rattle.schedule_law.specs.Worked.{IsOpenedIn}
 use Rattle.schedule_law.specs.Joined.{all_kids, pieces_opened}
 use Rattle.schedule_law.proofs.PieceLemmas.{named, one_named, IsAmong, weigh-append, named_among, among_others}
 use Rattle.schedule_law.proofs.PieceLemmas.{among_left, among_right, among_either}
-use Rattle.schedule_law.proofs.KidLemmas.{numbered_kid, numbered_among, among_numbered}
-use Rattle.schedule_law.proofs.TurnLemmas.{Knows, Keeps, turned_keeps, opened_keeps, after_opening}
+use Rattle.schedule_law.proofs.KidLemmas.{numbered_kid, numbered_among, among_numbered, steps_of}
+use Rattle.schedule_law.proofs.TurnLemmas.{Knows, Keeps, turned_keeps, opened_keeps, after_opening, opened_parted}
+use Rattle.schedule_law.proofs.TurnLemmas.{way_of}
 use Rattle.gathering.proofs.WaitLemmas.{without, many, many-without, weigh-without, named-without, not_named}
 use Rattle.gathering.proofs.WaitLemmas.{among-without, AreWaiting}
 use Rattle.gathering.proofs.FollowLemmas.{IsOpened, AllOpened}
 
 -- ---- a piece that is opened
 
--- a cell's open places stand in one list alone
-one_list : (region : Instance) (barred : List ℕ) (cell : ℕ) (xs ys : List ℕ)
-    → AreOpen (of_instance region) barred cell xs → AreOpen (of_instance region) barred cell ys → xs ≡ ys
-one_list region barred cell xs ys a b = one_order xs ys (rises_from xs a.ascending) (rises_from ys b.ascending)
-    (λ z h. (b.exact z).1 ((a.exact z).0 h)) (λ z h. (a.exact z).1 ((b.exact z).0 h))
-
 -- it waited before, or a worker took it
 module _ (old mid new : State) (s : Split) (was : Status) (ps : List Subproblem)
     (is : HasPart mid s.piece.name s.piece.chosen s.piece.barred was)
     (others_stay : (other : List ℕ) → other ≢ s.piece.name → mid.part_at other ≡ old.part_at other)
-    (of_it : mid.region ≡ s.piece.region) (split : IsSplit s) (o : Opens mid s.piece.name s.cell new)
+    (of_it : mid.region ≡ s.piece.region) (split : IsSplit s) (o : Opens mid s.piece.name (way_of s) new)
     (a : AreWaiting old ps) (once : (x : List ℕ) → weigh (named x) (ps ++ kids_of s) ≤ 1) where
   -- its kids are those of the places that the piece is to be opened with
-  parted : IsParted mid s.piece.name s.piece.chosen s.piece.barred s.cell s.places new
-  parted =
-      let p = o.parted s.piece.chosen s.piece.barred was is in
-      let at_it : AreOpen (of_instance s.piece.region) s.piece.barred s.cell p.0 =
-      subst (λ (r : Instance). AreOpen (of_instance r) s.piece.barred s.cell p.0) of_it p.1 in
-      subst (λ (ps : List ℕ). IsParted mid s.piece.name s.piece.chosen s.piece.barred s.cell ps new)
-      (one_list s.piece.region s.piece.barred s.cell p.0 s.places at_it split.all) p.2
+  parted : IsParted mid s.piece.name s.piece.chosen s.piece.barred (way_of s) s.places new
+  parted = opened_parted mid new s was is of_it split o
 
   -- a piece of another name that waited, or a kid, waits
   waits_then : (q : Subproblem) → IsAmong q (ps ++ kids_of s) → q.name ≢ s.piece.name
@@ -65,9 +53,9 @@ module _ (old mid new : State) (s : Split) (was : Status) (ps : List Subproblem)
   none_else n c b h =
       let sum = weigh-append (named n) (without s.piece.name ps) (kids_of s) in
       elim (same_or_not n s.piece.name) [
-        | inl e ↦ waiting_not_opened s.cell (same_parts new s.piece.name c b s.piece.chosen s.piece.barred waiting
-            (opened s.cell) (ap new.part_at (sym e) ∙ h) parted.here).status
-        | inr ne ↦ elim (kid_or_not s.piece.name n (length s.places)) [
+        | inl e ↦ waiting_not_opened (way_of s) (same_parts new s.piece.name c b s.piece.chosen s.piece.barred waiting
+            (opened (way_of s)) (ap new.part_at (sym e) ∙ h) parted.here).status
+        | inr ne ↦ elim (kid_or_not s.piece.name n (length (steps_of s))) [
           | inl k ↦ (let kid : Subproblem = numbered_kid s k.0 in
               let there = named_among kid (kids_of s) (numbered_among s k.0 k.1) in
               let same = ap (λ x. weigh (named x) (kids_of s)) k.2 in omega arith)
@@ -156,7 +144,7 @@ module _ (region : Instance) (came : List Subproblem) (single : (x : List ℕ) �
       let some = named_among p ps there in
       let one = a.once p.name in
       record {
-        of_it = (opened_keeps o.taken p.name s.cell new o.opens).same_region ∙ same;
+        of_it = (opened_keeps o.taken p.name (way_of s) new o.opens).same_region ∙ same;
         now = without p.name ps ++ kids_of s;
         wait = opened_waiting old o.taken new s (held o.worker) ps
             (o.takes.here p.chosen p.barred waiting waits) o.takes.others (same ∙ sym in_it.of_it) in_it.opens o.opens a

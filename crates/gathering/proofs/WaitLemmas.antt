@@ -20,7 +20,7 @@ abbrev pub many : List Subproblem → ℕ
 many ps = weigh (λ p. 1) ps
 
 -- a piece of the name isn't kept
-without_same : (name : List ℕ) (p : Subproblem) (ps : List Subproblem) → is_same_name name p.name ≡ true
+pub without_same : (name : List ℕ) (p : Subproblem) (ps : List Subproblem) → is_same_name name p.name ≡ true
     → without name (p ∷ ps) ≡ without name ps
 without_same name p ps e = ap (λ b. if b then without name ps else p ∷ without name ps) e
 

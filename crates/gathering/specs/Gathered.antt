@@ -3,6 +3,7 @@ use Rattle.std.specs.Prelude.{◌≡◌, ◌≤◌, ℕ, ◌+◌, true, List, []
 use Rattle.set_cover.specs.Instance.{Instance}
 use Rattle.instance_regions.specs.Cover.{Covering}
 use Rattle.proof_rules.specs.Tree.{Tree}
+use Rattle.proof_tree.specs.Opened.{Split}
 use Rattle.proof_tree.specs.Piece.{Fathomed}
 use Rattle.search_traits.specs.Planned.{IsStopped}
 use Rattle.search_traits.specs.Turns.{AreSpent, IsWithin}
@@ -44,7 +45,7 @@ pub record Gathering : Type 0 where
 
 -- the assembly of a core with one worker more than there are works, the last being the caller's thread, after the works
 -- were played and the caller's thread closed what was left
-pub record IsGathered (region : Instance) (first : List ℕ) (root : ℕ) (works : List Worked) (gathered : Gathering)
+pub record IsGathered (region : Instance) (first : List ℕ) (root : Split) (works : List Worked) (gathered : Gathering)
     : Type 0 where
   pub start : State
   pub begins : Begins region first (length works + 1) start

@@ -1,20 +1,21 @@
 -- The results of workers, played on a core: an event that isn't enabled is passed over.
 -- This is this project's own.
-use Rattle.std.specs.Prelude.{◌≡◌, ℕ, ◌+◌, Bool, true, false, List, [], ◌∷◌, ◌++◌, length, eqb}
+use Rattle.std.specs.Prelude.{◌≡◌, ℕ, zero, suc, ◌+◌, Bool, true, false, List, [], ◌∷◌, ◌++◌, length, eqb}
 use Rattle.std.specs.Prelude.{if◌then◌else◌}
 use Rattle.proof_tree.specs.Piece.{Fathomed}
 use Rattle.proof_tree.specs.Opened.{Split}
 use Rattle.event_core.specs.State.{State}
 use Rattle.event_core.specs.Plays.{Steps}
 use Rattle.event_core.specs.declared.event.Event.{Event}
-use Rattle.event_core.specs.declared.event.Event.TheVariants.{Take, Open, Close, Leave}
+use Rattle.event_core.specs.declared.event.Event.TheVariants.{Take, Close, Leave}
+use Rattle.schedule_law.specs.Joined.{all_opened}
 use Rattle.schedule_law.specs.Worked.{Worked}
-use Rattle.schedule_law.specs.Listing.{offers, looks}
+use Rattle.schedule_law.specs.Listing.{longest_name, opening_of, offers, looks}
 
 -- a worker takes a piece, opens it, and leaves it where it could not be opened
 abbrev pub tries_open : ℕ → Split → List Event
 tries_open worker split =
-    Take worker split.piece.name ∷ Open split.piece.name split.cell ∷ Leave worker split.piece.name ∷ []
+    Take worker split.piece.name ∷ opening_of split ∷ Leave worker split.piece.name ∷ []
 
 -- it does so if the piece's name has this length
 abbrev pub tries_one : ℕ → ℕ → Split → List Event
@@ -30,9 +31,15 @@ abbrev pub tries : ℕ → ℕ → List Worked → List Event
 tries size worker [] = []
 tries size worker (work ∷ works) = tries_as_long size worker work.opened ++ tries size (worker + 1) works
 
+-- all workers open their pieces whose names are at most so long, shorter names first
+abbrev pub tries_to : ℕ → List Worked → List Event
+tries_to zero works = []
+tries_to (suc size) works = tries_to size works ++ tries (suc size) 0 works
+
 -- what comes before all closing: the caller opens the root, workers open pieces, shorter names first, offer and look
-abbrev pub tries_before_closes : ℕ → List Worked → List Event
-tries_before_closes cell works = Open [] cell ∷ tries 1 0 works ++ tries 2 0 works ++ offers 0 works ++ looks 0 works
+abbrev pub tries_before_closes : Split → List Worked → List Event
+tries_before_closes root works =
+    opening_of root ∷ tries_to (longest_name (all_opened works)) works ++ offers 0 works ++ looks 0 works
 
 -- a worker takes a piece and closes it, and leaves it where it could not be closed
 pub record TriesClose (old : State) (worker : ℕ) (closed : Fathomed) (done : Bool) (new : State) : Type 0 where

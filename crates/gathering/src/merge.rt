@@ -1,9 +1,10 @@
 //! The results of workers are gathered into a best plan, with its tree: `IsGathered` of specs/Gathered.antt. Where the
 //! turns don't do, it says what is known by then.
 ghost use Rattle.std.specs.Arc.{arc_value};
-ghost use Rattle.std.specs.Prelude.{◌≡◌, ◌<◌, ◌+◌, ◌^◌, length, Contains, IfErr, IfOk, IfSome};
+ghost use Rattle.std.specs.Prelude.{◌≡◌, ◌<◌, ◌+◌, ◌^◌, length, IfErr, IfOk, IfSome};
 ghost use Rattle.gathering.specs.Gathered.{AreTurnsFor, IsGathered, StopsGathering};
 ghost use Rattle.proof_tree.specs.Shape.{tree_of};
+ghost use Rattle.schedule_law.specs.Joined.{IsRootSplit};
 ghost use Rattle.search_traits.specs.Planned.{IsBest};
 ghost use Rattle.search_traits.specs.Turns.{AreSpent};
 
@@ -11,11 +12,10 @@ use crate::fault::PoolFault;
 use crate::gleaning::glean;
 use crate::opening::try_before_closes;
 use crate::trying::close_all;
-use cave_base::Cell;
 use event_core::Core;
 use instance_regions::{Cover, Region};
 use pack_bound::scattered;
-use proof_tree::{Name, Piece, Proof};
+use proof_tree::{Name, Opened, Piece, Proof};
 use schedule_law::Work;
 use search_traits::{AloneDesk, Closer, Halt, SharedSearch};
 use std::alloc::{AllocError, Global};
@@ -39,14 +39,14 @@ pub struct Gathered {
 pub fn gather<C: Closer>(
     search: SharedSearch<'_, C>,
     first: Cover,
-    root: Cell,
+    root: &Opened,
     works: Vec<Work>,
     turns: Option<u64>,
 ) -> Result<Gathered, PoolFault>
     requires begun { (first.region ≡ arc_value search.region.now)
-        × Contains (arc_value search.region.now).cells root }
+        × IsRootSplit (arc_value search.region.now) root.now }
     ensures gathered { IfOk result (λ g.
-        IsGathered (arc_value search.entry.region.now) first.places root works.items (record {
+        IsGathered (arc_value search.entry.region.now) first.places root.now works.items (record {
           cover = g.cover;
           tree = tree_of g.proof;
           closed_by = g.closed_by.items;
@@ -94,14 +94,16 @@ fn count_of(works: &[Work]) -> Option<u32>
 fn stopped(
     alloc: Global,
     region: &Arc<Region>,
-    root: Cell,
+    root: &Opened,
     desk: AloneDesk,
 ) -> Result<PoolFault, AllocError>
     requires of_it { desk.cover.region ≡ arc_value region.now }
-    requires root { Contains (arc_value region.now).cells root }
+    requires root { IsRootSplit (arc_value region.now) root.now }
     requires spent { AreSpent desk.limit desk.granted }
     ensures { IfOk result (StopsGathering (arc_value region.now) desk.limit) }
 {
+    let cells = region.cells().len();
+    prove!(cells > 0);
     let piece = Piece::root(alloc, region)?;
     let floor = scattered(alloc, &piece)?.len() as u64;
     let turns = desk.granted();

@@ -1,15 +1,16 @@
 //! What workers did before any of them closed a piece, played on the event core: `tries_before_closes` of
 //! specs/Playing.antt. An event that isn't enabled is passed over.
-ghost use Rattle.std.specs.Prelude.{◌<◌, ◌^◌, length, IfOk};
+ghost use Rattle.std.specs.Prelude.{◌≡◌, ◌<◌, ◌^◌, length, IfOk};
 ghost use Rattle.event_core.specs.Kept.{state_of};
 ghost use Rattle.event_core.specs.Plays.{Plays};
-ghost use Rattle.gathering.specs.Playing.{tries, tries_as_long, tries_before_closes, tries_one, tries_open};
-ghost use Rattle.schedule_law.specs.Listing.{looks, offer_of, offers};
+ghost use Rattle.gathering.specs.Playing.{tries, tries_as_long, tries_before_closes, tries_one, tries_open, tries_to};
+ghost use Rattle.schedule_law.specs.Joined.{all_opened};
+ghost use Rattle.schedule_law.specs.Listing.{longest_name, looks, offer_of, offers, opening_of};
 
-use cave_base::Cell;
+use cave_base::Sequence;
 use event_core::{Core, Event};
 use instance_regions::Cover;
-use proof_tree::{Name, Opened};
+use proof_tree::{Branching, Opened};
 use schedule_law::Work;
 use std::alloc::{AllocError, Global};
 
@@ -17,66 +18,123 @@ use std::alloc::{AllocError, Global};
 pub(crate) fn try_before_closes(
     alloc: Global,
     core: &mut Core,
-    root: Cell,
+    root: &Opened,
     works: &[Work],
 ) -> Result<(), AllocError>
     requires few { length works.now < 2 ^ 32 }
     ensures { IfOk result (λ _.
-        Plays (state_of core.old) (tries_before_closes root works.now) (state_of core.new)) }
+        Plays (state_of core.old) (tries_before_closes root.now works.now) (state_of core.new)) }
 {
-    core.step(Event::Open(Name::root(alloc), root))?;
-    open_all(core, 1, works)?;
-    open_all(core, 2, works)?;
+    core.step(opening(alloc, root)?)?;
+    open_in_turn(alloc, core, works)?;
     offer_all(core, works)?;
     look_all(core, works)?;
     Ok(())
 }
 
+/// The event that opens the piece.
+fn opening(alloc: Global, split: &Opened) -> Result<Event, AllocError>
+    ensures { IfOk result (λ event. event ≡ opening_of split.now) }
+{
+    let name = split.piece().name().try_clone()?;
+    let bars = Vec::from_slice(alloc, split.bars())?;
+    let bars = Sequence::from_vec(bars);
+    match split.on() {
+        Branching::Cell(cell) => Ok(Event::Open(name, bars, cell)),
+        Branching::Place(place) => Ok(Event::Pick(name, bars, place)),
+    }
+}
+
+/// The length of the longest name of a piece that the workers opened.
+fn longest(works: &[Work]) -> usize
+    ensures { result ≡ longest_name (all_opened works.now) }
+{
+    let Some((work, rest)) = works.split_first() else {
+        return 0;
+    };
+    longest_of(&work.opened).max(longest(rest))
+}
+
+/// The length of the longest name of these pieces.
+fn longest_of(splits: &[Opened]) -> usize
+    ensures { result ≡ longest_name splits.now }
+{
+    let mut most = 0;
+    for split in splits {
+        most = split.piece().name().as_slice().len().max(most);
+    }
+    most
+}
+
+/// The workers open their pieces, shorter names first.
+fn open_in_turn(alloc: Global, core: &mut Core, works: &[Work]) -> Result<(), AllocError>
+    requires few { length works.now < 2 ^ 32 }
+    ensures { IfOk result (λ _. Plays (state_of core.old)
+        (tries_to (longest_name (all_opened works.now)) works.now) (state_of core.new)) }
+{
+    for size in 0..longest(works) {
+        open_all(alloc, core, size + 1, works)?;
+    }
+    Ok(())
+}
+
 /// Each worker opens its pieces whose names have this length.
-fn open_all(core: &mut Core, size: usize, works: &[Work]) -> Result<(), AllocError>
+fn open_all(alloc: Global, core: &mut Core, size: usize, works: &[Work]) -> Result<(), AllocError>
     requires few { length works.now < 2 ^ 32 }
     ensures { IfOk result (λ _.
         Plays (state_of core.old) (tries size 0 works.now) (state_of core.new)) }
 {
     let mut worker = 0u32;
     for work in works {
-        open_each(core, size, worker, &work.opened)?;
+        open_each(alloc, core, size, worker, &work.opened)?;
         worker += 1;
     }
     Ok(())
 }
 
 /// A worker opens those of the pieces whose names have this length.
-fn open_each(core: &mut Core, size: usize, worker: u32, splits: &[Opened]) -> Result<(), AllocError>
+fn open_each(
+    alloc: Global,
+    core: &mut Core,
+    size: usize,
+    worker: u32,
+    splits: &[Opened],
+) -> Result<(), AllocError>
     ensures { IfOk result (λ _.
         Plays (state_of core.old) (tries_as_long size worker splits.now) (state_of core.new)) }
 {
     for split in splits {
-        open_one(core, size, worker, split)?;
+        open_one(alloc, core, size, worker, split)?;
     }
     Ok(())
 }
 
 /// A worker opens the piece if its name has this length.
-fn open_one(core: &mut Core, size: usize, worker: u32, split: &Opened) -> Result<(), AllocError>
+fn open_one(
+    alloc: Global,
+    core: &mut Core,
+    size: usize,
+    worker: u32,
+    split: &Opened,
+) -> Result<(), AllocError>
     ensures { IfOk result (λ _.
         Plays (state_of core.old) (tries_one size worker split.now) (state_of core.new)) }
 {
     if split.piece().name().as_slice().len() != size {
         return Ok(());
     }
-    try_open(core, worker, split)?;
+    try_open(alloc, core, worker, split)?;
     Ok(())
 }
 
 /// A worker takes a piece, opens it, and leaves it where it could not be opened.
-fn try_open(core: &mut Core, worker: u32, split: &Opened) -> Result<(), AllocError>
+fn try_open(alloc: Global, core: &mut Core, worker: u32, split: &Opened) -> Result<(), AllocError>
     ensures { IfOk result (λ _.
         Plays (state_of core.old) (tries_open worker split.now) (state_of core.new)) }
 {
     let name = split.piece().name();
     core.step(Event::Take(worker, name.try_clone()?))?;
-    core.step(Event::Open(name.try_clone()?, split.cell()))?;
+    core.step(opening(alloc, split)?)?;
     core.step(Event::Leave(worker, name.try_clone()?))?;
     Ok(())
 }

@@ -6,3 +6,4 @@ pub mod GreedyLemmas
 pub mod IndexLemmas
 pub mod WeightedLemmas
 pub mod NamingLemmas
+pub mod OpeningLemmas

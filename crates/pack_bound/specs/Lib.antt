@@ -8,3 +8,4 @@ pub mod Pieces
 -- private
 pub mod Greedy
 pub mod Pairs
+pub mod Openings

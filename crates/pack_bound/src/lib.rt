@@ -10,6 +10,7 @@ mod judge;
 pub mod laws;
 mod node;
 mod numbering;
+mod openings;
 mod packing;
 mod pieces;
 
@@ -18,6 +19,7 @@ pub use dominance::dominated;
 pub use greedy::{first_places, first_plan};
 pub use judge::{is_bar, is_cover, is_leaf, mark_unlit, may_be_picked, may_give_way, open_places};
 pub use node::{Node, first_unlit};
-pub use numbering::{number_at, numbers_of_cells};
+pub use numbering::{number_at, numbers_of_cells, numbers_of_places};
+pub use openings::places_for;
 pub use packing::packed;
 pub use pieces::{node_of, scattered};

@@ -1,7 +1,7 @@
 //! Numbers of cells and places in place of their indices, and back.
 ghost use Rattle.std.specs.Prelude.{◌≡◌, All, Contains, IfOk, slice_index, map};
 ghost use Rattle.instance_regions.specs.Region.{IsRegion};
-ghost use Rattle.pack_bound.specs.Naming.{AreIndicesOf, cell_numbers};
+ghost use Rattle.pack_bound.specs.Naming.{AreIndicesOf, cell_numbers, place_numbers};
 
 use crate::node::place_index;
 use cave_base::Cell;
@@ -16,6 +16,15 @@ pub fn numbers_of_cells(region: &Region, cells: Vec<u32>) -> Vec<Cell>
 {
     let mut numbers = cells;
     put_numbers(region.cells(), numbers.as_mut_slice());
+    numbers
+}
+
+/// The numbers of these places, with no new memory.
+pub fn numbers_of_places(region: &Region, places: Vec<u32>) -> Vec<Cell>
+    ensures { result.items ≡ place_numbers region.now places.items }
+{
+    let mut numbers = places;
+    put_numbers(region.places(), numbers.as_mut_slice());
     numbers
 }
 

@@ -1,4 +1,3 @@
 pub mod OrderLemmas
-pub mod SieveLemmas
 pub mod KidLemmas
 pub mod BarLemmas

@@ -6,5 +6,7 @@ pub mod Weights
 pub mod Order
 pub mod Bars
 -- private
+pub mod Kids
+pub mod Branchings
 pub mod Codes
 pub mod Falls

@@ -2,18 +2,18 @@
 #![tactic(auto)]
 
 mod bars;
+mod branching;
 mod closed;
 mod kids;
 mod name;
 mod opened;
-mod opening;
 mod piece;
 mod proof;
 
 pub use bars::{Bar, wrap};
+pub use branching::Branching;
 pub use closed::{Closed, floor_of};
 pub use name::Name;
 pub use opened::Opened;
-pub use opening::{is_unlit, kid_places};
 pub use piece::Piece;
 pub use proof::{Below, Kids, Proof};

@@ -1,19 +1,19 @@
-//! A piece opened on a cell: `Split` of specs/Opened.antt.
-ghost use Rattle.std.specs.Prelude.{◌≡◌, IfOk, MatchOption};
-ghost use Rattle.proof_tree.specs.Opened.{AreOpenedPlaces, IsSplit, MayBeOpened};
+//! A piece that is opened: `Split` of specs/Opened.antt.
+ghost use Rattle.std.specs.Prelude.{◌≡◌};
+ghost use Rattle.proof_tree.specs.Opened.{IsSplit};
 
-use crate::opening::{is_unlit, kid_places};
+use crate::bars::Bar;
+use crate::branching::Branching;
 use crate::piece::Piece;
 use cave_base::Cell;
-use cave_model::OutOfMemory;
-use std::alloc::Global;
 use std::marker::Model;
 
-/// A piece that is opened on a cell, with the places of its kids.
-#[derive(Debug, Drop)]
+/// A piece that is opened on a cell or at a place, below places that are left out, with the places of its kids.
+#[derive(Drop)]
 pub struct Opened {
     piece: Piece,
-    cell: Cell,
+    bars: Vec<Bar>,
+    on: Branching,
     places: Vec<Cell>,
 }
 
@@ -24,35 +24,26 @@ impl Model for Opened {
 
     ghost coded = { split_coded };
 
-    ghost view = { λ o. record { piece = o.piece; cell = o.cell; places = o.places.items } };
+    ghost view = { λ o. record { piece = o.piece; bars = o.bars.items; on = o.on; places = o.places.items } };
 
-    ghost invariant = { λ o. IsSplit (record { piece = o.piece; cell = o.cell; places = o.places.items }) };
-}
-
-impl Piece {
-    /// The places of the kids that it would have on a cell, ascending. None exactly where it may not be opened on the
-    /// cell, as it isn't one of the region or a chosen place lights it.
-    pub fn places_on(&self, alloc: Global, cell: Cell) -> Result<Option<Vec<Cell>>, OutOfMemory>
-        ensures { IfOk result (λ found. MatchOption found (¬ MayBeOpened self.now cell)
-            (λ places. AreOpenedPlaces self.now cell places.items)) }
-    {
-        if !is_unlit(self.region(), self.chosen(), cell) {
-            return Ok(None);
-        }
-        let places = kid_places(alloc, self.region(), self.barred(), cell)?;
-        Ok(Some(places))
-    }
+    ghost invariant = { λ o. IsSplit (record {
+      piece = o.piece;
+      bars = o.bars.items;
+      on = o.on;
+      places = o.places.items;
+    }) };
 }
 
 impl Opened {
-    /// The piece opened on the cell, with these as its kids' places.
-    pub fn new(piece: Piece, cell: Cell, places: Vec<Cell>) -> Opened
-        requires { IsSplit (record { piece = piece; cell = cell; places = places.items }) }
-        ensures { result ≡ record { piece = piece; cell = cell; places = places.items } }
+    /// The piece opened so, with these as the places of its kids on a cell.
+    pub fn new(piece: Piece, bars: Vec<Bar>, on: Branching, places: Vec<Cell>) -> Opened
+        requires { IsSplit (record { piece = piece; bars = bars.items; on = on; places = places.items }) }
+        ensures { result ≡ record { piece = piece; bars = bars.items; on = on; places = places.items } }
     {
         Opened {
             piece,
-            cell,
+            bars,
+            on,
             places,
         }
     }
@@ -65,14 +56,23 @@ impl Opened {
         &self.piece
     }
 
-    /// The cell that it is opened on.
-    pub fn cell(&self) -> Cell
-        ensures { result ≡ self.now.cell }
+    /// The places that are left out before it is opened, in their order.
+    pub fn bars(&self) -> &[Bar]
+        ensures bars { result.now ≡ self.now.bars }
+        ensures kept { IsSplit self.now }
     {
-        self.cell
+        &self.bars
     }
 
-    /// The places of the kids, ascending: all that light the cell and aren't barred in the piece.
+    /// What it is opened on.
+    pub fn on(&self) -> Branching
+        ensures on { result ≡ self.now.on }
+        ensures kept { IsSplit self.now }
+    {
+        self.on
+    }
+
+    /// The places of the kids on a cell, ascending: all that light it and aren't barred or left out. At a place none.
     pub fn places(&self) -> &[Cell]
         ensures places { result.now ≡ self.now.places }
         ensures kept { IsSplit self.now }

@@ -9,7 +9,6 @@ use std::marker::Model;
 
 /// A tree below a node: of a place or cells that are left out, or of a pick.
 #[cycle(proof)]
-#[derive(Drop)]
 pub struct Below {
     tree: Box<Proof>,
 }
@@ -45,6 +44,28 @@ pub enum Proof {
         with: Below,
         without: Below,
     },
+}
+
+/// One level at a time, so that a long row of bars takes no stack.
+impl Drop for Below {
+    #[cycle(let_go)]
+    fn drop(mut self) {
+        loop {
+            let Below { tree } = self;
+            match Box::into_inner(tree) {
+                Proof::Bar { kid, .. } => self = kid,
+                Proof::Omit { cells: _cells, kid } => self = kid,
+                Proof::Pick {
+                    with: _with,
+                    without,
+                    ..
+                } => self = without,
+                Proof::Leaf(_cells) => return,
+                Proof::Weighted(_groups) => return,
+                Proof::Branch { kids: _kids, .. } => return,
+            }
+        }
+    }
 }
 
 impl Model for Below {
@@ -124,6 +145,15 @@ impl Below {
         ensures { tree_of result.now ≡ self.now }
     {
         &self.tree
+    }
+
+    /// Another tree in the same memory.
+    pub fn holding(self, tree: Proof) -> Below
+        ensures { result ≡ tree_of tree }
+    {
+        let Below { tree: mut room } = self;
+        *room = tree;
+        Below { tree: room }
     }
 
     /// The tree alone, with no new memory.

@@ -1,9 +1,8 @@
 -- The kids of opened pieces, and their names.
 use Rattle.std.proofs.Common.{◌≡◌, ◌⊎◌, inl, inr, ℕ, zero, suc, ◌+◌, ◌<◌, ◌≤◌, Bool, true, false, List, [], ◌∷◌, ◌++◌}
-use Rattle.std.proofs.Common.{length, take, slice_index, refl, sym, ap, ap₂, ◌∙◌, subst, arith}
-use Rattle.std.proofs.Common.{append_assoc, append-nil, zero-add}
+use Rattle.std.proofs.Common.{length, refl, ap, ◌∙◌, subst, arith, zero-add}
 use Rattle.proof_tree.specs.Piece.{Subproblem}
-use Rattle.proof_tree.specs.Opened.{Split, kid_of, kids_from, kids_of}
+use Rattle.proof_tree.specs.Opened.{Split, Step, below_bars, kid_of, kids_from, kids_of, step_at, steps_on}
 use Rattle.proof_tree.specs.Weights.{weigh}
 use Rattle.schedule_law.specs.Names.{is_same_name}
 use Rattle.schedule_law.specs.Joined.{all_kids, pieces_opened}
@@ -11,58 +10,44 @@ use Rattle.schedule_law.proofs.PieceLemmas.{either_way, same_self, same_true, bi
 
 -- ---- the kid of each number
 
--- the first kid has the first number, with no place before it barred
-kid_here : (p : Subproblem) (number : ℕ) (before : List ℕ) (place : ℕ)
-    → kid_of p (number + 0) (before ++ []) place ≡ kid_of p number before place
-kid_here p number before place =
-    let e : number + 0 ≡ number = omega arith in
-    ap₂ (λ n b. kid_of p n b place) e (append-nil before)
-
--- a later kid has the number and the barred places of its place in the list
-kid_later : (p : Subproblem) (number i : ℕ) (before : List ℕ) (x : ℕ) (xs : List ℕ)
-    → kid_of p ((number + 1) + i) ((before ++ x ∷ []) ++ take i xs) (slice_index xs i)
-    ≡ kid_of p (number + suc i) (before ++ x ∷ take i xs) (slice_index xs i)
-kid_later p number i before x xs =
-    let e : (number + 1) + i ≡ number + suc i = omega arith in
-    ap₂ (λ n b. kid_of p n b (slice_index xs i)) e (append_assoc before (x ∷ []) (take i xs))
-
 -- the kid at an index is among the kids
-kid_at : (p : Subproblem) (number : ℕ) (before places : List ℕ) (i : ℕ) → i < length places
-    → IsAmong (kid_of p (number + i) (before ++ take i places) (slice_index places i))
-    (kids_from p number before places)
-kid_at p number before [] i lt = absurd (omega arith)
-kid_at p number before (x ∷ xs) zero lt = inl (kid_here p number before x)
-kid_at p number before (x ∷ xs) (suc i) lt =
-    inr (subst (λ (k : Subproblem). IsAmong k (kids_from p (number + 1) (before ++ x ∷ []) xs))
-    (kid_later p number i before x xs) (kid_at p (number + 1) (before ++ x ∷ []) xs i (omega arith)))
+kid_at : (p : Subproblem) (number : ℕ) (steps : List Step) (i : ℕ) → i < length steps
+    → IsAmong (kid_of p (number + i) (step_at steps i)) (kids_from p number steps)
+kid_at p number [] i lt = absurd (omega arith)
+kid_at p number (x ∷ xs) zero lt = inl (ap (λ n. kid_of p n x) (omega arith))
+kid_at p number (x ∷ xs) (suc i) lt =
+    inr (subst (λ (n : ℕ). IsAmong (kid_of p n (step_at xs i)) (kids_from p (number + 1) xs)) (omega arith)
+    (kid_at p (number + 1) xs i (omega arith)))
 
 -- and each of the kids is at some index
-kid_from : (p : Subproblem) (number : ℕ) (before places : List ℕ) (q : Subproblem)
-    → IsAmong q (kids_from p number before places)
-    → (i : ℕ) × (i < length places) × (q ≡ kid_of p (number + i) (before ++ take i places) (slice_index places i))
-kid_from p number before [] q at = absurd at
-kid_from p number before (x ∷ xs) q (inl e) = (0, omega arith, e ∙ sym (kid_here p number before x))
-kid_from p number before (x ∷ xs) q (inr r) =
-    let k = kid_from p (number + 1) (before ++ x ∷ []) xs q r in
-    (suc k.0, (let lt = k.1 in omega arith), k.2 ∙ kid_later p number k.0 before x xs)
+kid_from : (p : Subproblem) (number : ℕ) (steps : List Step) (q : Subproblem) → IsAmong q (kids_from p number steps)
+    → (i : ℕ) × (i < length steps) × (q ≡ kid_of p (number + i) (step_at steps i))
+kid_from p number [] q at = absurd at
+kid_from p number (x ∷ xs) q (inl e) = (0, omega arith, e ∙ ap (λ n. kid_of p n x) (omega arith))
+kid_from p number (x ∷ xs) q (inr r) =
+    let k = kid_from p (number + 1) xs q r in
+    (suc k.0, (let lt = k.1 in omega arith), k.2 ∙ ap (λ n. kid_of p n (step_at xs k.0)) (omega arith))
+
+-- the steps to the kids of an opened piece
+abbrev pub steps_of : Split → List Step
+steps_of s = steps_on s.on s.places
 
 -- the kid of this number
 abbrev pub numbered_kid : Split → ℕ → Subproblem
-numbered_kid s i = kid_of s.piece i (take i s.places) (slice_index s.places i)
+numbered_kid s i = kid_of (below_bars s.piece s.bars) i (step_at (steps_of s) i)
 
 -- a kid told by its number is among those of its split
-pub numbered_among : (s : Split) (i : ℕ) → i < length s.places → IsAmong (numbered_kid s i) (kids_of s)
+pub numbered_among : (s : Split) (i : ℕ) → i < length (steps_of s) → IsAmong (numbered_kid s i) (kids_of s)
 numbered_among s i lt =
-    subst (λ (n : ℕ). IsAmong (kid_of s.piece n (take i s.places) (slice_index s.places i)) (kids_of s)) (zero-add i)
-    (kid_at s.piece 0 [] s.places i lt)
+    subst (λ (n : ℕ). IsAmong (kid_of (below_bars s.piece s.bars) n (step_at (steps_of s) i)) (kids_of s)) (zero-add i)
+    (kid_at (below_bars s.piece s.bars) 0 (steps_of s) i lt)
 
 -- and each kid of a split is told by its number
 pub among_numbered : (s : Split) (q : Subproblem) → IsAmong q (kids_of s)
-    → (i : ℕ) × (i < length s.places) × (q ≡ numbered_kid s i)
+    → (i : ℕ) × (i < length (steps_of s)) × (q ≡ numbered_kid s i)
 among_numbered s q at =
-    let k = kid_from s.piece 0 [] s.places q at in
-    let e : 0 + k.0 ≡ k.0 = zero-add k.0 in
-    (k.0, k.1, k.2 ∙ ap (λ n. kid_of s.piece n (take k.0 s.places) (slice_index s.places k.0)) e)
+    let k = kid_from (below_bars s.piece s.bars) 0 (steps_of s) q at in
+    (k.0, k.1, k.2 ∙ ap (λ n. kid_of (below_bars s.piece s.bars) n (step_at (steps_of s) k.0)) (zero-add k.0))
 
 -- ---- no name stands twice: by induction on its length
 
@@ -95,16 +80,16 @@ length-parent_name x [] = refl
 length-parent_name x (y ∷ ys) = ap suc (length-parent_name y ys)
 
 -- a kid of this name has the piece of the parent's name for its parent, and the last number
-kid_named : (x : List ℕ) (p : Subproblem) (k : ℕ) (before : List ℕ) (place : ℕ)
-    → (named x (kid_of p k before place) ≤ named (parent_name x) p)
-    × ((named x (kid_of p k before place) ≡ 0) ⊎ (last_number x ≡ k))
-kid_named x p k before place = elim (either_way (is_same_name x (p.name ++ k ∷ []))) [
+kid_named : (x : List ℕ) (p : Subproblem) (k : ℕ) (step : Step)
+    → (named x (kid_of p k step) ≤ named (parent_name x) p)
+    × ((named x (kid_of p k step) ≡ 0) ⊎ (last_number x ≡ k))
+kid_named x p k step = elim (either_way (is_same_name x (p.name ++ k ∷ []))) [
   | inl e ↦ (let is = same_true x (p.name ++ k ∷ []) e in
       let f : parent_name x ≡ p.name = ap parent_name is ∙ parent_name-push p.name k in
       let one : named (parent_name x) p ≡ 1 = ap (λ y. bit (is_same_name y p.name)) f ∙ ap bit (same_self p.name) in
-      let top : named x (kid_of p k before place) ≡ 1 = ap bit e in
+      let top : named x (kid_of p k step) ≡ 1 = ap bit e in
       (omega arith, inr (ap last_number is ∙ last_number-push p.name k)))
-  | inr e ↦ (let none : named x (kid_of p k before place) ≡ 0 = ap bit e in (omega arith, inl none))
+  | inr e ↦ (let none : named x (kid_of p k step) ≡ 0 = ap bit e in (omega arith, inl none))
 ]
 
 -- as few have this name as their parent has the parent's name, and none where its last number is less than theirs
@@ -112,11 +97,11 @@ abbrev AreFew : List ℕ → Subproblem → ℕ → List Subproblem → Type 0
 AreFew x p k ps = (weigh (named x) ps ≤ named (parent_name x) p) × (last_number x < k → weigh (named x) ps ≡ 0)
 
 -- of the kids of a piece at most one has a name, and its parent's name is the piece's
-kids_named : (x : List ℕ) (p : Subproblem) (k : ℕ) (before places : List ℕ) → AreFew x p k (kids_from p k before places)
-kids_named x p k before [] = (omega arith, λ lt. refl)
-kids_named x p k before (q ∷ qs) =
-    let h = kid_named x p k before q in
-    let r = kids_named x p (k + 1) (before ++ q ∷ []) qs in
+kids_named : (x : List ℕ) (p : Subproblem) (k : ℕ) (steps : List Step) → AreFew x p k (kids_from p k steps)
+kids_named x p k [] = (omega arith, λ lt. refl)
+kids_named x p k (q ∷ qs) =
+    let h = kid_named x p k q in
+    let r = kids_named x p (k + 1) qs in
     elim h.1 [
       | inl none ↦ (let c = r.0 in (omega arith, λ lt. (let d = r.1 (omega arith) in omega arith)))
       | inr is ↦ (let d = r.1 (omega arith) in let c = h.0 in (omega arith, λ lt. absurd (omega arith)))
@@ -127,15 +112,15 @@ pub all_named : (x : List ℕ) (ss : List Split)
     → weigh (named x) (all_kids ss) ≤ weigh (named (parent_name x)) (pieces_opened ss)
 all_named x [] = omega arith
 all_named x (s ∷ ss) =
-    let a = (kids_named x s.piece 0 [] s.places).0 in
+    let a = (kids_named x (below_bars s.piece s.bars) 0 (steps_of s)).0 in
     let b = all_named x ss in
     omega (arith, weigh-append (named x) (kids_of s) (all_kids ss))
 
 -- no kid has the empty name
-nil_kids : (p : Subproblem) (k : ℕ) (before places : List ℕ) → weigh (named []) (kids_from p k before places) ≡ 0
-nil_kids p k before [] = refl
-nil_kids p k before (q ∷ qs) =
-    let n = not_nil p.name k in let r = nil_kids p (k + 1) (before ++ q ∷ []) qs in omega arith
+nil_kids : (p : Subproblem) (k : ℕ) (steps : List Step) → weigh (named []) (kids_from p k steps) ≡ 0
+nil_kids p k [] = refl
+nil_kids p k (q ∷ qs) =
+    let n = not_nil p.name k in let r = nil_kids p (k + 1) qs in omega arith
   where
     not_nil : (xs : List ℕ) (k : ℕ) → bit (is_same_name [] (xs ++ k ∷ [])) ≡ 0
     not_nil [] k = refl
@@ -145,7 +130,13 @@ nil_kids p k before (q ∷ qs) =
 pub nil_all : (ss : List Split) → weigh (named []) (all_kids ss) ≡ 0
 nil_all [] = refl
 nil_all (s ∷ ss) =
-    omega (arith, weigh-append (named []) (kids_of s) (all_kids ss), nil_all ss, nil_kids s.piece 0 [] s.places)
+    omega (
+      arith,
+      weigh-append (named []) (kids_of s) (all_kids ss),
+      nil_all ss,
+      nil_kids
+          (below_bars s.piece s.bars) 0 (steps_of s),
+    )
 
 -- a bit is at most one
 at_most_one : (b : Bool) → bit b ≤ 1

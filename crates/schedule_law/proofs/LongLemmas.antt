@@ -1,6 +1,9 @@
 -- The opened pieces by the length of their names.
-use Rattle.std.proofs.Common.{◌≡◌, ◌≢◌, ◌⊎◌, inl, inr, ℕ, ◌+◌, Bool, true, false, eqb, List, [], ◌∷◌, ◌++◌}
-use Rattle.std.proofs.Common.{if◌then◌else◌, length, filter, flat_map, All, refl, sym, ap, ◌∙◌, arith}
+use Rattle.std.proofs.Common.{◌≡◌, ◌≢◌, inl, inr, ℕ, zero, suc, ◌+◌, ◌<◌, ◌≤◌, Bool, true, false, eqb, List, [], ◌∷◌}
+use Rattle.std.proofs.Common.{◌++◌}
+use Rattle.std.proofs.Common.{if◌then◌else◌, length, filter, flat_map, All, refl, sym, ap, ◌∙◌, subst}
+use Rattle.std.proofs.Common.{arith, length-append}
+use Rattle.std.proofs.lemmas.Bool.{cases_eq, cases_lt}
 use Rattle.std.proofs.lemmas.Grind.{flat_map-append}
 use Rattle.std.proofs.lemmas.List.Elements.{filter-append}
 use Rattle.std.proofs.lemmas.List.{map-append}
@@ -9,12 +12,14 @@ use Rattle.proof_tree.specs.Piece.{Subproblem}
 use Rattle.proof_tree.specs.Opened.{Split, kids_of}
 use Rattle.proof_tree.specs.Weights.{weigh}
 use Rattle.event_core.specs.declared.event.Event.{Event}
-use Rattle.event_core.specs.declared.event.Event.TheVariants.{Take, Open}
+use Rattle.event_core.specs.declared.event.Event.TheVariants.{Take}
 use Rattle.schedule_law.specs.Names.{is_same_name}
 use Rattle.schedule_law.specs.Worked.{Worked}
 use Rattle.schedule_law.specs.Joined.{all_kids, all_opened, pieces_opened}
-use Rattle.schedule_law.specs.Listing.{opens_as_long}
+use Rattle.schedule_law.specs.Listing.{opening_of, opens_as_long, longest_name}
 use Rattle.schedule_law.proofs.PieceLemmas.{either_way, eqb_true, eqb_is, same_true, bit, named, weigh-append}
+use Rattle.schedule_law.proofs.PieceLemmas.{IsAmong, among_either, among_left, among_right}
+use Rattle.schedule_law.proofs.KidLemmas.{among_numbered}
 
 -- those whose names are so long
 abbrev pub as_long : ℕ → List Split → List Split
@@ -33,7 +38,7 @@ all_as_long_are n (x ∷ xs) =
 -- the events that take and open each of these pieces
 abbrev pub openings : ℕ → List Split → List Event
 openings worker [] = []
-openings worker (s ∷ ss) = Take worker s.piece.name ∷ Open s.piece.name s.cell ∷ openings worker ss
+openings worker (s ∷ ss) = Take worker s.piece.name ∷ opening_of s ∷ openings worker ss
 
 -- the events that open names of a length are the openings of those splits
 pub openings_are : (n worker : ℕ) (ss : List Split) → opens_as_long n worker ss ≡ openings worker (as_long n ss)
@@ -41,10 +46,20 @@ openings_are n worker [] = refl
 openings_are n worker (s ∷ ss) = opened_first (eqb (length s.piece.name) n) (as_long n ss) (openings_are n worker ss)
   where
     opened_first : (b : Bool) (others : List Split) → opens_as_long n worker ss ≡ openings worker others
-        → (if b then Take worker s.piece.name ∷ Open s.piece.name s.cell ∷ [] else []) ++ opens_as_long n worker ss
+        → (if b then Take worker s.piece.name ∷ opening_of s ∷ [] else []) ++ opens_as_long n worker ss
         ≡ openings worker (if b then s ∷ others else others)
-    opened_first true others e = ap (λ l. Take worker s.piece.name ∷ Open s.piece.name s.cell ∷ l) e
+    opened_first true others e = ap (λ l. Take worker s.piece.name ∷ opening_of s ∷ l) e
     opened_first false others e = e
+
+-- ---- of two lists
+
+-- the kids of two lists of splits, one list after the other
+pub kids-append : (xs ys : List Split) → all_kids (xs ++ ys) ≡ all_kids xs ++ all_kids ys
+kids-append xs ys = flat_map-append kids_of xs ys
+
+-- the pieces of two lists of splits, one list after the other
+pub pieces-append : (xs ys : List Split) → pieces_opened (xs ++ ys) ≡ pieces_opened xs ++ pieces_opened ys
+pieces-append xs ys = map-append (λ s. s.piece) xs ys
 
 -- ---- what they weigh
 
@@ -62,10 +77,6 @@ load_pieces h (s ∷ ss) = omega (arith, load_pieces h ss)
 load_kids : (h : Subproblem → ℕ) (ss : List Split) → load (λ s. weigh h (kids_of s)) ss ≡ weigh h (all_kids ss)
 load_kids h [] = refl
 load_kids h (s ∷ ss) = omega (arith, load_kids h ss, weigh-append h (kids_of s) (all_kids ss))
-
--- the name has one or two numbers
-abbrev pub IsOneOrTwo : Split → Type 0
-IsOneOrTwo s = (length s.piece.name ≡ 1) ⊎ (length s.piece.name ≡ 2)
 
 -- a test finds different numbers different
 eqb_not : (n m : ℕ) → n ≢ m → eqb n m ≡ false
@@ -86,38 +97,181 @@ none_more : (f : Split → ℕ) (n : ℕ) (s : Split) (ss : List Split) → leng
 none_more f n s ss e =
     ap (λ b. load f (if b then s ∷ as_long n ss else as_long n ss)) (eqb_not (length s.piece.name) n e)
 
--- names of one number and of two make up the whole load
-load_both : (f : Split → ℕ) (ss : List Split) → All IsOneOrTwo ss
-    → load f (as_long 1 ss) + load f (as_long 2 ss) ≡ load f ss
-load_both f [] all = refl
-load_both f (s ∷ ss) all =
-    let rest = load_both f ss (All-tail IsOneOrTwo s ss all) in
-    elim (All-head IsOneOrTwo s ss all) [
-      | inl e ↦ (let a = one_more f 1 s ss e in let b = none_more f 2 s ss (λ q. absurd (omega arith)) in omega arith)
-      | inr e ↦ (let a = none_more f 1 s ss (λ q. absurd (omega arith)) in let b = one_more f 2 s ss e in omega arith)
-    ]
+-- what a number of lengths weigh together, from one number on
+abbrev pub sum_to : (ℕ → ℕ) → ℕ → ℕ
+sum_to f zero = 0
+sum_to f (suc n) = sum_to f n + f (suc n)
 
--- the opened pieces are those with names of one number and those with two
-pub pieces_by_length : (h : Subproblem → ℕ) (works : List Worked) → All IsOneOrTwo (all_opened works)
-    → weigh h (pieces_opened (all_as_long 1 works)) + weigh h (pieces_opened (all_as_long 2 works))
-    ≡ weigh h (pieces_opened (all_opened works))
-pieces_by_length h works all =
-    let ss : List Split = all_opened works in
-    let one = ap (λ l. weigh h (pieces_opened l)) (all_as_long_are 1 works) in
-    let two = ap (λ l. weigh h (pieces_opened l)) (all_as_long_are 2 works) in
-    let a = load_both (λ s. h s.piece) ss all in
-    omega (arith, load_pieces h (as_long 1 ss), load_pieces h (as_long 2 ss), load_pieces h ss)
+-- sums of what is equal are equal
+sum_same : (f g : ℕ → ℕ) → ((k : ℕ) → f k ≡ g k) → (n : ℕ) → sum_to f n ≡ sum_to g n
+sum_same f g e zero = refl
+sum_same f g e (suc n) = omega (arith, sum_same f g e n, e (suc n))
 
--- the kids of names of one number and of two are all kids
-pub kids_by_length : (h : Subproblem → ℕ) (works : List Worked) → All IsOneOrTwo (all_opened works)
-    → weigh h (all_kids (all_as_long 1 works)) + weigh h (all_kids (all_as_long 2 works))
+-- the load of the splits whose names have at most so many numbers
+abbrev short_load : (Split → ℕ) → List Split → ℕ → ℕ
+short_load f ss n = sum_to (λ k. load f (as_long k ss)) n
+
+-- without a split, nothing
+short_none : (f : Split → ℕ) (n : ℕ) → short_load f [] n ≡ 0
+short_none f zero = refl
+short_none f (suc n) = omega (arith, short_none f n)
+
+-- a split whose name is longer adds none
+short_past : (f : Split → ℕ) (s : Split) (ss : List Split) (n : ℕ) → n < length s.piece.name
+    → short_load f (s ∷ ss) n ≡ short_load f ss n
+short_past f s ss zero lt = refl
+short_past f s ss (suc n) lt =
+    let rest = short_past f s ss n (omega arith) in
+    let one = none_more f (suc n) s ss (λ e. absurd (omega arith)) in omega arith
+
+-- one whose name isn't longer, and has a number, adds its load
+short_more : (f : Split → ℕ) (s : Split) (ss : List Split) (n : ℕ) → 1 ≤ length s.piece.name
+    → length s.piece.name ≤ n → short_load f (s ∷ ss) n ≡ f s + short_load f ss n
+short_more f s ss zero some le = absurd (omega arith)
+short_more f s ss (suc n) some le = elim (cases_eq (length s.piece.name) (suc n)) [
+  | inl e ↦ (let rest = short_past f s ss n (omega arith) in let one = one_more f (suc n) s ss e in omega arith)
+  | inr ne ↦ (let rest = short_more f s ss n some (omega arith) in let one = none_more f (suc n) s ss ne in omega arith)
+]
+
+-- a split adds at most its load, whatever its name
+short_most : (f : Split → ℕ) (s : Split) (ss : List Split) (n : ℕ) → short_load f (s ∷ ss) n ≤ f s + short_load f ss n
+short_most f s ss n = elim (cases_lt n (length s.piece.name)) [
+  | inl lt ↦ (let a = short_past f s ss n lt in omega arith)
+  | inr le ↦ elim (cases_lt 0 (length s.piece.name)) [
+    | inl some ↦ (let a = short_more f s ss n (omega arith) le in omega arith)
+    | inr none_of ↦ (let a = short_nameless f s ss n (omega arith) in omega arith)
+  ]
+]
+  where
+    -- one without a name adds none
+    short_nameless : (f : Split → ℕ) (s : Split) (ss : List Split) (n : ℕ) → length s.piece.name ≡ 0
+        → short_load f (s ∷ ss) n ≡ short_load f ss n
+    short_nameless f s ss zero e = refl
+    short_nameless f s ss (suc n) e =
+        let rest = short_nameless f s ss n e in
+        let one = none_more f (suc n) s ss (λ q. absurd (omega arith)) in omega arith
+
+-- together at most all
+short_low : (f : Split → ℕ) (ss : List Split) (n : ℕ) → short_load f ss n ≤ load f ss
+short_low f [] n = (let a = short_none f n in omega arith)
+short_low f (s ∷ ss) n = (let a = short_most f s ss n in let b = short_low f ss n in omega arith)
+
+-- the name has a number
+abbrev pub IsNamed : Split → Type 0
+IsNamed s = 1 ≤ length s.piece.name
+
+-- and up to the longest name just all
+short_all : (f : Split → ℕ) (ss : List Split) (n : ℕ) → All IsNamed ss → longest_name ss ≤ n
+    → short_load f ss n ≡ load f ss
+short_all f [] n all le = short_none f n
+short_all f (s ∷ ss) n all le =
+    let a = short_more f s ss n (All-head IsNamed s ss all) (omega arith) in
+    let b = short_all f ss n (All-tail IsNamed s ss all) (omega arith) in omega arith
+
+-- what the opened pieces with names of a length weigh
+long_pieces : (h : Subproblem → ℕ) (works : List Worked) (k : ℕ)
+    → weigh h (pieces_opened (all_as_long k works)) ≡ load (λ s. h s.piece) (as_long k (all_opened works))
+long_pieces h works k = ap (λ l. weigh h (pieces_opened l)) (all_as_long_are k works)
+    ∙ sym (load_pieces h (as_long k (all_opened works)))
+
+-- and their kids
+long_kids : (h : Subproblem → ℕ) (works : List Worked) (k : ℕ)
+    → weigh h (all_kids (all_as_long k works)) ≡ load (λ s. weigh h (kids_of s)) (as_long k (all_opened works))
+long_kids h works k = ap (λ l. weigh h (all_kids l)) (all_as_long_are k works)
+    ∙ sym (load_kids h (as_long k (all_opened works)))
+
+-- those with names of at most so many numbers weigh at most what all opened pieces weigh
+pub pieces_to : (h : Subproblem → ℕ) (works : List Worked) (n : ℕ)
+    → sum_to (λ k. weigh h (pieces_opened (all_as_long k works))) n ≤ weigh h (pieces_opened (all_opened works))
+pieces_to h works n =
+    let a = sum_same (λ k. weigh h (pieces_opened (all_as_long k works)))
+    (λ k. load (λ s. h s.piece) (as_long k (all_opened works))) (long_pieces h works) n in
+    let b = short_low (λ s. h s.piece) (all_opened works) n in
+    omega (arith, load_pieces h (all_opened works))
+
+-- and so do their kids
+pub kids_to : (h : Subproblem → ℕ) (works : List Worked) (n : ℕ)
+    → sum_to (λ k. weigh h (all_kids (all_as_long k works))) n ≤ weigh h (all_kids (all_opened works))
+kids_to h works n =
+    let a = sum_same (λ k. weigh h (all_kids (all_as_long k works)))
+    (λ k. load (λ s. weigh h (kids_of s)) (as_long k (all_opened works))) (long_kids h works) n in
+    let b = short_low (λ s. weigh h (kids_of s)) (all_opened works) n in
+    omega (arith, load_kids h (all_opened works))
+
+-- up to the longest name they are all kids
+pub kids_all : (h : Subproblem → ℕ) (works : List Worked) → All IsNamed (all_opened works)
+    → sum_to (λ k. weigh h (all_kids (all_as_long k works))) (longest_name (all_opened works))
     ≡ weigh h (all_kids (all_opened works))
-kids_by_length h works all =
-    let ss : List Split = all_opened works in
-    let one = ap (λ l. weigh h (all_kids l)) (all_as_long_are 1 works) in
-    let two = ap (λ l. weigh h (all_kids l)) (all_as_long_are 2 works) in
-    let a = load_both (λ s. weigh h (kids_of s)) ss all in
-    omega (arith, load_kids h (as_long 1 ss), load_kids h (as_long 2 ss), load_kids h ss)
+kids_all h works all =
+    let n : ℕ = longest_name (all_opened works) in
+    let a = sum_same (λ k. weigh h (all_kids (all_as_long k works)))
+    (λ k. load (λ s. weigh h (kids_of s)) (as_long k (all_opened works))) (long_kids h works) n in
+    let b = short_all (λ s. weigh h (kids_of s)) (all_opened works) n all (omega arith) in
+    omega (arith, load_kids h (all_opened works))
+
+-- and just all opened pieces
+pub pieces_all : (h : Subproblem → ℕ) (works : List Worked) → All IsNamed (all_opened works)
+    → sum_to (λ k. weigh h (pieces_opened (all_as_long k works))) (longest_name (all_opened works))
+    ≡ weigh h (pieces_opened (all_opened works))
+pieces_all h works all =
+    let n : ℕ = longest_name (all_opened works) in
+    let a = sum_same (λ k. weigh h (pieces_opened (all_as_long k works)))
+    (λ k. load (λ s. h s.piece) (as_long k (all_opened works))) (long_pieces h works) n in
+    let b = short_all (λ s. h s.piece) (all_opened works) n all (omega arith) in
+    omega (arith, load_pieces h (all_opened works))
+
+-- the splits with names of at most so many numbers, shorter names first
+abbrev pub in_turn : ℕ → List Worked → List Split
+in_turn zero works = []
+in_turn (suc n) works = in_turn n works ++ all_as_long (suc n) works
+
+-- what their pieces weigh
+pub pieces_in_turn : (h : Subproblem → ℕ) (works : List Worked) (n : ℕ)
+    → weigh h (pieces_opened (in_turn n works)) ≡ sum_to (λ k. weigh h (pieces_opened (all_as_long k works))) n
+pieces_in_turn h works zero = refl
+pieces_in_turn h works (suc n) =
+    let a = ap (weigh h) (pieces-append (in_turn n works) (all_as_long (suc n) works)) in
+    omega (
+      arith,
+      a,
+      pieces_in_turn h works n,
+      weigh-append h (pieces_opened (in_turn n works)) (pieces_opened (all_as_long (suc n) works)),
+    )
+
+-- and their kids
+pub kids_in_turn : (h : Subproblem → ℕ) (works : List Worked) (n : ℕ)
+    → weigh h (all_kids (in_turn n works)) ≡ sum_to (λ k. weigh h (all_kids (all_as_long k works))) n
+kids_in_turn h works zero = refl
+kids_in_turn h works (suc n) =
+    let a = ap (weigh h) (kids-append (in_turn n works) (all_as_long (suc n) works)) in
+    omega (
+      arith,
+      a,
+      kids_in_turn h works n,
+      weigh-append h (all_kids (in_turn n works)) (all_kids (all_as_long (suc n) works)),
+    )
+
+-- a kid with a name of one number more is one of a split with a name of that length
+pub kids_long : (n : ℕ) (p : Subproblem) (ss : List Split) → length p.name ≡ suc n → IsAmong p (all_kids ss)
+    → IsAmong p (all_kids (as_long n ss))
+kids_long n p [] e at = absurd at
+kids_long n p (s ∷ ss) e at = elim (among_either p (kids_of s) (all_kids ss) at) [
+  | inl kid ↦ (let k = among_numbered s p kid in
+      let long : length p.name ≡ length (s.piece.name ++ k.0 ∷ []) = ap (λ (q : Subproblem). length q.name) k.2 in
+      let is : length s.piece.name ≡ n = omega (arith, long, e, length-append s.piece.name (k.0 ∷ [])) in
+      subst (λ (l : List Split). IsAmong p (all_kids l)) (sym (long_first n s ss is))
+      (among_left p (kids_of s) (all_kids (as_long n ss)) kid))
+  | inr rest ↦ later (eqb (length s.piece.name) n) (as_long n ss) (kids_long n p ss e rest)
+]
+  where
+    later : (b : Bool) (others : List Split) → IsAmong p (all_kids others)
+        → IsAmong p (all_kids (if b then s ∷ others else others))
+    later true others at = among_right p (kids_of s) (all_kids others) at
+    later false others at = at
+
+    long_first : (n : ℕ) (s : Split) (ss : List Split) → length s.piece.name ≡ n
+        → as_long n (s ∷ ss) ≡ s ∷ as_long n ss
+    long_first n s ss e = ap (λ b. if b then s ∷ as_long n ss else as_long n ss) (eqb_is (length s.piece.name) n e)
 
 -- no name of another length is among them
 other_length : (n : ℕ) (y : List ℕ) (ss : List Split) → length y ≢ n
@@ -151,13 +305,3 @@ module _ (P : Split → Type 0) where
       first : (b : Bool) (others : List Split) → All P others → All P (if b then s ∷ others else others)
       first true others rest = All-cons P s others (All-head P s ss all) rest
       first false others rest = rest
-
--- ---- of two lists
-
--- the kids of two lists of splits, one list after the other
-pub kids-append : (xs ys : List Split) → all_kids (xs ++ ys) ≡ all_kids xs ++ all_kids ys
-kids-append xs ys = flat_map-append kids_of xs ys
-
--- the pieces of two lists of splits, one list after the other
-pub pieces-append : (xs ys : List Split) → pieces_opened (xs ++ ys) ≡ pieces_opened xs ++ pieces_opened ys
-pieces-append xs ys = map-append (λ s. s.piece) xs ys

@@ -1,8 +1,7 @@
 -- The results of workers say the same in whatever order they stand.
-use Rattle.std.proofs.Common.{◌≡◌, ℕ, ◌+◌, ◌≤◌, min, List, [], ◌∷◌, ◌++◌, length, Option, Some, None, Contains}
+use Rattle.std.proofs.Common.{◌≡◌, ℕ, ◌+◌, ◌≤◌, List, [], ◌∷◌, ◌++◌, length, Option, Some, None, Contains}
 use Rattle.std.proofs.Common.{refl, sym, ◌∙◌, subst, arith, ◌⊎◌, inl, inr}
 use Rattle.std.specs.Prelude.{All, IsPermutation}
-use Rattle.std.specs.List.{sum_by}
 use Rattle.std.proofs.lemmas.List.Elements.{Contains-append_cases, Contains-append_left, Contains-append_right}
 use Rattle.std.proofs.lemmas.List.Elements.{Contains-push, Contains-push_cases}
 use Rattle.std.proofs.lemmas.List.Recursion.{is_sum_by}
@@ -15,7 +14,7 @@ use Rattle.proof_tree.specs.Opened.{Split, kids_of}
 use Rattle.proof_tree.specs.Weights.{weigh}
 use Rattle.schedule_law.specs.Worked.{Worked, IsWork}
 use Rattle.schedule_law.specs.Joined.{AreJoined, all_back, all_closed, all_kids, all_opened, least_size, less_by}
-use Rattle.schedule_law.specs.Joined.{pieces_closed, pieces_opened, root_split}
+use Rattle.schedule_law.specs.Joined.{pieces_closed, pieces_opened}
 use Rattle.schedule_law.proofs.PieceLemmas.{weigh-append}
 
 -- ---- sums over workers
@@ -108,18 +107,18 @@ least_moved n works others p = omega (
 
 -- ---- joined results
 
-pub joined_in_any_order : (region : Instance) (first : List ℕ) (cell : ℕ) (places : List ℕ) (works others : List Worked)
-    (left : List Subproblem) → IsPermutation works others → AreJoined region first cell places works left
-    → AreJoined region first cell places others left
-joined_in_any_order region first cell places works others left p j = record {
-  root = j.root;
+pub joined_in_any_order : (region : Instance) (first : List ℕ) (root : Split) (works others : List Worked)
+    (left : List Subproblem) → IsPermutation works others → AreJoined region first root works left
+    → AreJoined region first root others left
+joined_in_any_order region first root works others left p j = record {
+  of_root = j.of_root;
   fit = subst (λ (n : ℕ). All (IsWork region n) others) (least_moved (length first) works others p)
       (All-permutation (IsWork region (least_size (length first) works)) works others p j.fit);
   balance = λ h. omega (
     arith,
     j.balance h,
-    weigh-append h (kids_of (root_split region cell places)) (all_kids (all_opened works)),
-    weigh-append h (kids_of (root_split region cell places)) (all_kids (all_opened others)),
+    weigh-append h (kids_of root) (all_kids (all_opened works)),
+    weigh-append h (kids_of root) (all_kids (all_opened others)),
     moved (λ ws. weigh h (all_kids (all_opened ws))) (λ w. weigh h (all_kids w.opened)) refl
         (λ w ws. kids_append h w.opened (all_opened ws)) works others p,
     moved (λ ws. weigh h (pieces_opened (all_opened ws))) (λ w. weigh h (pieces_opened w.opened)) refl

@@ -4,14 +4,14 @@ use Rattle.std.proofs.Common.{◌≡◌, inl, inr, ℕ, ◌+◌, ◌<◌, ◌≤
 use Rattle.std.proofs.Common.{refl, sym, ap, ◌∙◌, subst, subst₂, arith, append_assoc, append-nil, le_trans}
 use Rattle.std.proofs.lemmas.List.{map-append}
 use Rattle.std.proofs.lemmas.List.Elements.{All-head, All-tail}
-use Rattle.set_cover.specs.Instance.{Instance, of_instance}
-use Rattle.proof_rules.specs.Good.{IsUnlit}
+use Rattle.set_cover.specs.Instance.{Instance}
 use Rattle.proof_tree.specs.Piece.{Subproblem, Fathomed}
-use Rattle.proof_tree.specs.Opened.{Split, kids_of}
+use Rattle.proof_tree.specs.Opened.{MayBeOpened, Split, kids_of}
 use Rattle.proof_tree.specs.Weights.{weigh}
 use Rattle.event_core.specs.State.{State, waiting, held, closed, HasPart}
 use Rattle.event_core.specs.Events.{MayTake, Turns}
 use Rattle.event_core.specs.declared.event.Event.{Event}
+use Rattle.event_core.proofs.MoveLemmas.{opening_does, opening_enabled}
 use Rattle.schedule_law.specs.Worked.{Worked, IsWork, IsOpenedIn, IsClosedFrom}
 use Rattle.schedule_law.specs.Joined.{all_kids, all_closed, pieces_opened, pieces_closed}
 use Rattle.schedule_law.specs.Listing.{opens_as_long, opens, closes_of, closes, AllEnabled}
@@ -19,7 +19,7 @@ use Rattle.schedule_law.proofs.PieceLemmas.{named, one_named, IsAmong, weigh-app
 use Rattle.schedule_law.proofs.LongLemmas.{as_long, all_as_long, openings, openings_are, all_in_long}
 use Rattle.schedule_law.proofs.LongLemmas.{kids-append, pieces-append}
 use Rattle.schedule_law.proofs.TurnLemmas.{Knows, Keeps, keeps_self, keeps_on, turned_keeps, opened_keeps}
-use Rattle.schedule_law.proofs.TurnLemmas.{other_name, unused_before, after_opening}
+use Rattle.schedule_law.proofs.TurnLemmas.{other_name, unused_before, after_opening, way_of}
 
 -- ---- one piece is taken
 
@@ -120,18 +120,19 @@ opens_go region w (s ∷ ss) rest state made used lt of all knows ready go =
           (let keeps : Keeps state mid = turned_keeps state p.name (held w) mid taken in
           let holds : HasPart mid p.name p.chosen p.barred (held w) = taken.here p.chosen p.barred waiting waits in
           let same : mid.region ≡ p.region = keeps.same_region ∙ of ∙ sym in_it.of_it in (
-            record {
+            (opening_enabled mid p.name s.bars s.on).0 (record {
               chosen = p.chosen;
               barred = p.barred;
               status = held w;
               there = holds;
               left = tt;
-              unlit = subst (λ (r : Instance). IsUnlit (of_instance r) r.cells p.chosen s.cell) (sym same)
-                  in_it.opens.unlit;
-            },
-            λ next opened.
-                (let kept : Keeps state next =
-                keeps_on state mid next keeps (opened_keeps mid p.name s.cell next opened) in
+              opens = subst (λ (r : Instance). MayBeOpened (record p { region = r }) s.bars s.on) (sym same)
+                  in_it.opens.opens;
+            }),
+            λ next does.
+                (let opened = (opening_does mid p.name s.bars s.on next).1 does in
+                let kept : Keeps state next =
+                keeps_on state mid next keeps (opened_keeps mid p.name (way_of s) next opened) in
                 opens_go region w ss rest next (made ++ kids_of s) (used ++ p ∷ [])
                 (subst (λ (l : List ℕ). w < length l) (sym kept.same_seen) lt) (kept.same_region ∙ of)
                 (All-tail (IsOpenedIn region) s ss all)

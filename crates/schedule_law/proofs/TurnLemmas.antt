@@ -1,17 +1,18 @@
 -- What a state knows after a piece was taken and opened or closed.
 use Rattle.std.proofs.Common.{◌≡◌, ◌≢◌, inl, inr, ℕ, ◌<◌, ◌≤◌, List, [], ◌∷◌, ◌++◌, length}
 use Rattle.std.proofs.Common.{refl, sym, ap, ◌∙◌, subst, arith}
-use Rattle.set_cover.specs.Instance.{Instance, of_instance}
-use Rattle.proof_rules.specs.Good.{AreOpen}
+use Rattle.set_cover.specs.Instance.{Instance}
 use Rattle.proof_tree.specs.Piece.{Subproblem}
-use Rattle.proof_tree.specs.Opened.{Split, IsSplit, kids_of}
+use Rattle.proof_tree.specs.Opened.{ArePlacesOn, Split, IsSplit, below_bars, kids_of}
+use Rattle.proof_tree.specs.declared.branching.Branching.{Branching}
+use Rattle.proof_tree.specs.declared.branching.Branching.TheVariants.{Cell, Place}
 use Rattle.proof_tree.specs.Weights.{weigh}
 use Rattle.proof_tree.proofs.OrderLemmas.{rises_from, one_order}
-use Rattle.event_core.specs.State.{State, Status, waiting, HasPart}
+use Rattle.event_core.specs.State.{State, Status, Way, waiting, HasPart}
 use Rattle.event_core.specs.Events.{Turns, Opens, IsParted}
 use Rattle.schedule_law.specs.Names.{is_same_name}
 use Rattle.schedule_law.proofs.PieceLemmas.{bit, named, one_named, IsAmong, weigh-append, named_among, among_either}
-use Rattle.schedule_law.proofs.KidLemmas.{numbered_kid, numbered_among, among_numbered}
+use Rattle.schedule_law.proofs.KidLemmas.{numbered_kid, numbered_among, among_numbered, steps_of}
 
 -- each of these pieces waits, but those whose names were used
 abbrev pub Knows : State → List Subproblem → List Subproblem → Type 0
@@ -46,8 +47,8 @@ turned_keeps old name status new t = record {
 }
 
 -- opening a piece keeps all but the pieces
-pub opened_keeps : (old : State) (name : List ℕ) (cell : ℕ) (new : State) → Opens old name cell new → Keeps old new
-opened_keeps old name cell new o = record {
+pub opened_keeps : (old : State) (name : List ℕ) (way : Way) (new : State) → Opens old name way new → Keeps old new
+opened_keeps old name way new o = record {
   same_region = ap (λ (s : State). s.region) o.kept;
   same_best = ap (λ (s : State). s.best) o.kept;
   same_seen = ap (λ (s : State). s.seen) o.kept;
@@ -66,28 +67,40 @@ pub unused_before : (used : List Subproblem) (p : Subproblem) (x : List ℕ) →
     → weigh (named x) used ≡ 0
 unused_before used p x none = (let sum = weigh-append (named x) used (p ∷ []) in omega arith)
 
--- a cell's open places stand in one list alone
-one_list : (region : Instance) (barred : List ℕ) (cell : ℕ) (xs ys : List ℕ)
-    → AreOpen (of_instance region) barred cell xs → AreOpen (of_instance region) barred cell ys → xs ≡ ys
-one_list region barred cell xs ys a b = one_order xs ys (rises_from xs a.ascending) (rises_from ys b.ascending)
+-- in what way the piece is opened
+abbrev pub way_of : Split → Way
+way_of s = record { bars = s.bars; on = s.on }
+
+-- the kids' places stand in one list alone
+one_list : (piece : Subproblem) (on : Branching) (xs ys : List ℕ) → ArePlacesOn piece on xs → ArePlacesOn piece on ys
+    → xs ≡ ys
+one_list piece (Cell cell) xs ys a b = one_order xs ys (rises_from xs a.ascending) (rises_from ys b.ascending)
     (λ z h. (b.exact z).1 ((a.exact z).0 h)) (λ z h. (a.exact z).1 ((b.exact z).0 h))
+one_list piece (Place place) xs ys a b = a ∙ sym b
+
+-- a piece that is opened has the kids of the places that it is to be opened with
+pub opened_parted : (mid new : State) (s : Split) (was : Status)
+    → HasPart mid s.piece.name s.piece.chosen s.piece.barred was → mid.region ≡ s.piece.region → IsSplit s
+    → Opens mid s.piece.name (way_of s) new
+    → IsParted mid s.piece.name s.piece.chosen s.piece.barred (way_of s) s.places new
+opened_parted mid new s was is of_it split o =
+    let p = o.parted s.piece.chosen s.piece.barred was is in
+    let at_it : ArePlacesOn (below_bars s.piece s.bars) s.on p.0 =
+    subst (λ (r : Instance). ArePlacesOn (below_bars (record s.piece { region = r }) s.bars) s.on p.0) of_it p.1 in
+    subst (λ (ps : List ℕ). IsParted mid s.piece.name s.piece.chosen s.piece.barred (way_of s) ps new)
+    (one_list (below_bars s.piece s.bars) s.on p.0 s.places at_it split.all) p.2
 
 -- a piece is opened, and its kids wait
 module _ (old mid new : State) (s : Split) (was : Status) (made used : List Subproblem)
     (is : HasPart mid s.piece.name s.piece.chosen s.piece.barred was)
     (others_stay : (other : List ℕ) → other ≢ s.piece.name → mid.part_at other ≡ old.part_at other)
-    (of_it : mid.region ≡ s.piece.region) (split : IsSplit s) (o : Opens mid s.piece.name s.cell new)
+    (of_it : mid.region ≡ s.piece.region) (split : IsSplit s) (o : Opens mid s.piece.name (way_of s) new)
     (knows : Knows old made used) (once : (x : List ℕ) → weigh (named x) (made ++ kids_of s) ≤ 1) where
-  parted : IsParted mid s.piece.name s.piece.chosen s.piece.barred s.cell s.places new
-  parted =
-      let p = o.parted s.piece.chosen s.piece.barred was is in
-      let at_it : AreOpen (of_instance s.piece.region) s.piece.barred s.cell p.0 =
-      subst (λ (r : Instance). AreOpen (of_instance r) s.piece.barred s.cell p.0) of_it p.1 in
-      subst (λ (ps : List ℕ). IsParted mid s.piece.name s.piece.chosen s.piece.barred s.cell ps new)
-      (one_list s.piece.region s.piece.barred s.cell p.0 s.places at_it split.all) p.2
+  parted : IsParted mid s.piece.name s.piece.chosen s.piece.barred (way_of s) s.places new
+  parted = opened_parted mid new s was is of_it split o
 
   -- a piece that came to be before is no kid
-  no_kid : (q : Subproblem) → IsAmong q made → (number : ℕ) → number < length s.places
+  no_kid : (q : Subproblem) → IsAmong q made → (number : ℕ) → number < length (steps_of s)
       → q.name ≢ s.piece.name ++ number ∷ []
   no_kid q at number lt e =
       let kid : Subproblem = numbered_kid s number in

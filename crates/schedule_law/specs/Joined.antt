@@ -7,9 +7,9 @@ use Rattle.proof_tree.specs.Opened.{Split, IsSplit, kids_of}
 use Rattle.proof_tree.specs.Weights.{weigh}
 use Rattle.schedule_law.specs.Worked.{Worked, IsWork}
 
--- the root opened on a cell, with the places of its kids
-abbrev pub root_split : Instance → ℕ → List ℕ → Split
-root_split region cell places = record { piece = root_of region; cell = cell; places = places }
+-- the root of the region, opened as it may be
+abbrev pub IsRootSplit : Instance → Split → Type 0
+IsRootSplit region root = (root.piece ≡ root_of region) × IsSplit root
 
 -- the kids of what was opened, piece after piece
 abbrev pub all_kids : List Split → List Subproblem
@@ -19,7 +19,7 @@ all_kids splits = flat_map kids_of splits
 abbrev pub pieces_closed : List Fathomed → List Subproblem
 pieces_closed closed = map (λ fathomed. fathomed.piece) closed
 
--- the pieces without their cells and places
+-- the pieces without how they are opened
 abbrev pub pieces_opened : List Split → List Subproblem
 pieces_opened opened = map (λ split. split.piece) opened
 
@@ -47,11 +47,11 @@ least_size size (work ∷ works) = less_by (least_size size works) work.cover
 
 -- the caller opened the root. Each piece that came to be was opened, closed, handed back or left in a deque, and just
 -- once; each floor reaches the least size of a cover
-pub record AreJoined (region : Instance) (first : List ℕ) (cell : ℕ) (places : List ℕ) (works : List Worked)
+pub record AreJoined (region : Instance) (first : List ℕ) (root : Split) (works : List Worked)
     (left : List Subproblem) : Type 0 where
-  pub root : IsSplit (root_split region cell places)
+  pub of_root : IsRootSplit region root
   pub fit : All (IsWork region (least_size (length first) works)) works
   pub balance : (weight : Subproblem → ℕ)
-      → weigh weight (all_kids (root_split region cell places ∷ all_opened works))
+      → weigh weight (all_kids (root ∷ all_opened works))
       ≡ weigh weight (pieces_opened (all_opened works)) + weigh weight (pieces_closed (all_closed works))
       + weigh weight (all_back works) + weigh weight left

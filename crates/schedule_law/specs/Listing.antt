@@ -1,28 +1,43 @@
 -- The list of events that the results of workers stand for. This is this project's own.
 -- It isn't the order in time: offers stand before all closing, which the results allow.
-use Rattle.std.specs.Prelude.{ℕ, ◌+◌, List, [], ◌∷◌, ◌++◌, length, eqb, Option, Some, None}
+use Rattle.std.specs.Prelude.{ℕ, zero, suc, ◌+◌, List, [], ◌∷◌, ◌++◌, length, max, eqb, Option, Some, None}
 use Rattle.std.specs.Prelude.{if◌then◌else◌}
 use Rattle.instance_regions.specs.Cover.{Covering}
 use Rattle.proof_tree.specs.Piece.{Fathomed}
 use Rattle.proof_tree.specs.Opened.{Split}
 use Rattle.event_core.specs.State.{State}
-use Rattle.event_core.specs.Events.{IsEnabled, Does}
+use Rattle.event_core.specs.Events.{IsEnabled, Does, opening_on}
 use Rattle.event_core.specs.declared.event.Event.{Event}
-use Rattle.event_core.specs.declared.event.Event.TheVariants.{Look, Offer, Take, Open, Close}
+use Rattle.event_core.specs.declared.event.Event.TheVariants.{Look, Offer, Take, Close}
+use Rattle.schedule_law.specs.Joined.{all_opened}
 use Rattle.schedule_law.specs.Worked.{Worked}
+
+-- the event that opens the piece
+abbrev pub opening_of : Split → Event
+opening_of split = opening_on split.piece.name split.bars split.on
 
 -- a worker takes pieces whose names are so long, and opens each
 abbrev pub opens_as_long : ℕ → ℕ → List Split → List Event
 opens_as_long size worker [] = []
 opens_as_long size worker (split ∷ splits) =
     (if eqb (length split.piece.name) size
-    then Take worker split.piece.name ∷ Open split.piece.name split.cell ∷ []
+    then Take worker split.piece.name ∷ opening_of split ∷ []
     else []) ++ opens_as_long size worker splits
 
 -- the workers from this number on take pieces whose names are so long, and open each
 abbrev pub opens : ℕ → ℕ → List Worked → List Event
 opens size worker [] = []
 opens size worker (work ∷ works) = opens_as_long size worker work.opened ++ opens size (worker + 1) works
+
+-- the workers take pieces whose names are at most so long, and open each, shorter names first
+abbrev pub opens_to : ℕ → List Worked → List Event
+opens_to zero works = []
+opens_to (suc size) works = opens_to size works ++ opens (suc size) 0 works
+
+-- the length of the longest name of a piece that was opened
+abbrev pub longest_name : List Split → ℕ
+longest_name [] = 0
+longest_name (split ∷ splits) = max (length split.piece.name) (longest_name splits)
 
 -- a worker offers the cover that it found, if it found one
 abbrev pub offer_of : ℕ → Option Covering → List Event
@@ -50,12 +65,13 @@ closes worker [] = []
 closes worker (work ∷ works) = closes_of worker work.closed ++ closes (worker + 1) works
 
 -- what comes before all closing: the caller opens the root, workers open pieces, shorter names first, offer and look
-abbrev pub before_closes : ℕ → List Worked → List Event
-before_closes cell works = Open [] cell ∷ opens 1 0 works ++ opens 2 0 works ++ offers 0 works ++ looks 0 works
+abbrev pub before_closes : Split → List Worked → List Event
+before_closes root works =
+    opening_of root ∷ opens_to (longest_name (all_opened works)) works ++ offers 0 works ++ looks 0 works
 
 -- the whole list
-abbrev pub listing : ℕ → List Worked → List Event
-listing cell works = before_closes cell works ++ closes 0 works
+abbrev pub listing : Split → List Worked → List Event
+listing root works = before_closes root works ++ closes 0 works
 
 -- each event is enabled when its turn comes, whatever state those before it left
 abbrev pub AllEnabled : State → List Event → Type 0

@@ -1,5 +1,5 @@
 -- What a worker hands over once it is joined. This is this project's own.
-use Rattle.std.specs.Prelude.{◌≡◌, ℕ, ◌≤◌, ◌<◌, List, length, Option, All, IfSome, refl}
+use Rattle.std.specs.Prelude.{◌≡◌, ℕ, ◌≤◌, List, Option, All, IfSome, refl}
 use Rattle.std.specs.Coded.{Coded, code_by, coded×, coded_list, coded_option}
 use Rattle.set_cover.specs.Instance.{Instance}
 use Rattle.instance_regions.specs.Cover.{Covering, covering_coded, IsCover}
@@ -36,10 +36,9 @@ pub record IsClosedFrom (region : Instance) (least : ℕ) (closed : Fathomed) : 
   pub reaches : least ≤ closed.floor
   pub proved : IsClosed closed
 
--- a piece of this region with a short name, opened on a cell that its chosen places don't light
+-- a piece of this region, opened as it may be
 pub record IsOpenedIn (region : Instance) (split : Split) : Type 0 where
   pub of_it : split.piece.region ≡ region
-  pub short : length split.piece.name < 3
   pub opens : IsSplit split
 
 -- what it hands over is of this region, and its floors are at least this size

@@ -1,16 +1,15 @@
 -- What a report's numbers add up to.
-use Rattle.std.proofs.Common.{◌≡◌, ℕ, zero, suc, ◌+◌, List, [], ◌∷◌, ◌++◌, length, refl, sym, ap, ◌∙◌, subst, arith}
+use Rattle.std.proofs.Common.{◌≡◌, ℕ, zero, suc, ◌+◌, List, [], ◌∷◌, ◌++◌, length, refl, sym, ap, ◌∙◌, arith}
 use Rattle.std.specs.Prelude.{map, replicate}
 use Rattle.set_cover.specs.Instance.{Instance}
 use Rattle.proof_tree.specs.Opened.{Split}
 use Rattle.proof_tree.specs.Piece.{Subproblem}
-use Rattle.schedule_law.specs.Joined.{AreJoined, all_closed, all_kids, all_opened, root_split}
+use Rattle.schedule_law.specs.Joined.{AreJoined, all_closed, all_kids, all_opened}
 use Rattle.schedule_law.specs.Worked.{Worked}
 use Rattle.schedule_law.proofs.LawLemmas.{counts}
 use Rattle.gathering.specs.Counted.{AreCounted}
 use Rattle.gathering.specs.Gathered.{Gathering, IsGathered}
 use Rattle.gathering.proofs.LawLemmas.{counted}
-use Rattle.worker_results.specs.Joining.{IsRootSplit}
 use Rattle.search_pool.specs.Reports.{sum_of}
 use Rattle.search_pool.specs.Tallies.{AreTallied}
 use Rattle.search_pool.specs.declared.piece_counts.PieceCounts.{PieceCounts}
@@ -31,28 +30,20 @@ sum_of_closed [] = refl
 sum_of_closed (work ∷ works) =
     let rest = sum_of_closed works in let all = length-append work.closed (all_closed works) in omega (arith, rest, all)
 
--- an opened root is the one of these places
-root_is : (region : Instance) (root : Split) → IsRootSplit region root → root_split region root.cell root.places ≡ root
-root_is region root is =
-    ap (λ (p : Subproblem). record { piece = p; cell = root.cell; places = root.places }) (sym is.0)
-
 module _ (region : Instance) (first : List ℕ) (root : Split) (works : List Worked) (left : List Subproblem)
-    (joined : AreJoined region first root.cell root.places works left) where
+    (joined : AreJoined region first root works left) where
   -- what was gathered counts all
-  pub counted_at : (cell : ℕ) (gathered : Gathering) → cell ≡ root.cell
-      → IsGathered region first cell works gathered → AreCounted works left gathered
-  counted_at cell gathered same is =
-      counted region first root.cell root.places works left joined gathered
-      (subst (λ n. IsGathered region first n works gathered) same is)
+  pub counted_at : (gathered : Gathering) → IsGathered region first root works gathered
+      → AreCounted works left gathered
+  counted_at gathered is = counted region first root works left joined gathered is
 
   -- all that came to be is what was opened, closed, handed back or left
-  pub all_came : (tally : PieceCounts) → IsRootSplit region root → AreTallied works tally
+  pub all_came : (tally : PieceCounts) → AreTallied works tally
       → length (all_kids (root ∷ all_opened works))
       ≡ tally.opened + tally.closed + (tally.held + tally.refused) + length left
-  all_came tally is told =
-      ap (λ (s : Split). length (all_kids (s ∷ all_opened works))) (sym (root_is region root is))
-      ∙ (let all = counts region first root.cell root.places works left joined in
-      let a = told.closed in let b = told.opened in let c = told.back in omega (arith, all, a, b, c))
+  all_came tally told =
+      let all = counts region first root works left joined in
+      let a = told.closed in let b = told.opened in let c = told.back in omega (arith, all, a, b, c)
 
 -- the caller's thread closed what was handed back and what was left
 pub all_gleaned : (works : List Worked) (left : List Subproblem) (gathered : Gathering) (tally : PieceCounts)

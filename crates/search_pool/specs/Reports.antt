@@ -7,13 +7,12 @@ use Rattle.proof_tree.specs.Opened.{Split}
 use Rattle.proof_tree.specs.Piece.{Subproblem}
 use Rattle.search_traits.specs.Planned.{IsLeaf, IsStopped}
 use Rattle.search_traits.specs.Turns.{IsShareSpent}
-use Rattle.schedule_law.specs.Joined.{all_back, all_kids, all_opened}
+use Rattle.schedule_law.specs.Joined.{IsRootSplit, all_back, all_kids, all_opened}
 use Rattle.schedule_law.specs.Worked.{IsCoverFor, Worked}
 use Rattle.gathering.specs.Gathered.{IsGathered}
 use Rattle.gathering.specs.declared.fault.PoolFault.{PoolFault}
 use Rattle.gathering.specs.declared.fault.PoolFault.TheVariants.{Stopped, NoThread, OutOfMemory}
 use Rattle.gathering.specs.declared.merge.Gathered.{Gathered}
-use Rattle.worker_results.specs.Joining.{IsRootSplit}
 use Rattle.search_pool.specs.Runs.{IsRun}
 use Rattle.search_pool.specs.Rows.{counted}
 use Rattle.search_pool.specs.Tallies.{all_refused}
@@ -75,7 +74,7 @@ pub record IsMerged (region : Instance) (workers : ℕ) (report : Report) : Type
   pub left : List Subproblem
   pub run : IsRun region first.places root workers works left
   pub names : List (List ℕ)
-  pub gathered : IsGathered region first.places root.cell works (record {
+  pub gathered : IsGathered region first.places root works (record {
     cover = report.cover;
     tree = tree_of report.proof;
     closed_by = report.closed_by.items;

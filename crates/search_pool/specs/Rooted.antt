@@ -1,8 +1,8 @@
 -- What workers begin with. This is this project's own.
 use Rattle.set_cover.specs.Instance.{Instance}
+use Rattle.schedule_law.specs.Joined.{IsRootSplit}
 use Rattle.schedule_law.specs.Worked.{IsCoverFor}
 use Rattle.search_traits.specs.Planned.{IsFloor}
-use Rattle.worker_results.specs.Joining.{IsRootSplit}
 use Rattle.search_pool.specs.declared.rooted.Rooted.{Rooted}
 
 -- a cover of the region, a size that none of its covers is below, and its root, opened

@@ -11,7 +11,7 @@ use Rattle.search_pool.specs.declared.pool.Ran.{Ran}
 -- the joined results of so many workers over the kids of this root, from a first cover with these places
 pub record IsRun (region : Instance) (first : List ℕ) (root : Split) (workers : ℕ) (works : List Worked)
     (left : List Subproblem) : Type 0 where
-  pub joined : AreJoined region first root.cell root.places works left
+  pub joined : AreJoined region first root works left
   pub each : length works ≡ workers
 
 -- workers hand over the results of such a run, and what they were granted of these turns

@@ -47,7 +47,7 @@ pub(crate) fn merged<C: Closer>(
     let counts = count_pieces(&works);
     let left = left.len() as u128;
     let rest = left_of(turns, granted, is_spent);
-    match gather(search, cover, root.cell(), works, rest) {
+    match gather(search, cover, &root, works, rest) {
         Ok(gathered) => Ok(report(gathered, counts, left, granted)),
         Err(
             PoolFault::Stopped {

@@ -6,7 +6,7 @@ ghost use Rattle.beacon.specs.Marks.{at_first};
 ghost use Rattle.proof_tree.specs.Opened.{kids_of};
 ghost use Rattle.search_pool.specs.Runs.{HandOver};
 ghost use Rattle.search_pool.specs.Slots.{AreDealt};
-ghost use Rattle.worker_results.specs.Joining.{IsRootSplit};
+ghost use Rattle.schedule_law.specs.Joined.{IsRootSplit};
 
 use crate::run::run_scope;
 use crate::slots::{fill, lend_all, owned, split_seats};

@@ -4,11 +4,12 @@ ghost use Rattle.std.specs.Arc.{arc_value};
 ghost use Rattle.std.specs.Prelude.{Contains, IfOk};
 ghost use Rattle.search_pool.specs.Rooted.{IsRooted};
 ghost use Rattle.search_traits.specs.Pieces.{IsBeginning};
-ghost use Rattle.worker_results.specs.Joining.{IsRootSplit};
+ghost use Rattle.schedule_law.specs.Joined.{IsRootSplit};
 
 use cave_base::Cell;
 use instance_regions::{Cover, Region};
-use proof_tree::{Opened, Piece};
+use pack_bound::places_for;
+use proof_tree::{Branching, Opened, Piece};
 use search_traits::Beginning;
 use std::alloc::{AllocError, Global};
 use std::sync::Arc;
@@ -44,8 +45,9 @@ fn root_on(alloc: Global, region: &Arc<Region>, cell: Cell) -> Result<Opened, Al
     ensures { IfOk result (IsRootSplit (arc_value region.now)) }
 {
     let piece = Piece::root(alloc, region)?;
-    match piece.places_on(alloc, cell)? {
-        Some(places) => Ok(Opened::new(piece, cell, places)),
+    let on = Branching::Cell(cell);
+    match places_for(alloc, &piece, &[], on)? {
+        Some(places) => Ok(Opened::new(piece, Vec::new(alloc), on, places)),
         None => unreachable!(),
     }
 }

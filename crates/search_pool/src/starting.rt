@@ -3,7 +3,7 @@
 ghost use Rattle.std.specs.Arc.{arc_value};
 ghost use Rattle.std.specs.Prelude.{IfOk};
 ghost use Rattle.search_pool.specs.Runs.{HandOver};
-ghost use Rattle.worker_results.specs.Joining.{IsRootSplit};
+ghost use Rattle.schedule_law.specs.Joined.{IsRootSplit};
 
 use crate::pool::{Ran, Run, run_named};
 use crate::stock::{Stock, stock_for};

@@ -24,7 +24,7 @@ pub use desk::Desk;
 pub use halt::Halt;
 pub use observer::{Observer, Unobserved};
 pub use planner::{Allowance, BestPlan, Planner};
-pub use proposer::{Branching, Proposal, Proposer, Strategy, Task};
+pub use proposer::{Proposal, Proposer, Strategy, Task};
 pub use region_fault::{RegionFault, RegionPlan};
 pub use shared_search::SharedSearch;
 pub use two_searches::{

@@ -4,7 +4,7 @@ ghost use Rattle.pack_bound.specs.Nodes.{IsStateOf};
 use cave_base::Cell;
 use instance_regions::Region;
 use pack_bound::Node;
-use proof_tree::{Bar, Proof};
+use proof_tree::{Bar, Branching, Proof};
 use std::alloc::{AllocError, Global};
 
 /// What is asked of a proposer.
@@ -18,15 +18,6 @@ pub struct Task<'a> {
     pub refused: u32,
     /// Whether a place may be picked.
     pub may_pick: bool,
-}
-
-/// What a search goes on with at a node, by an index in the region.
-#[derive(Clone, Copy)]
-pub enum Branching {
-    /// A branch on this cell: one of the places that may light it is chosen.
-    Cell(u32),
-    /// A pick of this place: it is chosen, or barred.
-    Place(u32),
 }
 
 /// What is proposed at a node, by the indices of cells and places in the region.

@@ -5,17 +5,17 @@ use Rattle.std.proofs.lemmas.List.{map-append}
 use Rattle.beacon.specs.declared.known.Known.{Known}
 use Rattle.beacon.specs.Marks.{AtLeast}
 use Rattle.set_cover.specs.Instance.{Instance}
-use Rattle.proof_tree.specs.Piece.{Subproblem, Fathomed, root_of}
-use Rattle.proof_tree.specs.Opened.{Split, IsSplit, kids_of}
+use Rattle.proof_tree.specs.Piece.{Subproblem, Fathomed}
+use Rattle.proof_tree.specs.Opened.{Split, kids_of}
 use Rattle.proof_tree.specs.Weights.{weigh}
 use Rattle.schedule_law.specs.Worked.{Worked}
-use Rattle.schedule_law.specs.Joined.{AreJoined, all_back, all_closed, all_kids, all_opened, least_size}
-use Rattle.schedule_law.specs.Joined.{pieces_closed, pieces_opened, root_split}
+use Rattle.schedule_law.specs.Joined.{AreJoined, IsRootSplit, all_back, all_closed, all_kids, all_opened, least_size}
+use Rattle.schedule_law.specs.Joined.{pieces_closed, pieces_opened}
 use Rattle.schedule_law.proofs.PieceLemmas.{weigh-append}
 use Rattle.schedule_law.proofs.LongLemmas.{kids-append, pieces-append}
 use Rattle.worker_results.specs.Naming.{numbers_from}
 use Rattle.worker_results.specs.Passes.{Owned, KnownPass}
-use Rattle.worker_results.specs.Joining.{IsRootSplit, StartWith, numbers_of, total}
+use Rattle.worker_results.specs.Joining.{StartWith, numbers_of, total}
 use Rattle.worker_results.specs.Parting.{AreParted, told_size, weigh_done}
 use Rattle.worker_results.specs.Taking.{AreDrained, TakeRows}
 use Rattle.worker_results.proofs.PartLemmas.{works_less}
@@ -61,35 +61,28 @@ total_starts : (h : Subproblem → ℕ) (start : ℕ → List Subproblem) (os : 
 total_starts h start [] = refl
 total_starts h start (o ∷ os) = omega (arith, total_starts h start os)
 
--- a split of the root is told by its cell and its places
-root_is : (region : Instance) (root : Split) → root.piece ≡ root_of region
-    → root ≡ root_split region root.cell root.places
-root_is region root e = λ i. record { piece = e i; cell = root.cell; places = root.places }
-
 -- where all seats and passes came back, each piece that came to be is accounted for once
 pub joined : (region : Instance) (start : ℕ → List Subproblem) (workers : ℕ) (root : Split) (word : ℕ) (best : List ℕ)
     (old new : Known) (owners drained : List Owned) (rows : List (List KnownPass)) (works : List Worked)
     (left : List Subproblem) → AreParted region start workers old new owners rows works → TakeRows owners rows drained
     → AreDrained drained left → old.told ≡ Some (length best) → new.told ≡ Some word → word ≤ new.seen
     → numbers_of owners ≡ numbers_from 0 workers → IsRootSplit region root → StartWith start workers (kids_of root)
-    → AreJoined region best root.cell root.places works left
+    → AreJoined region best root works left
 joined region start workers root word best old new owners drained rows works left p t d began told seen numbers is s =
     let size : told_size old.told ≡ length best = ap told_size began in
     let low : least_size (told_size old.told) works ≤ word =
     subst (AtLeast (least_size (told_size old.told) works)) told p.kept in
-    let same = root_is region root is.0 in
     record {
-      root = subst IsSplit same is.1;
+      of_root = is;
       fit = works_less region (least_size (length best) works) new.seen works
           (let a = ap (λ n. least_size n works) size in omega arith) p.fit;
       balance = λ h. (let a = p.took h in let b = p.pushed h in let c = t.pushed h in let e = t.taken h in
           let f = d h in let g = s h in let i = ap (total (λ (w : ℕ). weigh h (start w))) numbers in
           let k = total_starts h start owners in
-          let m = ap (λ (split : Split). weigh h (kids_of split)) same in
           omega (
             arith,
             total_kids h works,
             total_done h works,
-            weigh-append h (kids_of (root_split region root.cell root.places)) (all_kids (all_opened works)),
+            weigh-append h (kids_of root) (all_kids (all_opened works)),
           ));
     }

@@ -3,12 +3,12 @@ use Rattle.std.specs.Prelude.{◌≡◌, ℕ, ◌+◌, true, List, [], ◌∷◌
 use Rattle.atomic_table.specs.Seated.{TableId}
 use Rattle.beacon.specs.Marks.{Seated}
 use Rattle.set_cover.specs.Instance.{Instance}
-use Rattle.proof_tree.specs.Piece.{Subproblem, root_of}
-use Rattle.proof_tree.specs.Opened.{IsSplit, Split, kids_of}
+use Rattle.proof_tree.specs.Piece.{Subproblem}
+use Rattle.proof_tree.specs.Opened.{Split, kids_of}
 use Rattle.proof_tree.specs.Weights.{weigh}
 use Rattle.worker_results.specs.Naming.{numbers_from}
 use Rattle.worker_results.specs.Passes.{Owned}
-use Rattle.schedule_law.specs.Joined.{AreJoined}
+use Rattle.schedule_law.specs.Joined.{AreJoined, IsRootSplit}
 use Rattle.schedule_law.specs.Worked.{Worked}
 use Rattle.worker_results.specs.Results.{Handed}
 use Rattle.worker_results.specs.Holdings.{work_of}
@@ -34,10 +34,6 @@ numbers_of owners = map (λ own. own.worker) owners
 abbrev pub AreOfAll : ℕ → List Handed → Type 0
 AreOfAll workers results = workers_of results ≡ numbers_from 0 workers
 
--- the root was opened
-abbrev pub IsRootSplit : Instance → Split → Type 0
-IsRootSplit region split = (split.piece ≡ root_of region) × IsSplit split
-
 -- what lies on the workers' deques at the start is these pieces
 abbrev pub StartWith : (ℕ → List Subproblem) → ℕ → List Subproblem → Type 0
 StartWith start workers pieces = (weight : Subproblem → ℕ)
@@ -53,4 +49,4 @@ pub record IsFirstSeat (named : TableId) (size others : ℕ) (seat : Seated) : T
 -- where the kids of an opened root lay on the deques at the start, the works and what was left are joined results of it
 abbrev pub JoinUp : Instance → (ℕ → List Subproblem) → ℕ → List ℕ → List Worked → List Subproblem → Type 0
 JoinUp region start workers first works left = (root : Split) → IsRootSplit region root
-    → StartWith start workers (kids_of root) → AreJoined region first root.cell root.places works left
+    → StartWith start workers (kids_of root) → AreJoined region first root works left

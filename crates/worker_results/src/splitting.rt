@@ -1,14 +1,15 @@
 //! A piece is opened, with its kids, where that is worth while: `IsOpening` of specs/Steps.antt. Which pieces are, and
 //! on which cell, is the search's own choice.
 ghost use Rattle.std.specs.Arc.{arc_value};
-ghost use Rattle.std.specs.Prelude.{◌≡◌, ◌≢◌, ◌<◌, length, IfErr, IfOk, IfSome};
+ghost use Rattle.std.specs.Prelude.{◌≡◌, ◌≢◌, IfErr, IfOk, IfSome};
 ghost use Rattle.worker_results.specs.Steps.{IsOpening};
 ghost use Rattle.worker_results.specs.declared.step.Step.TheVariants.{Made, TurnsSpent};
 
 use crate::step::Step;
 use cave_base::Cell;
 use cave_model::OutOfMemory;
-use proof_tree::{Opened, Piece};
+use pack_bound::places_for;
+use proof_tree::{Branching, Opened, Piece};
 use search_traits::{Closer, SharedSearch};
 
 /// Pieces whose names are as long as this, or longer, are closed and not opened (this project's own).
@@ -30,13 +31,14 @@ pub(crate) fn split<C: Closer>(
     let Some(cell) = found else {
         return Err((piece, Step::NotMade));
     };
-    let Ok(found) = piece.places_on(search.alloc, cell) else {
+    let on = Branching::Cell(cell);
+    let Ok(found) = places_for(search.alloc, &piece, &[], on) else {
         return Err((piece, Step::OutOfMemory));
     };
     let Some(places) = found else {
         return Err((piece, Step::NotMade));
     };
-    let opened = Opened::new(piece, cell, places);
+    let opened = Opened::new(piece, Vec::new(search.alloc), on, places);
     match opened.kids(search.alloc) {
         Ok(kids) => Ok((opened, kids)),
         Err(_) => Err((opened.into_piece(), Step::OutOfMemory)),
@@ -50,8 +52,7 @@ fn cell_for<C: Closer>(
     piece: &Piece,
     size: u64,
 ) -> Result<Option<Cell>, OutOfMemory>
-    ensures { IfOk result (λ found. IfSome found (λ _. (piece.now.region ≡ arc_value search.entry.region.now)
-        × (length piece.now.name < LONGEST_NAME))) }
+    ensures { IfOk result (λ found. IfSome found (λ _. piece.now.region ≡ arc_value search.entry.region.now)) }
 {
     if piece.name().as_slice().len() >= LONGEST_NAME || !search.region.is_same(piece.region()) {
         return Ok(None);

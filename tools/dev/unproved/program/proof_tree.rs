@@ -4,6 +4,12 @@ use crate::cave_base::Sequence;
 use crate::memory::{AllocError, Global, Vec};
 use crate::proof_rules::Group;
 
+#[derive(Clone, Copy)]
+pub enum Branching {
+    Cell(u32),
+    Place(u32),
+}
+
 pub struct Below(Box<Proof>);
 
 impl Below {

@@ -3,7 +3,7 @@
 use crate::instance_regions::Region;
 use crate::memory::{AllocError, Global, Vec};
 use crate::pack_bound::Node;
-use crate::proof_tree::{Bar, Proof};
+use crate::proof_tree::{Bar, Branching, Proof};
 
 #[derive(Clone, Copy)]
 pub struct Task<'a> {
@@ -12,12 +12,6 @@ pub struct Task<'a> {
     pub floor: Option<u64>,
     pub refused: u32,
     pub may_pick: bool,
-}
-
-#[derive(Clone, Copy)]
-pub enum Branching {
-    Cell(u32),
-    Place(u32),
 }
 
 pub struct Proposal {

@@ -13,8 +13,9 @@ abbrev pub invariant-loop-kid : goal.invariant-loop-kid
 invariant-loop-kid l = record {
   done : are_done (shapes_of l.kid-iterator.rest.items) ≡ true;
   whole : AreWhole (shapes_of l.kid-iterator.rest.items);
-  room : l.index + length l.kid-iterator.rest.items ≡ length l.room.items;
-  trees : map tree_of (take l.index l.room.items) ++ trees_of l.kid-iterator.rest.items ≡ trees_of
+  same : length l.trees.items ≡ length l.initial.trees.items;
+  room : l.index + length l.kid-iterator.rest.items ≡ length l.trees.items;
+  trees : map tree_of (take l.index l.trees.items) ++ trees_of l.kid-iterator.rest.items ≡ trees_of
       l.initial.kid-iterator.rest.items;
   size : shapes_size (shapes_of l.kid-iterator.rest.items) ≤ shapes_size (shapes_of l.initial.kid-iterator.rest.items);
 }

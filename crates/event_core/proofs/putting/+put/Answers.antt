@@ -8,7 +8,8 @@ use Rattle.event_core.proofs.putting.+put.Goals as goal
 pub returns-then-number-len : goal.returns-then-number-len
 returns-then-number-len t c =
     let o = c.in-Opened in let s = c.in-Some in
-    put_at_none c.args.node o.cell o.places o.kids c.of.result o.room c.into_items-nodes.result.items c.args.name.now
+    put_at_none c.args.node o.bars o.on o.places o.kids c.of.result o.trees o.boxes c.into_items-nodes.result.items
+    c.args.name.now
     s.rest.now s.first.now c.args.new o.is s.ensures.cases.0 c.into_items-nodes.ensures
     (let far = c.if-number-len.true in let len = c.len.ensures in let ok = c.into_items-nodes.result.ok.0 in
     omega arith) c.of.ensures
@@ -17,7 +18,8 @@ pub returns-else-number-len : goal.returns-else-number-len
 returns-else-number-len t c =
     let o = c.in-Opened in let s = c.in-Some in
     let got = c.replace-kid.ensures.value ∙ c.index_mut.ensures.value in
-    put_at_kid c.args.node o.cell o.places o.kids c.of-in-Opened.result o.room c.into_items-nodes.result.items _
+    put_at_kid c.args.node o.bars o.on o.places o.kids c.of-in-Opened.result o.trees o.boxes
+    c.into_items-nodes.result.items _
     c.args.name.now s.rest.now s.first.now c.args.new c.put.result c.replace-kid.new.dest c.index_mut.result.now
     o.is s.ensures.cases.0 c.into_items-nodes.ensures
     (let near = c.if-number-len.false in let len = c.len.ensures in let ok = c.into_items-nodes.result.ok.0 in

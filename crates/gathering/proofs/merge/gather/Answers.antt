@@ -10,7 +10,7 @@ use Rattle.gathering.proofs.merge.gather.Goals as goal
 
 pub glean-requires : goal.glean-requires
 glean-requires g c =
-    let region = arc_value c.args.search.region.now in let first = c.args.first.places in let root = c.args.root in
+    let region = arc_value c.args.search.region.now in let first = c.args.first.places in let root = c.args.root.now in
     let works = c.args.works.items in
     let counts = c.in_ok-closed_by.closed_by.items in let closed = state_of c.close_all.new.core in
     let p = played region (arc_value c.in_ok-try_clone.field-0) first root works c.deref.result.now c.deref-2.result.now
@@ -29,7 +29,7 @@ glean-requires g c =
 
 pub returns-in-Ok-assemble-clause-gathered : goal.returns-in-Ok-assemble-clause-gathered
 returns-in-Ok-assemble-clause-gathered g c =
-    let region = arc_value c.args.search.region.now in let first = c.args.first.places in let root = c.args.root in
+    let region = arc_value c.args.search.region.now in let first = c.args.first.places in let root = c.args.root.now in
     let works = c.args.works.items in
     let counts = c.in_ok-closed_by.closed_by.items in let closed = state_of c.close_all.new.core in
     let p = played region (arc_value c.in_ok-try_clone.field-0) first root works c.deref.result.now c.deref-2.result.now
@@ -46,7 +46,7 @@ returns-in-Ok-assemble-clause-gathered g c =
 
 pub returns-in-Ok-assemble-clause-best : goal.returns-in-Ok-assemble-clause-best
 returns-in-Ok-assemble-clause-best g c =
-    let region = arc_value c.args.search.region.now in let first = c.args.first.places in let root = c.args.root in
+    let region = arc_value c.args.search.region.now in let first = c.args.first.places in let root = c.args.root.now in
     let works = c.args.works.items in
     let counts = c.in_ok-closed_by.closed_by.items in let closed = state_of c.close_all.new.core in
     let p = played region (arc_value c.in_ok-try_clone.field-0) first root works c.deref.result.now c.deref-2.result.now
@@ -63,7 +63,7 @@ returns-in-Ok-assemble-clause-best g c =
 
 pub stopped-requires-clause-of_it : goal.stopped-requires-clause-of_it
 stopped-requires-clause-of_it g c =
-    let region = arc_value c.args.search.region.now in let first = c.args.first.places in let root = c.args.root in
+    let region = arc_value c.args.search.region.now in let first = c.args.first.places in let root = c.args.root.now in
     let works = c.args.works.items in
     let counts = c.in_ok-closed_by.closed_by.items in let closed = state_of c.close_all.new.core in
     let p = played region (arc_value c.in_ok-try_clone.field-0) first root works c.deref.result.now c.deref-2.result.now

@@ -1,4 +1,4 @@
-use Rattle.proof_tree.proofs.KidLemmas.{kid_is_piece}
+use Rattle.proof_tree.proofs.KidLemmas.{distinct_with, kid_is_piece}
 use Rattle.proof_tree.proofs.kids.one_kid.Goals as goal
 
 pub new-requires : goal.new-requires
@@ -13,5 +13,6 @@ new-requires c =
       c.in_ok-barred.ensures,
       c.barred.ensures.barred,
     )
-    (kid_is_piece c.args.piece.now c.args.number c.args.place c.args.before.now c.chosen.ensures.kept c.requires.new
-    c.requires.of_it c.requires.before)
+    (kid_is_piece c.args.piece.now c.args.number (record { chosen = c.args.chosen.now; barred = c.args.barred.now })
+    c.chosen.ensures.kept (distinct_with c.args.piece.now.chosen c.args.chosen.now c.chosen.ensures.kept.distinct
+    c.requires.new.0 c.requires.new.1) c.requires.chosen c.requires.barred)

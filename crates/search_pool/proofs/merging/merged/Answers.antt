@@ -19,7 +19,7 @@ report-requires-clause-gleaned g c =
     let works = c.args.ran.joined.works.items in
     let left = c.args.ran.joined.left.items in
     let all = counted_at (arc_value c.args.search.region.now) c.args.rooted.cover.places c.args.rooted.root works left
-    c.requires.1.run.joined c.cell.result _ c.cell.ensures c.in-Ok.ensures.gathered in
+    c.requires.1.run.joined _ c.in-Ok.ensures.gathered in
     let tally = c.count_pieces-counts.result in
     let told = subst (λ (l : List Worked). AreTallied l tally) c.deref.ensures.value
     c.count_pieces-counts.ensures.counted in
@@ -35,7 +35,7 @@ returns-in-Ok-clause-counts g c =
     let told = subst (λ (l : List Worked). AreTallied l tally) c.deref.ensures.value
     c.count_pieces-counts.ensures.counted in
     let all = counted_at (arc_value c.args.search.region.now) c.args.rooted.cover.places c.args.rooted.root works left
-    c.requires.1.run.joined c.cell.result _ c.cell.ensures c.in-Ok.ensures.gathered in
+    c.requires.1.run.joined _ c.in-Ok.ensures.gathered in
     let gleaned = all_gleaned works left _ tally all told in
     let closed = ap sum_of c.report.ensures.closed_by ∙ all_by_workers works left _ tally all told in
     let r = c.report.ensures in
@@ -63,8 +63,7 @@ returns-in-Ok-clause-report g c =
     c.count_pieces-counts.ensures.counted in
     let run = c.requires.1.run in
     let gathered = c.in-Ok.gathered in
-    let is = c.requires.0 in
-    let came = all_came region c.args.rooted.cover.places root works left run.joined tally is.is_root told in
+    let came = all_came region c.args.rooted.cover.places root works left run.joined tally told in
     let r = c.report.ensures in
     let long = c.len-left.ensures in
     let a = r.pushed in let b = r.opened in let d = r.handed_back in let e = r.left_over in let f = r.gleaned in
@@ -78,14 +77,14 @@ returns-in-Ok-clause-report g c =
       left = left;
       run = run;
       names = gathered.gleaned.items;
-      gathered = subst (λ (x : ℕ × (Covering × (Tree × List ℕ))).
-          IsGathered region c.args.rooted.cover.places x.0 works (record {
-            cover = x.1.0;
-            tree = x.1.1.0;
-            closed_by = x.1.1.1;
+      gathered = subst (λ (x : Covering × (Tree × List ℕ)).
+          IsGathered region c.args.rooted.cover.places root works (record {
+            cover = x.0;
+            tree = x.1.0;
+            closed_by = x.1.1;
             gleaned = gathered.gleaned.items;
           }))
-          (λ i. (c.cell.ensures i, (sym r.cover i, (sym r.tree i, sym r.closed_by i)))) c.in-Ok.ensures.gathered;
+          (λ i. (sym r.cover i, (sym r.tree i, sym r.closed_by i))) c.in-Ok.ensures.gathered;
       numbers = record {
         pushed = omega (arith, came, a, long, t2);
         opened = b ∙ t0;

@@ -10,7 +10,8 @@ use Rattle.pack_bound.specs.Indices.{cell_indices}
 use Rattle.pack_bound.specs.Nodes.{IsKidAt}
 use Rattle.pack_bound.proofs.JudgeLemmas.{unlit_inside, not_has}
 use Rattle.tree_judges.specs.Decided.{Decides, DecidesWithout, DecidesKids}
-use Rattle.tree_judges.proofs.BarLemmas.{same_state, barred_state}
+use Rattle.pack_bound.proofs.NodeLemmas.{same_state}
+use Rattle.tree_judges.proofs.BarLemmas.{barred_state}
 use Rattle.tree_judges.proofs.KidLemmas.{kid_place, kid_state, tree_below, judged_next}
 use Rattle.tree_judges.proofs.ClosingLemmas.{leaf_few, branch_lit, branch_decides, bar_refused, bar_decides}
 use Rattle.tree_judges.proofs.ClosingLemmas.{omit_refused, omit_decides, over_refused, over_decides, not_avoiding}
