@@ -116,6 +116,24 @@ def rooms(seed, size):
     return open_from(floor, size)
 
 
+def cellars(seed, size):
+    """Rooms of many sizes, each apart from all others by stone."""
+    rng = random.Random(seed)
+    x_side, _, z_side = size
+    floor = {}
+    for x in range(1, x_side - 8, 8):
+        for z in range(1, z_side - 8, 8):
+            w, d = rng.randrange(1, 8), rng.randrange(1, 8)
+            floor.update({(x + i, z + j): 0 for i in range(w) for j in range(d)})
+    return open_from(floor, size)
+
+
+def hall(_, size):
+    """A hall without a pillar."""
+    x_side, _, z_side = size
+    return open_from({(x, z): 0 for x in range(x_side) for z in range(z_side)}, size, 3)
+
+
 def ledge(seed, size):
     """A slope of ledges: steps of a level or more, which light has to climb."""
     rng = random.Random(seed)
@@ -166,6 +184,12 @@ def felt_ring():
     places for a torch, of which two light all."""
     state_of = lambda *at: AIR if at in ring() else STONE if at in {(1, 0, 1), (4, 0, 1), (8, 0, 1)} else len(NAMES)
     return structure((10, 4, 10), state_of, [*NAMES, "cave:felt"])
+
+
+def felt_corridor():
+    """The file of a corridor of 27 cells in that block, which holds no torch: nothing lights its cells."""
+    is_free = lambda x, y, z: 0 < x < 28 and 0 < y < 3 and z == 1
+    return structure((29, 4, 3), lambda *at: AIR if is_free(*at) else len(NAMES), [*NAMES, "cave:felt"])
 
 
 FELT_TABLE = b'[[row]]\nname = "cave:felt"\nopacity = 15\nstand = true\n'

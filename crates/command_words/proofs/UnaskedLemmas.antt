@@ -1,14 +1,14 @@
 -- Matches of a command that ask for nothing.
 use Rattle.std.proofs.Common.{◌≡◌, ◌≢◌, ◌∙◌, ℕ, false, List, Option, Some, None, nat_eq, slice_index}
 use Rattle.std.proofs.Common.{refl, sym, ap, subst, rules}
-use Rattle.std.specs.Prelude.{IfNone, MatchOption, codes, option_map}
+use Rattle.std.specs.Prelude.{IfNone, MatchOption, codes, option_copied, option_map}
 use Rattle.clap.specs.Words.{Row, Text, first_of, subcommand_name_of, subcommand_rows_of}
 use Rattle.clap.specs.declared.parser.matches.ArgMatches.{ArgMatches}
 use Rattle.cave_model.specs.Rule.{Rule}
 use Rattle.cave_model.specs.RuleOf.{rule_of}
 use Rattle.plan_options.specs.declared.workers.Workers.{Workers}
-use Rattle.command_words.specs.Requests.{IsAskedBy, IsCrewOf, IsEntered, IsFoundBy, IsRuleOf, NoneIsAskedBy}
-use Rattle.command_words.specs.Requests.{Reads, Tells}
+use Rattle.command_words.specs.Requests.{IsAskedBy, IsCrewOf, IsEntered, IsFoundBy, IsProofOf}
+use Rattle.command_words.specs.Requests.{IsRuleOf, NoneIsAskedBy, Reads, Tells}
 use Rattle.command_words.specs.declared.request.Request.{Request}
 use Rattle.command_words.specs.declared.request.Request.TheVariants.{Dark, Plan, Check}
 use Rattle.command_words.proofs.WordLemmas.{named_as}
@@ -62,6 +62,14 @@ pub no_crew : (rows : List Row) → ((workers : Workers) → ¬ IsCrewOf rows wo
 no_crew rows none (Dark file table rule progress) is = absurd (apart (codes "plan") (codes "dark") refl is.0)
 no_crew rows none (Plan file table opts proof progress) is = none opts.workers is.4
 no_crew rows none (Check file proof table rule) is = absurd (apart (codes "plan") (codes "check") refl is.0)
+
+-- the proof would go to no file
+pub no_file_for_proof : (rows : List Row) → ((proof : Option Text) → ¬ IsProofOf rows proof)
+    → NoneIsAskedBy (codes "plan") rows
+no_file_for_proof rows none (Dark file table rule progress) is =
+    absurd (apart (codes "plan") (codes "dark") refl is.0)
+no_file_for_proof rows none (Plan file table opts proof progress) is = none (option_copied proof) is.6
+no_file_for_proof rows none (Check file proof table rule) is = absurd (apart (codes "plan") (codes "check") refl is.0)
 
 -- no certificate is named
 pub no_proof : (rows : List Row) → first_of (codes "PROOF") rows ≡ None → NoneIsAskedBy (codes "check") rows

@@ -1,5 +1,5 @@
 -- Which words are explained in place of a run, and why. Which words the parser of the command line refuses is clap's
--- (`fault_of`); that a rule has to be known is this project's own.
+-- (`fault_of`); that a rule has to be known, and that a proof goes to a file, is this project's own.
 use Rattle.std.specs.Prelude.{◌≡◌, ◌⊎◌, List, []}
 use Rattle.clap.specs.Words.{Text, IsAmong, fault_of}
 use Rattle.clap.specs.declared.error.kind.ErrorKind.{ErrorKind}
@@ -12,7 +12,7 @@ use Rattle.command_words.specs.declared.request.Request.{Request}
 abbrev pub AreWellFormed : List Text → Type 0
 AreWellFormed words = fault_of torchplan words ≡ []
 
--- they ask for nothing: the rule that they name is none
+-- they ask for nothing: the rule that they name is none, or what they name for a proof is no file
 abbrev pub AskNothing : List Text → Type 0
 AskNothing words = (request : Request) → ¬ IsAsked words request
 

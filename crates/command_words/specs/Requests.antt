@@ -1,6 +1,6 @@
 -- What the words of a command line ask for. That 2 is the headroom, 1 the number of workers, and no limit that of turns
--- unless told is this project's own.
-use Rattle.std.specs.Prelude.{◌≡◌, ◌<◌, ◌^◌, ℕ, Bool, true, false, List, Option, Some, None, codes}
+-- unless told is this project's own, and that no proof goes to a stream.
+use Rattle.std.specs.Prelude.{◌≡◌, ◌≢◌, ◌<◌, ◌^◌, ℕ, Bool, true, false, List, Option, Some, None, codes}
 use Rattle.std.specs.Prelude.{nat_eq, option_copied, unwrap_or, if◌then◌else◌}
 use Rattle.std.specs.Str.Parse.{IsNumeral, digits_value, without_leading_plus}
 use Rattle.clap.specs.Words.{Row, Text, first_of, one_of, subcommand_of}
@@ -43,6 +43,11 @@ pub record IsCrewOf (rows : List Row) (workers : ℕ) : Type 0 where
   pub tells : Tells 8 (one_of (codes "workers") rows) told
   pub are : workers ≡ unwrap_or told 1
 
+-- the file that the matches name for a proof, where they name one: `-` is no file
+pub record IsProofOf (rows : List Row) (proof : Option Text) : Type 0 where
+  pub told : first_of (codes "proof") rows ≡ proof
+  pub is_file : proof ≢ Some (codes "-")
+
 -- set where the matches say so, and not where they say nothing
 pub record IsFlagOf (value : Option Text) (is_set : Bool) : Type 0 where
   pub told : value ≡ Some (codes "true") → is_set ≡ true
@@ -57,7 +62,7 @@ IsAskedBy name rows (Dark file table rule progress) = (name ≡ codes "dark")
 IsAskedBy name rows (Plan file table opts proof progress) = (name ≡ codes "plan")
     × (first_of (codes "FILE") rows ≡ Some file.now) × (first_of (codes "table") rows ≡ option_copied table)
     × IsRuleOf rows (rule_of opts.rule) × IsCrewOf rows opts.workers.number
-    × Tells 64 (one_of (codes "turns") rows) opts.turns × (first_of (codes "proof") rows ≡ option_copied proof)
+    × Tells 64 (one_of (codes "turns") rows) opts.turns × IsProofOf rows (option_copied proof)
     × IsFlagOf (one_of (codes "progress") rows) progress
 IsAskedBy name rows (Check file proof table rule) = (name ≡ codes "check")
     × (first_of (codes "FILE") rows ≡ Some file.now) × (first_of (codes "PROOF") rows ≡ Some proof.now)

@@ -7,7 +7,7 @@ use clap::{Arg, ArgAction, Command};
 use std::alloc::{AllocError, Global};
 
 /// The version, and the toolchain that it was proved with.
-const VERSION: &str = "0.15.0 (proved with rattle-kit-13f)";
+const VERSION: &str = "0.16.0 (proved with rattle-kit-13f)";
 
 /// An argument that has to be there.
 fn placed<'a>(alloc: Global, name: &'a str, help: &'a str) -> Arg<'a>
@@ -97,7 +97,7 @@ fn workers<'a>(alloc: Global) -> Arg<'a>
 {
     valued(alloc, "workers", "N")
         .value_parser(clap::value_parser!(u8).range(1..=64))
-        .help("How many threads search [default: 1]")
+        .help("How many workers search [default: 1]")
 }
 
 fn turns<'a>(alloc: Global) -> Arg<'a>

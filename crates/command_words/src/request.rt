@@ -1,11 +1,12 @@
 //! What the words of a command line ask for.
-ghost use Rattle.std.specs.Prelude.{◌≡◌, ◌⊎◌, IfErr, IfNone, IfOk, IfSome, OnOk, codes, map, string_bytes};
+ghost use Rattle.std.specs.Prelude.{◌≡◌, ◌↔◌, ◌⊎◌, IfErr, IfNone, IfOk, IfSome, IsTrue, OnOk, Option, Some, codes, map};
+ghost use Rattle.std.specs.Prelude.{option_copied, string_bytes};
 ghost use Rattle.cave_model.specs.Rule as rules;
 ghost use Rattle.cave_model.specs.RuleOf.{rule_of};
-ghost use Rattle.clap.specs.Words.{found_of, kind_of, rows_of, subcommand_rows_of};
+ghost use Rattle.clap.specs.Words.{Text, found_of, kind_of, rows_of, subcommand_rows_of};
 ghost use Rattle.command_words.specs.Mistakes.{AreExplainedBy, AreWellFormed};
 ghost use Rattle.command_words.specs.Requests as requests;
-ghost use Rattle.command_words.specs.Requests.{IsAsked, IsCrewOf, IsEntered, IsFoundBy, IsRuleOf};
+ghost use Rattle.command_words.specs.Requests.{IsAsked, IsCrewOf, IsEntered, IsFoundBy, IsProofOf, IsRuleOf};
 
 use crate::command::command;
 use crate::version::need_for;
@@ -86,6 +87,28 @@ fn workers_of(matches: &ArgMatches) -> Option<Workers>
     Workers::new(u32::from(told.unwrap_or(1)))
 }
 
+/// Whether a file is named by `-`, which stands for a stream.
+fn is_stream(name: Option<&str>) -> bool
+    ensures { IsTrue result ↔ (option_copied name.entry ≡ Some (codes "-")) }
+{
+    match name {
+        Some(name) => name == "-",
+        None => false,
+    }
+}
+
+/// The file that the words name for the proof, where they name one. None where they name a stream.
+fn proof_of<'a>(matches: &ArgMatches<'a>) -> Option<Option<&'a str>>
+    ensures some { IfSome result (λ proof. IsProofOf (rows_of (found_of matches.now)) (option_copied proof)) }
+    ensures none { IfNone result ((proof : Option Text) → ¬ IsProofOf (rows_of (found_of matches.now)) proof) }
+{
+    let told = matches.get_str("proof");
+    if is_stream(told) {
+        return None;
+    }
+    Some(told)
+}
+
 fn plan_of<'a>(matches: &ArgMatches<'a>) -> Option<Request<'a>>
     ensures { IsFoundBy (codes "plan") (rows_of (found_of matches.now)) result }
 {
@@ -97,7 +120,7 @@ fn plan_of<'a>(matches: &ArgMatches<'a>) -> Option<Request<'a>>
             workers: workers_of(matches)?,
             turns: matches.get_one::<u64>("turns"),
         },
-        proof: matches.get_str("proof"),
+        proof: proof_of(matches)?,
         progress: matches.get_flag("progress"),
     })
 }
@@ -130,6 +153,14 @@ fn asked<'a>(matches: &ArgMatches<'a>) -> Option<Request<'a>>
     None
 }
 
+/// What is wrong with words that are well formed and ask for nothing.
+fn mistake_of<'a>(matches: &ArgMatches<'a>) -> &'a str {
+    match matches.subcommand_matches("plan") {
+        Some(plan) if is_stream(plan.get_str("proof")) => "--proof names a file, and - is none",
+        _ => "--rule is 1.18 or 1.17",
+    }
+}
+
 /// What the words ask for; the first is the program's name. An error has the text for the user: help where that was
 /// asked for, else the mistake and the usage.
 pub fn request_of<'a>(alloc: Global, words: &'a [String]) -> Result<Request<'a>, Error>
@@ -144,6 +175,6 @@ pub fn request_of<'a>(alloc: Global, words: &'a [String]) -> Result<Request<'a>,
     let matches = command.try_get_matches_from_mut(words)?;
     match asked(&matches) {
         Some(request) => Ok(request),
-        None => Err(command.error(ErrorKind::InvalidValue, "--rule is 1.18 or 1.17")?),
+        None => Err(command.error(ErrorKind::InvalidValue, mistake_of(&matches))?),
     }
 }

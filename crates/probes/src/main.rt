@@ -2,9 +2,11 @@
 //!
 //! `PART FILE [TIMES]`, where PART is `cave`, `light`, `reach`, `coverage` or `split`, prints what the part counts,
 //! after doing it so many times; `plan FILE TURNS [RULE]` plans each region alone and prints for each its cells, its
-//! places, the size of the plan (or the range in which it lies) and the lines of its tree. `calls` makes each call that
-//! takes memory on the pillar from standard input. `stored FILE LIST` reads the table of the examples from the file and
-//! tries each name of the list, takes the largest box through each step, and makes the calls.
+//! places, the size of the plan (or the range in which it lies) and the lines of its tree.
+//! `whole FILE OUT RULE [TURNS]` plans the cave as the program does by one worker, writes the proof to OUT, and prints
+//! the turns that it took. `calls` makes each call that takes memory on the pillar from standard input.
+//! `stored FILE LIST` reads the table of the examples from the file and tries each name of the list, takes the largest
+//! box through each step, and makes the calls.
 #![tactic(auto)]
 
 mod calls;
@@ -14,6 +16,7 @@ mod names;
 mod parts;
 mod regions;
 mod table;
+mod whole;
 
 use cave_model::{Rule, World};
 use std::env;
@@ -22,11 +25,16 @@ use std::io::Read;
 use std::test::Fail;
 
 /// The rule of a version, 1.18 unless it is 1.17, with headroom 2.
-fn rule_of(version: &str) -> Rule {
+pub(crate) fn rule_of(version: &str) -> Rule {
     if version == "1.17" {
         return Rule::new(2, 8);
     }
     Rule::new(2, 1)
+}
+
+/// How many turns a region has; any number where no word says so.
+fn limit_of(word: Option<&String>) -> Option<u64> {
+    word?.parse::<u64>().ok()
 }
 
 /// The cave of the structure in the file, by the shipped rows.
@@ -87,6 +95,7 @@ fn main(rt: HostRuntime) -> Result<(), Fail> {
     match part.as_str() {
         "calls" => calls::run(&rt),
         "stored" => stored(&rt, path, third),
+        "whole" => whole::run(&rt, path, third, rule, limit_of(words.get(5))),
         part => run(&rt, part, path, number, rule),
     }
 }
