@@ -145,6 +145,12 @@ class Browser:
         self.mouse("mouseReleased", x, y, button="left", clickCount=1)
         self.frame()
 
+    def tap(self, x, y):
+        """A finger that touches the page and leaves it."""
+        self.call("Input.dispatchTouchEvent", type="touchStart", touchPoints=[{"x": x, "y": y}])
+        self.call("Input.dispatchTouchEvent", type="touchEnd", touchPoints=[])
+        self.frame()
+
     def picture(self, path):
         """Writes a picture of what the window shows."""
         with open(path, "wb") as file:

@@ -1,6 +1,6 @@
 """Small caves made at random and written as structure files in many ways, for the scripts beside this file."""
 import repository  # it makes the modules of ../user known
-from structures import BYTE, BYTES, COMPOUND, DOUBLE, END, FLOAT, INT, INTS, LIST, LONG, LONGS, SHORT, TEXT, Writer
+from nbt_writer import BYTE, BYTES, COMPOUND, DOUBLE, END, FLOAT, INT, INTS, LIST, LONG, LONGS, SHORT, TEXT, Writer
 
 # A name, its properties, and how often it is drawn.
 GROUND = [("minecraft:stone", {}), ("minecraft:deepslate", {}), ("minecraft:dirt", {}), ("minecraft:oak_planks", {})]

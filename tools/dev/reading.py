@@ -3,9 +3,10 @@ import tomllib
 from collections import namedtuple
 
 import repository  # it makes the modules of ../user known
-from nbt import Fault, root_of
+from nbt_reader import root_of
+from nbt_writer import COMPOUND, INT, LIST, TEXT
+from refusals import Damaged as Fault
 from rows import COLUMNS, Row, row_of
-from structures import COMPOUND, INT, LIST, TEXT
 
 SIDE, CELLS = 128, 262_144
 I64 = range(-(2**63), 2**63)

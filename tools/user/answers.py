@@ -5,24 +5,26 @@ from collections import namedtuple
 
 from plans import read_dark, read_plan
 from program import EDGE
-from refusals import Refusal
+from refusals import Refusal, unwritable
 
 REJECTED, STOPPED = 4, 5  # the status of a proof that isn't accepted, of a plan that may have more torches than needed
 # A turn takes up to 30 microseconds for each dark cell of its region. With these turns, over the number of dark cells,
 # all ends within some two minutes: five whole floors of 128 x 128, the most that a box holds, get 48 turns each.
 WORK, MOST = 4_000_000, 1_000_000
 
-# The plan, the cells that are dark now, the verdict on the proof (None where the search was stopped), and the version
-# of the program.
-Answers = namedtuple("Answers", "plan dark verdict version")
+# The cells that are dark now, and what the planner says of free cells at the box's edge (None where it has none).
+Darkness = namedtuple("Darkness", "cells edge")
 
 
-def answer(program, command, words, path, **how):
-    """Runs a command whose output goes to a file; its status and the text."""
-    with open(path, "w+", encoding="utf-8") as out:
-        status = program.run(command, words, out, **how)
-        out.seek(0)
-        return status, out.read()
+def answer(program, command, words, path, well=(0,)):
+    """Runs a command whose output goes to a file; its status, the text, and what it said."""
+    try:
+        with open(path, "w+", encoding="utf-8") as out:
+            status, kept = program.run(command, words, out, well)
+            out.seek(0)
+            return status, out.read(), kept
+    except OSError as fault:
+        raise unwritable(os.path.basename(path), fault) from None
 
 
 def turns_for(dark):
@@ -37,20 +39,31 @@ def plan_words(told, dark):
     return words + ["--progress"] * (told.progress or sys.stderr.isatty())
 
 
-def ask(program, folder, told):
-    """Has the planner tell the dark cells of the folder's cave.nbt, plan it and check the proof. It leaves plan.txt in
-    the folder, and plan.proof and plan.check where no fewer torches do."""
+def darkness(program, folder, name="plan.txt"):
+    """Has the planner tell the dark cells of the folder's cave.nbt, by a file of that name."""
+    path = lambda name: os.path.join(folder, name)
+    _, text, kept = answer(program, "dark", [path("cave.nbt"), "--progress"], path(name))
+    return Darkness(read_dark(text), kept.get(EDGE))
+
+
+def planned(program, folder, told, dark):
+    """Has it plan that cave: the plan, and the verdict on its proof, which is None where the search was stopped. It
+    leaves plan.txt in the folder, and plan.proof and plan.check where no fewer torches do."""
     path = lambda name: os.path.join(folder, name)
     cave, proof = path("cave.nbt"), path("plan.proof")
-    _, text = answer(program, "dark", [cave, "--progress"], path("plan.txt"))
-    dark = read_dark(text)
     words = [cave, "--proof", proof, *plan_words(told, dark)]
-    status, text = answer(program, "plan", words, path("plan.txt"), well=(0, STOPPED), unheard=[EDGE])
-    plan = read_plan(text)
+    status, text, _ = answer(program, "plan", words, path("plan.txt"), (0, STOPPED))
     if status == STOPPED:
         os.remove(proof)
-        return Answers(plan, dark, None, program.version())
-    status, text = answer(program, "check", [cave, proof], path("plan.check"), well=(0, REJECTED))
+        return read_plan(text), None
+    return read_plan(text), verdict(program, folder)
+
+
+def verdict(program, folder):
+    """What the checker says of the folder's proof, which it has to accept."""
+    path = lambda name: os.path.join(folder, name)
+    words = [path("cave.nbt"), path("plan.proof")]
+    status, text, _ = answer(program, "check", words, path("plan.check"), (0, REJECTED))
     if status == REJECTED:
         raise Refusal(f"check says of the proof: {text.strip()}", REJECTED)
-    return Answers(plan, dark, text.strip(), program.version())
+    return text.strip()

@@ -1,9 +1,9 @@
 """The blocks of a chunk, as the versions from 1.16 on save them (Minecraft Wiki, "Chunk format")."""
 import struct
 
-from nbt import root_of, text_of
+from nbt_reader import root_of, text_of
+from nbt_writer import BYTE, COMPOUND, INT, LIST, LONGS, TEXT
 from refusals import Damaged
-from structures import BYTE, COMPOUND, INT, LIST, LONGS, TEXT
 
 SIDE = 16  # of a chunk and of a section
 CELLS = SIDE ** 3

@@ -3,7 +3,7 @@ from collections import namedtuple
 
 Extent = namedtuple("Extent", "low high")
 
-# The limits of the program.
+# The limits of the program, for a box with all that is told of it.
 SIDE, CELLS = 128, 262_144
 
 
@@ -27,28 +27,26 @@ def count_of(size):
     return size[0] * size[1] * size[2]
 
 
+def grown(extent, by):
+    """The extent with so many layers more on each side."""
+    return Extent(tuple(at - by for at in extent.low), tuple(at + by for at in extent.high))
+
+
+def within(extent, other):
+    """What two extents share, or None."""
+    low, high = tuple(map(max, extent.low, other.low)), tuple(map(min, extent.high, other.high))
+    return Extent(low, high) if all(first <= last for first, last in zip(low, high)) else None
+
+
 def is_small(extent):
-    """Whether it keeps the limits."""
-    size = size_of(extent)
+    """Whether it keeps the limits with one layer more on each side."""
+    size = size_of(grown(extent, 1))
     return max(size) <= SIDE and count_of(size) <= CELLS
 
 
-def largest_size(size):
-    """The largest sides within these that keep the limits, the long ones cut alike: of 300 x 20 x 300 they are 114 x 20
-    x 114."""
-    cut = max(side for side in range(1, SIDE + 1) if count_of([min(side, long) for long in size]) <= CELLS)
-    found = [min(cut, side) for side in size]
-    for axis in (0, 2, 1):
-        room = CELLS // (count_of(found) // found[axis])
-        found[axis] = min(size[axis], room, SIDE)
-    return tuple(found)
-
-
-def largest_about(extent):
-    """The largest extent about the middle of this one that keeps the limits."""
-    size = size_of(extent)
-    found = largest_size(size)
-    return sized(tuple(low + (side - kept) // 2 for low, side, kept in zip(extent.low, size, found)), found)
+def about(one, other):
+    """The extent about two."""
+    return Extent(tuple(map(min, one.low, other.low)), tuple(map(max, one.high, other.high)))
 
 
 def told(extent):

@@ -101,8 +101,9 @@ def kinds(box, plan):
     for y, rows in plan.layers.items():
         for z, row in enumerate(rows):
             for x, sign in enumerate(row):
-                if sign in ".*#":
-                    told[box.cells[box.number(x, y, z)]] = sign
+                number = box.number(x, y, z)
+                if sign in ".*#" and number not in box.made:
+                    told[box.cells[number]] = sign
     for index, sign in told.items():
         if index != box.NO_ENTRY and found[index] != LAVA:
             is_shown = found[index] in (ROOM, LIGHT)

@@ -10,7 +10,8 @@ import looks
 import torches
 
 WEB = os.path.join(os.path.dirname(os.path.abspath(__file__)), "web")
-SCRIPTS = ["cave.js", "colours.js", "signs.js", "picture.js", "view.js", "list.js", "page.js"]
+SCRIPTS = ["cave.js", "colours.js", "signs.js", "picture.js", "view.js", "list.js", "layers.js",
+           "legend.js", "page.js"]
 
 
 def varint(number):
@@ -51,7 +52,7 @@ def shown(state):
     return torches.argument((name[10:] if name.startswith("minecraft:") else name, props))
 
 
-def data_of(box, plan, dark, levels, verdict):
+def data_of(box, plan, dark, levels, verdict, notes=(), away=(), total=None, apart=0):
     """What the scripts of the page read."""
     states = zip(box.palette, looks.kinds(box, plan))
     return {
@@ -66,6 +67,10 @@ def data_of(box, plan, dark, levels, verdict):
         "torches": plan.torches,
         "atLeast": plan.at_least,
         "verdict": verdict,
+        "notes": list(notes),
+        "away": list(away),
+        "total": len(plan.torches) if total is None else total,
+        "apart": apart,
         "key": key_of(box, plan),
     }
 
@@ -80,12 +85,12 @@ def part(name):
         return file.read()
 
 
-def page(box, plan, dark, levels, verdict):
+def page(box, plan, dark, levels, verdict, **more):
     """The text of the page."""
     pieces = {
         "TITLE": html.escape(f"Torches for {box.name}" if box.name else "Torches"),
         "STYLE": part("page.css"),
-        "DATA": script_text(data_of(box, plan, dark, levels, verdict)),
+        "DATA": script_text(data_of(box, plan, dark, levels, verdict, **more)),
         "SCRIPT": "\n".join(map(part, SCRIPTS)),
     }
     whole, *rest = part("page.html").split("{{")

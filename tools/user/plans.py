@@ -1,6 +1,8 @@
 """Reading plans, as `torchplan plan` prints them, and lists of dark cells, as `torchplan dark` prints them."""
 from collections import namedtuple
 
+from refusals import Damaged
+
 # Torches in the order of the plan: the coordinates of each, and how it hangs (floor, or the way that it faces).
 Torch = namedtuple("Torch", "x y z hang")
 
@@ -11,16 +13,12 @@ Plan = namedtuple("Plan", "torches dark at_least layers")
 HANGS = ("floor", "north", "east", "south", "west")
 
 
-class NotAPlan(Exception):
-    """Why a text is no plan, in one line."""
-
-
 def read_plan(text):
     """The plan that a text says."""
     lines = text.splitlines()
     words = [line.split() for line in lines[:2]]
     if not words or words[0][:1] != ["torches"]:
-        raise NotAPlan("its first line begins with 'torches'")
+        raise Damaged("its first line begins with 'torches'")
     at_least = int(words[0][3]) if words[0][2:3] == ["at-least"] else None
     dark = int(words[1][1]) if len(words) > 1 and words[1][:1] == ["dark"] else 0
     torches, layers, height = [], {}, None
@@ -33,14 +31,45 @@ def read_plan(text):
         elif line.startswith("T "):
             _, x, y, z, hang = line.split()
             if hang not in HANGS:
-                raise NotAPlan(f"a torch hangs {hang!r}")
+                raise Damaged(f"a torch hangs {hang!r}")
             torches.append(Torch(int(x), int(y), int(z), hang))
     return Plan(torches, dark, at_least, layers)
+
+
+SIGNS = {"floor": "T", "north": "^", "east": ">", "south": "v", "west": "<"}
+
+
+def text_of_torches(plan):
+    """The text of a plan without its layers."""
+    least = "" if plan.at_least is None else f" at-least {plan.at_least}"
+    lines = [f"torches {len(plan.torches)}{least}", f"dark {plan.dark}"]
+    lines += [f"T {torch.x} {torch.y} {torch.z} {torch.hang}" for torch in plan.torches]
+    return "".join(line + "\n" for line in lines)
+
+
+def text_of(plan, box, signs):
+    """The text of a plan in a box, as the program prints it. `signs` are those of the box's states."""
+    number = lambda torch: box.number(*torch[:3])
+    torches = sorted(plan.torches, key=number)
+    at, lines = {number(torch): SIGNS[torch.hang] for torch in torches}, []
+    wide, _, long = box.size
+    for y in sorted({torch.y for torch in torches}):
+        lines.append(f"layer {y}")
+        for start in range(box.number(0, y, 0), box.number(0, y, 0) + wide * long, wide):
+            cells = enumerate(box.cells[start : start + wide], start)
+            lines.append("".join(at.get(place) or (signs[cell] if cell >= 0 else "#") for place, cell in cells))
+    return text_of_torches(plan._replace(torches=torches)) + "".join(line + "\n" for line in lines)
+
+
+def with_corner(text, corner, dimension):
+    """The text of a plan with a line more, behind that of the dark cells: the world's coordinates of the corner."""
+    first, second, *rest = text.splitlines(keepends=True)
+    return "".join([first, second, "corner {} {} {} in {}\n".format(*corner, dimension), *rest])
 
 
 def read_dark(text):
     """The dark cells that a text names."""
     first, *rest = [line.split() for line in text.splitlines()] or [[]]
     if first[:1] != ["dark"]:
-        raise NotAPlan("dark cells: their first line begins with 'dark'")
+        raise Damaged("dark cells: their first line begins with 'dark'")
     return [tuple(map(int, words)) for words in rest]

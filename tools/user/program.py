@@ -7,16 +7,21 @@ import sys
 from refusals import FAILED, Refusal
 
 LAUNCHER = os.path.join(os.path.dirname(os.path.abspath(__file__)), "..", "..", "torchplan")
-UNKNOWN = "torchplan: unknown block "
-EDGE = "torchplan: free cells lie at the box's edge"
+# Lines of the planner that `light` says in its own words. They begin so, behind MARK.
+MARK = "torchplan: "
+UNKNOWN, UNLIGHTABLE, UNWRITTEN = "unknown block ", "unlightable ", "cannot write"
+EDGE = "free cells lie at the box's edge: "
+KEPT = (UNKNOWN, UNLIGHTABLE, EDGE, UNWRITTEN)
 
 
 class Ended(Exception):
-    """The planner ended by a status that leaves no plan, after it said why."""
+    """The planner ended by a status that leaves no plan.
 
-    def __init__(self, status, unknown):
+    kept  what it said that isn't passed on yet: the rest of each such line by how it begins"""
+
+    def __init__(self, command, status, kept):
         super().__init__(status)
-        self.status, self.unknown = status, unknown
+        self.command, self.status, self.kept = command, status, kept
 
 
 def lines_of(pipe):
@@ -40,7 +45,7 @@ class Program:
 
     options  the words that each command gets: table, headroom and rule"""
 
-    def __init__(self, options):
+    def __init__(self, options=()):
         self.path = os.environ.get("TORCHPLAN") or os.path.normpath(LAUNCHER)
         self.options = options
 
@@ -53,20 +58,26 @@ class Program:
     def version(self):
         """The version that the program tells."""
         child = self.start(["--version"], subprocess.PIPE)
-        told = child.communicate()[0].decode("utf-8", "replace").split()
-        return told[1] if len(told) > 1 else ""
+        out, err = child.communicate()
+        sys.stderr.write(err.decode("utf-8", "replace"))
+        told = out.decode("utf-8", "replace").split()
+        if child.returncode != 0 or told[:1] != ["torchplan"] or len(told) < 2:
+            raise Refusal(f"{self.path} is no torchplan: it tells no version", FAILED)
+        return told[1]
 
-    def run(self, command, words, out, well=(0,), unheard=()):
-        """Runs a command whose standard output goes to the file `out`; its status, which is one of those that are well.
-        Lines of its standard error are passed on, but for those that begin with a text in `unheard`."""
+    def run(self, command, words, out, well=(0,)):
+        """Runs a command whose standard output goes to the file `out`; its status, which is one of those that are well,
+        and what it said that isn't passed on, as `Ended` has it."""
         child = self.start([command, *words, *self.options], out)
-        unknown = None
+        kept, has_spoken = {}, False
         try:
             for line in lines_of(child.stderr):
                 line = line.decode("utf-8", "replace")
-                if line.startswith(UNKNOWN):
-                    unknown = line[len(UNKNOWN):].rstrip("\n")
-                if not line.startswith(tuple(unheard)):
+                has_spoken = True
+                begins = next((begins for begins in KEPT if line.startswith(MARK + begins)), None)
+                if begins is not None:
+                    kept[begins] = line[len(MARK + begins):].rstrip("\n")
+                else:
                     sys.stderr.write(line)
                     sys.stderr.flush()
             status = child.wait()
@@ -79,5 +90,7 @@ class Program:
         if status < 0:
             raise Refusal(f"torchplan {command} was ended by signal {-status}", FAILED)
         if status not in well:
-            raise Ended(status, unknown)
-        return status
+            if not has_spoken:
+                raise Refusal(f"torchplan {command} ended by status {status} and said nothing", FAILED)
+            raise Ended(command, status, kept)
+        return status, kept

@@ -25,3 +25,8 @@ class Damaged(Exception):
 def unreadable(path, fault):
     """The refusal of a file that the system doesn't let read."""
     return Refusal(f"cannot read {fault.filename or path}: {fault.strerror or fault}", FAILED)
+
+
+def unwritable(path, fault):
+    """The refusal of a file or folder that the system doesn't let write."""
+    return Refusal(f"cannot write {path}: {fault.strerror or fault}", FAILED)

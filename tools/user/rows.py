@@ -63,3 +63,9 @@ def row_of(rows, state):
         if row.name == b"*" and fits(row):
             return row
     return None
+
+
+def class_of(rows, state):
+    """The row of a block state whose name and properties are texts."""
+    name, props = state
+    return row_of(rows, (name.encode(), {key.encode(): value.encode() for key, value in props.items()}))

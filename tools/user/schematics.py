@@ -1,8 +1,8 @@
 """The torches alone as files: a schematic of Litematica, and a structure for the game."""
-import structures
+import nbt_writer
 import torches
 import versions
-from structures import COMPOUND, END, LIST
+from nbt_writer import COMPOUND, END, LIST
 
 # Litematica's format as its own files have it (version 6, of 1.18 to 1.20.4; later ones read it).
 VERSION, SUBVERSION = 6, 1
@@ -32,7 +32,7 @@ def data_version(box):
     return box.data_version or versions.release("1.18").data_version
 
 
-class Writer(structures.Writer):
+class Writer(nbt_writer.Writer):
     """Writes NBT as Litematica lays it out."""
 
     def compound(self, name):
@@ -96,7 +96,7 @@ def litematic(box, plan):
     out.region("torches", plan)
     out.end()
     out.end()
-    return structures.zipped(out.file())
+    return nbt_writer.zipped(out.file())
 
 
 def structure(box, plan):
@@ -115,4 +115,4 @@ def structure(box, plan):
         out.state(*state)
     out.integer("DataVersion", data_version(box))
     out.end()
-    return structures.zipped(out.file())
+    return nbt_writer.zipped(out.file())

@@ -2,9 +2,9 @@
 import extents
 from boxes import Box
 from chunks import compounds, held, needed, state_of
-from nbt import root_of
+from nbt_reader import root_of
+from nbt_writer import INT, LIST
 from refusals import Damaged
-from structures import INT, LIST
 
 LEFT_OUT = frozenset([b"nbt", b"entities"])
 
@@ -18,8 +18,12 @@ def three(entries, name):
 
 
 def read_structure(data, name):
-    """The box of a structure that isn't packed. What the program refuses is a fault here too, but in other words."""
-    root = root_of(data, LEFT_OUT)
+    """The box of a structure file that isn't packed."""
+    return structure_of(root_of(data, LEFT_OUT), name)
+
+
+def structure_of(root, name):
+    """The box of a structure by its root. What the program refuses is a fault here too, but in other words."""
     size = tuple(three(root, b"size"))
     if not 0 <= min(size) <= max(size) <= extents.SIDE or extents.count_of(size) > extents.CELLS:
         raise Damaged("its size is beyond the limits")

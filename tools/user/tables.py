@@ -5,7 +5,7 @@ import re
 from collections import namedtuple
 
 from refusals import unreadable
-from toml_rows import read_rows, text_of
+from toml_rows import inline_text_of, read_rows, text_of
 from versions import LATEST, release
 
 FOLDER = os.path.join(os.path.dirname(os.path.abspath(__file__)), "..", "..", "examples", "tables")
@@ -14,6 +14,7 @@ OLD, NEW = "vanilla-1.18.toml", "vanilla-1.21.toml"
 OLD_VERSIONS = range(release("1.17").data_version, release("1.19").data_version)
 STEADY = b"\n    # steady: "
 ROW = re.compile(rb"^[ \t]*\[\[[ \t]*row[ \t]*\]\]", re.MULTILINE)
+ARRAY = re.compile(rb"^[ \t]*row[ \t]*=[ \t]*\[", re.MULTILINE)
 
 # What a table is called, and its text. One that lies in examples/tables has its path there, others none.
 Table = namedtuple("Table", "name data path")
@@ -38,26 +39,44 @@ def read(path):
         raise unreadable(path, fault) from None
 
 
+def own_table(path):
+    """A table of one's own."""
+    return Table(os.path.basename(path), read(path), os.path.abspath(path))
+
+
 def chosen(data_version, own=None, is_steady=False):
     """The table for a game's data version. Rows of one's own that are tables [[row]] stand before the vanilla rows; an
     array of rows, as the vanilla tables have it, stands alone."""
     name = vanilla_name(data_version)
     path = os.path.normpath(os.path.join(FOLDER, name))
-    data = read(path)
-    told = name
-    if own is not None:
-        mine = read(own)
-        told = os.path.basename(own)
-        if ROW.search(mine):
-            rows = read_rows(data.replace(STEADY, b"\n    ") if is_steady else data)
-            told += f", then {name}" + (" with its steady lights" if is_steady else "")
-            return Table(told, mine + b"\n" + "".join(map(text_of, rows)).encode(), None)
-        path, data = os.path.abspath(own), mine
+    table = Table(name, read(path), path)
+    if own is not None and ROW.search(own.data):
+        rows = read_rows(table.data.replace(STEADY, b"\n    ") if is_steady else table.data)
+        told = f"{own.name}, then {name}" + (" with its steady lights" if is_steady else "")
+        return Table(told, own.data + b"\n" + "".join(map(text_of, rows)).encode(), None)
+    table = own or table
     if not is_steady:
-        return Table(told, data, path)
-    return Table(f"{told} with its steady lights", data.replace(STEADY, b"\n    "), None)
+        return table
+    return Table(f"{table.name} with its steady lights", table.data.replace(STEADY, b"\n    "), None)
 
 
-def mending(name):
-    """Four lines of a table of one's own that mend an unknown block, as what fills its cell: no torch holds on it."""
-    return ["[[row]]", f'name = "{name}"', "opacity = 15", "stand = true"]
+def with_rows(data, rows):
+    """The text of a table with more rows: behind its tables [[row]], or first in its list of rows."""
+    array = None if ROW.search(data) else ARRAY.search(data)
+    if array is None:
+        return data + b"\n" + "".join(map(text_of, rows)).encode()
+    more = "".join(f"\n    {inline_text_of(row)}," for row in rows)
+    return data[: array.end()] + more.encode() + data[array.end() :]
+
+
+def more_of(table, rows):
+    """The table with more rows."""
+    return Table(table.name, with_rows(table.data, rows), None) if rows else table
+
+
+def rows_of(table):
+    """The rows that Python reads of a table; None where it can't."""
+    try:
+        return read_rows(table.data)
+    except (ValueError, AttributeError, TypeError):
+        return None

@@ -11,9 +11,8 @@ WORD = re.compile(r"[a-z0-9_]+")
 
 def state_of(torch):
     """The block state of a torch that hangs so: a name and properties (Minecraft Wiki, "Torch")."""
-    if torch.hang == "floor":
-        return "minecraft:torch", {}
-    return "minecraft:wall_torch", {"facing": torch.hang}
+    *_, hang = torch
+    return ("minecraft:torch", {}) if hang == "floor" else ("minecraft:wall_torch", {"facing": hang})
 
 
 def bounds(torches):

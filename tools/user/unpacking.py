@@ -5,21 +5,26 @@ from refusals import Damaged
 
 # The window bits of zlib that take each packing (Python's documentation of zlib.decompress).
 GZIP, ZLIB = 31, 15
+MAGIC = b"\x1f\x8b"  # a gzip file begins so
 MOST = 67_108_864
 
 
 def unpacked(data, packing):
-    """The bytes that were packed, at most 67,108,864 of them."""
-    stream = zlib.decompressobj(packing)
-    try:
-        found = stream.decompress(data, MOST + 1)
-    except zlib.error:
-        raise Damaged("its packed data is damaged") from None
-    if len(found) > MOST:
-        raise Damaged(f"it unpacks to more than {MOST:,} bytes")
-    if not stream.eof:
-        raise Damaged("its packed data is cut off")
-    return found
+    """The bytes that were packed, at most 67,108,864 of them. A gzip file may have members one behind the other."""
+    found = b""
+    while True:
+        stream = zlib.decompressobj(packing)
+        try:
+            found += stream.decompress(data, MOST + 1 - len(found))
+        except zlib.error:
+            raise Damaged("its packed data is damaged") from None
+        if len(found) > MOST:
+            raise Damaged(f"it unpacks to more than {MOST:,} bytes")
+        if not stream.eof:
+            raise Damaged("its packed data is cut off")
+        data = stream.unused_data
+        if packing != GZIP or data[:2] != MAGIC:
+            return found
 
 
 def read_limited(path):
@@ -33,4 +38,4 @@ def read_limited(path):
 
 def plain(data):
     """The bytes of a file of the game, which is packed by gzip or not at all."""
-    return unpacked(data, GZIP) if data[:2] == b"\x1f\x8b" else data
+    return unpacked(data, GZIP) if data[:2] == MAGIC else data

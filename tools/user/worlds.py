@@ -2,45 +2,45 @@
 a box. Nothing is ever written to a world."""
 import os
 
+import dimensions
 import extents
 from boxes import Box
-from chunks import SIDE, Chunk, NotWhole, held
-from nbt import Fault, root_of
-from refusals import Damaged, Refusal, unreadable
+from chunks import SIDE, Chunk, NotWhole
+from level_files import Level
+from refusals import Damaged, Refusal
 from region_files import RegionFile
-from structures import COMPOUND, INT
-from unpacking import plain, read_limited
-from versions import release
+from session_locks import is_held
+from wrong_files import of_world
 
-# Where a dimension's region files lie ("Java Edition level format"), first as it is since 26.1.
-FOLDERS = {
-    "overworld": ("dimensions/minecraft/overworld/region", "region"),
-    "the_nether": ("dimensions/minecraft/the_nether/region", "DIM-1/region"),
-    "the_end": ("dimensions/minecraft/the_end/region", "DIM1/region"),
-}
 AIR = ("minecraft:air", {})
-# The lowest and the highest layer ("Altitude").
-USUAL, OVERWORLD = (0, 255), (-64, 319)
 # The box about a point: its sides, and how far the point stands from its lowest corner.
-AROUND, AT = (80, 40, 80), (40, 16, 40)
+AROUND, AT = (76, 40, 76), (38, 16, 38)
 
 
 class World:
     """A dimension of a saved world.
 
     name          the name of the world's folder
+    dimension     the dimension, as "minecraft:overworld"
+    level         what level.dat tells
+    is_open       whether the game has it open
     data_version  the version of the game's data by level.dat, or else of the newest chunk read; 0 before any is"""
 
-    def __init__(self, folder, dimension):
-        self.name, self.dimension = os.path.basename(os.path.abspath(folder)), dimension
+    def __init__(self, folder, dimension=None):
+        self.name = os.path.basename(os.path.abspath(folder))
+        wrong = of_world(folder)
+        if wrong is not None:
+            raise Refusal(f"{folder} {wrong}")
         if not os.path.isdir(folder):
             raise Refusal(f"{folder} is no folder of a saved world")
-        found = [os.path.join(folder, *path.split("/")) for path in FOLDERS[dimension]]
-        self.folder = next(filter(os.path.isdir, found), None)
+        self.level = Level(folder)
+        self.dimension = dimension or dimensions.only_one(folder)
+        self.folder = dimensions.folder_of(folder, self.dimension)
         if self.folder is None:
-            raise Refusal(f"{folder} has no region files of {dimension} (in {' or '.join(FOLDERS[dimension])})")
-        self.told_version = version_of(os.path.join(folder, "level.dat"))
-        self.data_version = self.told_version or 0
+            looked = " or ".join(dimensions.folders(self.dimension))
+            raise Refusal(f"{folder} has no region files of {self.dimension.split('minecraft:')[-1]} (in {looked})")
+        self.is_open = is_held(folder)
+        self.data_version = self.level.data_version or 0
         self.chunks = {}
 
     def chunk(self, x, z):
@@ -57,36 +57,22 @@ class World:
             found = None if data is None else Chunk(data, x, z)
         except NotWhole as why:
             raise NotWhole(f"region file {file.name}: chunk {x} {z}: {why}") from None
-        except (Damaged, Fault) as why:
+        except Damaged as why:
             raise Refusal(f"region file {file.name}: chunk {x} {z}: {why}") from None
-        if found and self.told_version is None:
+        if found and self.level.data_version is None:
             self.data_version = max(self.data_version, found.data_version)
         return found
 
-    def is_whole(self, x, z):
-        """Whether the game has made this chunk and finished it."""
+    def whole(self, x, z):
+        """A chunk that the game has made and finished, or None."""
         try:
-            return self.chunk(x, z) is not None
+            return self.chunk(x, z)
         except NotWhole:
-            return False
+            return None
 
     def heights(self):
         """The lowest and the highest layer in which blocks can be."""
-        is_tall = self.dimension == "overworld" and self.data_version >= release("1.18").data_version
-        return OVERWORLD if is_tall else USUAL
-
-
-def version_of(path):
-    """The data version that level.dat tells, or None where there is none ("Java Edition level format", level.dat)."""
-    try:
-        data = held(root_of(plain(read_limited(path))), b"Data", COMPOUND) or {}
-        return held(data, b"DataVersion", INT)
-    except FileNotFoundError:
-        return None
-    except OSError as fault:
-        raise unreadable(path, fault) from None
-    except (Damaged, Fault) as why:
-        raise Refusal(f"level.dat: {why}") from None
+        return dimensions.heights(self.dimension, self.data_version, filter(None, self.chunks.values()))
 
 
 def chunks_of(extent):
@@ -96,7 +82,7 @@ def chunks_of(extent):
 
 
 def extent_around(world, point):
-    """The largest extent about a point, up to 80 x 40 x 80, within the heights of the world and the chunks that are
+    """The largest extent about a point, up to 76 x 40 x 76, within the heights of the world and the chunks that are
     there and finished. It has 16 layers below the point, where the heights allow."""
     x, y, z = point
     home = x // SIDE, z // SIDE
@@ -109,6 +95,22 @@ def extent_around(world, point):
     west, east, north, south = grown(world, home, wanted)
     reached = (west * SIDE, bottom, north * SIDE), (east * SIDE + 15, wanted.high[1], south * SIDE + 15)
     return extents.Extent(tuple(map(max, wanted.low, reached[0])), tuple(map(min, wanted.high, reached[1])))
+
+
+def extent_within(world, point, radius):
+    """The extent of so many blocks about a point on each side, within the world's heights."""
+    require_chunks(world, [(point[0] // SIDE, point[2] // SIDE)])
+    low, high = world.heights()
+    return extents.Extent((point[0] - radius, max(low, point[1] - radius), point[2] - radius),
+                          (point[0] + radius, min(high, point[1] + radius), point[2] + radius))
+
+
+def extent_of_chunks(world, places):
+    """The extent of chunks, told by their coordinates, in the world's whole height."""
+    (west, north), (east, south) = places
+    require_chunks(world, [(x, z) for x in range(west, east + 1) for z in range(north, south + 1)])
+    low, high = world.heights()
+    return extents.Extent((west * SIDE, low, north * SIDE), (east * SIDE + SIDE - 1, high, south * SIDE + SIDE - 1))
 
 
 def grown(world, home, wanted):
@@ -124,43 +126,57 @@ def grown(world, home, wanted):
             [(west - 1, z) for z in rows], [(east + 1, z) for z in rows],
             [(x, north - 1) for x in columns], [(x, south + 1) for x in columns],
         ][side]
-        if near.issuperset(more) and all(world.is_whole(*at) for at in more):
+        if near.issuperset(more) and all(world.whole(*at) for at in more):
             west, east, north, south = west - (side == 0), east + (side == 1), north - (side == 2), south + (side == 3)
             sides.append(side)
     return west, east, north, south
 
 
 def require_chunks(world, places):
-    """Refuses what isn't there, or isn't finished."""
+    """Refuses places none of whose chunks is there and finished."""
+    if any(world.whole(*at) for at in places):
+        return
     try:
-        missing = [at for at in places if world.chunk(*at) is None]
+        world.chunk(*places[0])
     except NotWhole as why:
         raise Refusal(str(why)) from None
-    if missing:
-        (x, z), more = missing[0], len(missing) - 1
-        region = RegionFile(world.folder, x, z).name
-        also = f", nor are {more} more of the box" if more else ""
-        raise Refusal(f"region file {region}: chunk {x} {z} isn't there{also}: walk there in the game first")
+    x, z = places[0]
+    region, more = RegionFile(world.folder, x, z).name, len(places) - 1
+    also = f", nor are {more} more of the box" if more else ""
+    raise Refusal(f"region file {region}: chunk {x} {z} isn't there{also}: walk there in the game first")
 
 
 def read_box(world, extent):
-    """The blocks of an extent that keeps the limits. Beyond the world's heights nothing is known where the chunks have
-    no section; within them what has none is air."""
-    places = chunks_of(extent)
-    require_chunks(world, places)
+    """The blocks of an extent. Nothing is known of chunks that aren't there and finished, nor beyond the world's
+    heights where the chunks have no section; within them a chunk's absent section is air."""
     size = extents.size_of(extent)
-    box = Box(size, [], [Box.NO_ENTRY] * extents.count_of(size), extent.low, f"minecraft:{world.dimension}")
+    box = Box(size, [], [Box.NO_ENTRY] * extents.count_of(size), extent.low, world.dimension)
     states = {}
-    for x, z in places:
+    for x, z in chunks_of(extent):
         try:
-            fill(box, states, world, x, z)
+            if world.whole(x, z):
+                fill(box, states, world, x, z)
         except Damaged as why:
             raise Refusal(f"region file {RegionFile(world.folder, x, z).name}: chunk {x} {z}: {why}") from None
-    if all(cell == Box.NO_ENTRY for cell in box.cells):
-        raise Refusal("the box lies outside of the world, whose layers are {} to {}".format(*world.heights()))
     box.data_version = world.data_version
-    box.name = " ".join([world.name, *map(str, extent.low)])
     return box
+
+
+def missing(world, extent):
+    """The chunks of an extent that aren't there and finished."""
+    return [at for at in chunks_of(extent) if not world.whole(*at)]
+
+
+def require_blocks(world, extent):
+    """Refuses an extent of which nothing is known."""
+    places = chunks_of(extent)
+    require_chunks(world, places)
+    low, high = world.heights()
+    if low <= extent.high[1] and extent.low[1] <= high:
+        return
+    sections = [height for at in places if world.whole(*at) for height in world.chunk(*at).sections]
+    if not any(extent.low[1] // SIDE <= height <= extent.high[1] // SIDE for height in sections):
+        raise Refusal(f"the box lies outside of the world, whose layers are {low} to {high}")
 
 
 def index_of(box, states, state):

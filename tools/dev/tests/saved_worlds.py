@@ -12,6 +12,10 @@ class Byte(int):
     """A number that is a Byte."""
 
 
+class Short(int):
+    """A number that is a Short."""
+
+
 class Longs(list):
     """Numbers that are an array of Longs."""
 
@@ -25,6 +29,12 @@ def payload(value):
     """The id of a value's kind and its bytes."""
     if isinstance(value, Byte):
         return 1, struct.pack(">b", value)
+    if isinstance(value, Short):
+        return 2, struct.pack(">H", value)
+    if isinstance(value, float):
+        return 6, struct.pack(">d", value)
+    if isinstance(value, bytes):
+        return 7, struct.pack(">i", len(value)) + value
     if isinstance(value, int):
         return 3, struct.pack(">i", value)
     if isinstance(value, str):
@@ -93,12 +103,13 @@ PACKERS = {1: gzip.compress, 2: zlib.compress, 3: bytes, 4: bytes}
 class Saved:
     """A saved world in a folder, of chunks that are put in by their coordinates."""
 
-    def __init__(self, folder, region="region", version=V1_18):
+    def __init__(self, folder, region="region", version=V1_18, player=None):
         self.folder, self.region, self.chunks = folder, os.path.join(folder, *region.split("/")), {}
         os.makedirs(self.region, exist_ok=True)
         if version is not None:
             with gzip.open(os.path.join(folder, "level.dat"), "wb") as file:
-                file.write(nbt({"Data": {"DataVersion": version, "LevelName": "a world"}}))
+                told = {"DataVersion": version, "LevelName": "a world", **({"Player": player} if player else {})}
+                file.write(nbt({"Data": told}))
 
     def put(self, x, z, data, packing=2, is_outside=False):
         """Puts in a chunk of this NBT, which has a file of its own where it is outside."""

@@ -3,7 +3,8 @@ import unittest
 import unittest.mock
 
 import paths
-from nbt import Fault, root_of, text_of
+from nbt_reader import root_of, text_of
+from refusals import Damaged
 from saved_worlds import Byte, Longs, nbt
 
 COMPOUND, LIST, INT, TEXT, LONGS, BYTE = 10, 9, 3, 8, 12, 1
@@ -12,7 +13,7 @@ ROOT = b"\x0a\0\0"
 
 class Reading(unittest.TestCase):
     def fault(self, data):
-        with self.assertRaises(Fault) as seen:
+        with self.assertRaises(Damaged) as seen:
             root_of(data)
         return str(seen.exception)
 
@@ -44,7 +45,7 @@ class Reading(unittest.TestCase):
     def test_what_is_left_out_is_read_over(self):
         data = nbt({"a": {"x": [{"y": 1}, {"z": [[1]]}]}, "b": {"a": 1, "c": 2}})
         self.assertEqual(root_of(data, frozenset([b"a"])), {b"b": (COMPOUND, {b"c": (INT, 2)})})
-        with self.assertRaises(Fault):
+        with self.assertRaises(Damaged):
             root_of(ROOT + b"\x0a\0\1a\x0d\0\0", frozenset([b"a"]))
 
     def test_bytes_behind_the_root_are_ignored(self):
@@ -72,7 +73,7 @@ class Reading(unittest.TestCase):
 
     def test_no_more_lists_and_compounds_than_memory_bears(self):
         data, wide = nbt({"a": [{}] * 9}), nbt({"b": [{}] * 10, "c": []})
-        with unittest.mock.patch("nbt.MOST", 11):
+        with unittest.mock.patch("nbt_reader.MOST", 11):
             self.assertEqual(len(root_of(data)[b"a"][1][1]), 9)
             self.assertEqual(self.fault(wide), "nbt: more than 11 lists and compounds")
             self.assertEqual(root_of(wide, frozenset([b"b"])), {b"c": (LIST, (0, []))})

@@ -8,14 +8,14 @@ from made import AIR, floor_box, plan_of, row_of_torches
 import outputs
 import torches
 
-FILES = ["README.txt", "index.html", "torches.litematic", "torches.nbt", "torches.zip"]
+FILES = ["README.txt", "index.html", "x-torches.litematic", "x-torches.nbt", "x-torches.zip"]
 CORNER = {"corner": (-20, 11, 7), "dimension": "minecraft:the_nether"}
 
 
-def written(box, plan, verdict="accepted 1", told=None):
+def written(box, plan, verdict="accepted 1", told=None, notes=()):
     """The files that are written for a plan: their bytes by names."""
     with tempfile.TemporaryDirectory() as folder:
-        outputs.write(folder, box, plan, [], None, verdict, told or {})
+        outputs.write(folder, box, plan, [], None, verdict, told or {}, notes)
         found = {}
         for name in os.listdir(folder):
             with open(os.path.join(folder, name), "rb") as file:
@@ -23,8 +23,8 @@ def written(box, plan, verdict="accepted 1", told=None):
         return found
 
 
-def readme(box, plan, verdict="accepted 1", told=None):
-    return written(box, plan, verdict, told)["README.txt"].decode()
+def readme(box, plan, verdict="accepted 1", told=None, notes=()):
+    return written(box, plan, verdict, told, notes)["README.txt"].decode()
 
 
 class Folder(unittest.TestCase):
@@ -37,7 +37,8 @@ class Folder(unittest.TestCase):
 
     def test_a_name_of_a_file_that_is_no_text_is_written_all_the_same(self):
         name = os.fsdecode(b"caf\xe9 \xff")
-        self.assertEqual(sorted(written(floor_box([AIR], name=name), row_of_torches(1))), FILES)
+        files = sorted(written(floor_box([AIR], name=name), row_of_torches(1)))
+        self.assertEqual([os.path.splitext(name)[1] for name in files], [".txt", ".litematic", ".nbt", ".zip", ".html"])
 
 
 class Readme(unittest.TestCase):
@@ -61,8 +62,20 @@ class Readme(unittest.TestCase):
         self.assertIn("-20 11 7 in minecraft:the_nether", text)
         self.assertIn("origin to -20 11 7", text)
         self.assertIn("load it at -17 12 7", text)
+
+    def test_without_a_corner_each_place_is_a_sum(self):
+        plan = plan_of([(3, 1, 0, "floor"), (5, 1, 0, "floor")])
         text = readme(floor_box([AIR] * 6), plan)
-        self.assertIn("load it at the corner + (3 1 0)", text)
+        self.assertIn("X Y Z are its coordinates", text)
+        self.assertIn("load it at X+3 Y+1 Z\n", text)
+        self.assertIn("origin to X Y Z\n", text)
+        text = readme(floor_box([AIR] * 60), plan_of([(3, 1, 0, "floor"), (55, 1, 0, "floor")]))
+        self.assertIn("/place template minecraft:cave-torches X+3 Y+1 Z (", text)
+
+    def test_notes_stand_in_it_and_on_the_page(self):
+        files = written(floor_box([AIR]), row_of_torches(1), notes=["mind the <gap>"])
+        self.assertIn("\nmind the <gap>\n", files["README.txt"].decode())
+        self.assertIn('"notes":["mind the \\u003cgap\\u003e"]', files["index.html"].decode())
 
     def test_a_wide_structure_is_told(self):
         for count, is_wide in ((48, False), (49, True)):
@@ -70,8 +83,8 @@ class Readme(unittest.TestCase):
             self.assertEqual("/place template" in text, is_wide)
 
     def test_parts_that_are_run_by_hand_are_told(self):
-        lines = outputs.notes(floor_box([AIR] * 70_000), row_of_torches(70_000), None, {})
-        self.assertIn("torchplan:place/1 to torchplan:place/3", "".join(lines))
+        lines = outputs.readme(floor_box([AIR] * 70_000), row_of_torches(70_000), None, {}, [])
+        self.assertIn("torchplan:cave/place/1 to torchplan:cave/place/3", "".join(lines))
         self.assertNotIn("place/1", readme(floor_box([AIR]), row_of_torches(1)))
 
     def test_a_name_stays_in_its_line(self):
@@ -83,7 +96,7 @@ class Readme(unittest.TestCase):
         for words in ("light x.nbt", "rule 1.17", "headroom 2", "table vanilla-1.18", "torchplan 0.6.0"):
             self.assertIn(words, text)
         text = readme(floor_box([AIR]), row_of_torches(1), told={"files": {"cave.nbt": "the planned box"}})
-        self.assertIn("cave.nbt          the planned box\n", text)
+        self.assertRegex(text, "cave.nbt +the planned box\n")
         self.assertNotIn("None", readme(floor_box([AIR]), row_of_torches(1), told={"table": None}))
 
 

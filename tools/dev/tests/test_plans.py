@@ -9,6 +9,7 @@ import made  # it makes the modules of tools/user known
 from repository import EXAMPLES, TOOLS
 
 import plans
+from refusals import Damaged
 
 MAKE_FUNCTION = os.path.join(TOOLS, "user", "make-function")
 PLAN = """torches 2 at-least 1
@@ -49,8 +50,8 @@ class Reading(unittest.TestCase):
 
     def test_other_texts_are_no_plans(self):
         for text in ("", "dark 5\n", "torches 1\ndark 1\nT 0 0 0 ceiling\n"):
-            self.assertRaises(plans.NotAPlan, plans.read_plan, text)
-        self.assertRaises(plans.NotAPlan, plans.read_dark, "torches 1\n")
+            self.assertRaises(Damaged, plans.read_plan, text)
+        self.assertRaises(Damaged, plans.read_dark, "torches 1\n")
 
 
 class Commands(unittest.TestCase):

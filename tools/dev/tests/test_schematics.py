@@ -26,6 +26,7 @@ def random_plan(seed, size, count):
 
 PLANS = [
     row_of_torches(1),
+    row_of_torches(40),
     plan_of([(5, 6, 7, "west")]),
     plan_of([(3, 2, 9, "floor"), (3, 2, 8, "north"), (8, 40, 1, "floor")]),
     *[random_plan(seed, (30, 20, 25), 60) for seed in range(3)],
@@ -74,7 +75,7 @@ class Litematic(unittest.TestCase):
         self.assertEqual([region[name] for name in EMPTY_LISTS], [[], [], [], []])
 
     def test_its_head_is_as_litematica_writes_it(self):
-        root = self.root(PLANS[2])
+        root = self.root(PLANS[3])
         self.assertEqual((root["Version"], root["SubVersion"], root["MinecraftDataVersion"]), (6, 1, 3955))
         self.assertEqual(set(root), {"Version", "SubVersion", "MinecraftDataVersion", "Metadata", "Regions"})
         told = root["Metadata"]

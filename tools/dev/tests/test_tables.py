@@ -8,6 +8,8 @@ import unittest
 import paths
 import tables
 import toml_rows
+import unknowns
+from made import AIR, floor_box
 from refusals import Refusal
 from repository import EXAMPLES, TOOLS
 from rows import COLUMNS, SHIPPED_ROWS, Row, row_of
@@ -188,24 +190,46 @@ class Choice(unittest.TestCase):
     def test_rows_of_one_s_own_stand_before_those_of_the_vanilla_table(self):
         mine = b'[[row]]\nname = "minecraft:campfire"\nopacity = 1\n\n[[row]]\nname = "cave:felt"\nopacity = 15\n'
         for is_steady in (False, True):
-            rows = toml_rows.read_rows(tables.chosen(None, self.mine(mine), is_steady).data)
+            rows = toml_rows.read_rows(tables.chosen(None, tables.own_table(self.mine(mine)), is_steady).data)
             self.assertEqual(rows[:2], toml_rows.read_rows(mine))
             self.assertEqual(rows[2:], toml_rows.read_rows(tables.chosen(None, None, is_steady).data))
 
     def test_an_array_of_one_s_own_stands_alone(self):
         for mine in (b'row = [{ name = "*", opacity = 0 }]\n', b""):
-            found = tables.chosen(None, self.mine(mine))
+            found = tables.chosen(None, tables.own_table(self.mine(mine)))
             self.assertEqual((found.data, found.path), (mine, self.path))
 
     def test_a_table_that_cannot_be_read(self):
         with self.assertRaises(Refusal) as seen:
-            tables.chosen(None, self.path)
+            tables.own_table(self.path)
         self.assertEqual((str(seen.exception), seen.exception.status),
                          (f"cannot read {self.path}: No such file or directory", 6))
 
-    def test_lines_that_mend_an_unknown_block(self):
-        rows = toml_rows.read_rows("\n".join(tables.mending("cave:felt")).encode())
-        self.assertEqual(rows, [Row(b"cave:felt", {}, 15, 0, False, True, False, False, False)])
+    def test_more_rows_stand_in_any_table(self):
+        more = [Row(b"made:1", {}, 3, 5, False, True, False, False, True), Row(b"made:2", {}, 0, 0, *[False] * 5)]
+        array = b'# rows\nrow = [ { name = "cave:felt", opacity = 1 } ] # so many\n'
+        for mine in (b"", b'[[row]]\nname = "cave:felt"\nopacity = 1', array, text(EXAMPLES, "tables", OLD).encode()):
+            rows = toml_rows.read_rows(tables.with_rows(mine, more))
+            self.assertCountEqual(rows, [*toml_rows.read_rows(mine), *more])
+        table = tables.chosen(None)
+        self.assertIs(tables.more_of(table, []), table)
+        self.assertIsNone(tables.more_of(table, more).path)
+
+
+class Unknown(unittest.TestCase):
+    def test_each_name_once_and_no_block_that_no_cell_has(self):
+        box = floor_box([("cave:felt", {}), ("cave:felt", {"wet": "true"}), ("mod:ore", {}), AIR])
+        box.palette.append(("mod:unused", {}))
+        self.assertEqual(unknowns.unknown_names(box, []), ["cave:felt", "mod:ore"])
+
+    def test_the_table_takes_each_as_full_and_solid(self):
+        full = lambda name: Row(name, {}, 15, 0, False, True, False, True, True)
+        for own in (None, b'[[row]]\nname = "a:b"\nopacity = 15\nstand = true\ntop = true\nside = true\n',
+                    b'row = [{ name = "a:b", opacity = 15, stand = true, top = true, side = true }]'):
+            data = unknowns.table_for(["cave:felt", "mod:x/y"], own)
+            self.assertTrue(data.startswith(b"# Blocks that no table has."))
+            rows = toml_rows.read_rows(data)
+            self.assertCountEqual(rows, [full(b"a:b")] * bool(own) + [full(b"cave:felt"), full(b"mod:x/y")])
 
 
 class Toml(unittest.TestCase):

@@ -5,11 +5,13 @@ import unittest
 import zlib
 
 import paths
+import dimensions
 import extents
+import level_files
 import saved_worlds
 import worlds
 from boxes import Box
-from nbt import text_of
+from nbt_reader import text_of
 from refusals import Refusal
 from saved_worlds import V1_16, V1_17, V1_18, V1_21, Longs, Saved, chunk, nbt
 
@@ -36,7 +38,9 @@ class Worlds(unittest.TestCase):
         self.folder = os.path.join(self.room.name, "a world")
 
     def box(self, one, other, dimension="overworld"):
-        return worlds.read_box(worlds.World(self.folder, dimension), extents.between(one, other))
+        world, extent = worlds.World(self.folder, dimensions.named(dimension)), extents.between(one, other)
+        worlds.require_blocks(world, extent)
+        return worlds.read_box(world, extent)
 
     def refused(self, one=(0, 0, 0), other=(15, 15, 15), dimension="overworld"):
         with self.assertRaises(Refusal) as seen:
@@ -126,7 +130,14 @@ class Formats(Worlds):
     def test_what_the_world_tells_of_itself(self):
         Saved(self.folder, version=V1_21).fill(floor, [0], [(0, 0)])
         box = self.box((1, 2, 3), (4, 5, 6))
-        self.assertEqual((box.size, box.data_version, box.name), ((4, 4, 4), V1_21, "a world 1 2 3"))
+        self.assertEqual((box.size, box.data_version), ((4, 4, 4), V1_21))
+
+    def test_the_player_stands_in_the_block_that_has_the_point(self):
+        for told, player in [({"Pos": [-0.3, -60.0, 5.999], "Dimension": "minecraft:the_end"}, ((-1, -60, 5), "minecraft:the_end")),
+                             ({"Pos": [1.0, 2.0, 3.0]}, ((1, 2, 3), "minecraft:overworld")),
+                             ({"Pos": [1.0, 2.0]}, None), ({"Pos": [float("nan"), 1.0, 1.0]}, None), (None, None)]:
+            Saved(self.folder, player=told)
+            self.assertEqual(level_files.Level(self.folder).player, player)
 
     def test_without_level_dat_the_newest_chunk_tells_the_version(self):
         saved = Saved(self.folder, version=None)
@@ -180,11 +191,19 @@ class Gaps(Worlds):
         Saved(self.folder).fill(floor, [25], [(0, 0)])
         self.assert_has(self.box((0, 400, 0), (3, 410, 3)), (0, 400, 0), floor)
 
-    def test_absent_chunks(self):
+    def test_nothing_is_known_of_absent_chunks(self):
         Saved(self.folder).fill(floor, [0], [(0, 0), (1, 0)])
-        self.assertEqual(self.refused((0, 0, 0), (15, 3, 31)),
+        box = self.box((14, 0, 14), (17, 1, 17))
+        self.assertEqual({number for number, cell in enumerate(box.cells) if cell == Box.NO_ENTRY},
+                         {box.number(x, y, z) for x in range(4) for y in (0, 1) for z in (2, 3)})
+        world = worlds.World(self.folder)
+        self.assertEqual(worlds.missing(world, extents.between((14, 0, 14), (17, 1, 17))), [(0, 1), (1, 1)])
+
+    def test_a_box_none_of_whose_chunks_is_there(self):
+        Saved(self.folder).fill(floor, [0], [(0, 0), (1, 0)])
+        self.assertEqual(self.refused((0, 0, 16), (15, 3, 31)),
                          "region file r.0.0.mca: chunk 0 1 isn't there: walk there in the game first")
-        self.assertIn("chunk 0 -1 isn't there, nor are 3 more of the box", self.refused((0, 0, -9), (31, 3, 17)))
+        self.assertIn("chunk 0 1 isn't there, nor are 3 more of the box", self.refused((0, 0, 16), (31, 3, 33)))
         told = self.refused((4800, 0, -4000), (4801, 1, -3999))
         self.assertIn("region file r.9.-8.mca: chunk 300 -250 isn't there", told)
 
@@ -219,7 +238,7 @@ class Gaps(Worlds):
 
 class Around(Worlds):
     def around(self, point, dimension="overworld"):
-        return worlds.extent_around(worlds.World(self.folder, dimension), point)
+        return worlds.extent_around(worlds.World(self.folder, dimensions.named(dimension)), point)
 
     def setUp(self):
         super().setUp()
@@ -231,21 +250,27 @@ class Around(Worlds):
             self.saved.put(x, z, chunk(x, z, floor, [], **how))
         self.saved.write()
 
-    def test_80_by_40_by_80_about_the_point(self):
+    def test_76_by_40_by_76_about_the_point(self):
         self.fill(self.empty)
-        self.assertEqual(self.around((3, 20, -2)), ((-37, 4, -42), (42, 43, 37)))
+        self.assertEqual(self.around((3, 20, -2)), ((-35, 4, -40), (40, 43, 35)))
 
     def test_within_the_heights(self):
         self.fill(self.empty)
-        self.assertEqual(self.around((0, -60, 0)), ((-40, -64, -40), (39, -25, 39)))
-        self.assertEqual(self.around((0, 319, 0)), ((-40, 280, -40), (39, 319, 39)))
+        self.assertEqual(self.around((0, -60, 0)), ((-38, -64, -38), (37, -25, 37)))
+        self.assertEqual(self.around((0, 319, 0)), ((-38, 280, -38), (37, 319, 37)))
         with self.assertRaisesRegex(Refusal, "y 320 lies outside of the world, whose layers are -64 to 319"):
             self.around((0, 320, 0))
 
     def test_within_the_chunks_that_are_there_and_finished(self):
         self.fill([(x, z) for x, z in self.empty if x > -2 and z < 1])
         self.fill([(2, -1)], status="minecraft:noise")
-        self.assertEqual(self.around((0, 0, 0)), ((-16, -16, -40), (31, 23, 15)))
+        self.assertEqual(self.around((0, 0, 0)), ((-16, -16, -38), (31, 23, 15)))
+
+    def test_no_chunk_beyond_the_box_is_read(self):
+        self.fill([(x, 0) for x in range(-9, 10)] + [(0, z) for z in range(-9, 10)])
+        world = worlds.World(self.folder)
+        worlds.extent_around(world, (0, 0, 0))
+        self.assertLessEqual(max(max(abs(x), abs(z)) for x, z in world.chunks), 3)
 
     def test_the_chunk_of_the_point_has_to_be_there(self):
         self.fill([(0, 0)])
@@ -262,7 +287,7 @@ class Damage(Worlds):
 
     def reads(self):
         """Whether two chunks are read as they were; what is refused is refused in one line."""
-        self.world = self.world or worlds.World(self.folder, "overworld")
+        self.world = self.world or worlds.World(self.folder)
         try:
             for x in (0, 1):
                 chunk = self.world.read(x, 0)

@@ -55,15 +55,20 @@ function caveOf(data) {
   const darkCells = ungap(data.dark);
   darkCells.forEach((cell) => (dark[cell] = 1));
   const torches = data.torches.map(([x, y, z, hang], index) => ({ x, y, z, hang, index, ...HANGS[hang] }));
+  const away = new Set((data.away || []).map(([x, y, z]) => number(x, y, z)));
+  const layers = Array.from({ length: tall }, () => []);
+  torches.forEach((torch) => layers[torch.y].push(torch));
   const torchAt = new Map(torches.map((torch) => [number(torch.x, torch.y, torch.z), torch]));
   return {
     ...data, wide, tall, deep, torches, levels, dark, number, has, darkCount: darkCells.length,
     /** The block state there; null where the file says nothing. */
     stateAt: (x, y, z) => (has(x, y, z) && states[cells[number(x, y, z)] - 1]) || null,
+    /** Whether the torch that stands there is taken away. */
+    isTakenAway: (x, y, z) => away.has(number(x, y, z)),
     torchAt: (x, y, z) => torchAt.get(number(x, y, z)),
     /** A box coordinate as the world has it, axis 0 to 2; the box's own where the corner isn't known. */
     worldly: (axis, at) => (data.corner === null ? at : data.corner[axis] + at),
-    inLayer: (y) => torches.filter((torch) => torch.y === y),
+    inLayer: (y) => layers[y] || [],
   };
 }
 

@@ -58,23 +58,52 @@ function placeOf(cave, { x, y, z }) {
   return { first: signed([0, 1, 2].map((axis) => cave.worldly(axis, [x, y, z][axis]))), second: `· box ${box}` };
 }
 
+/** The torches, in their order, by parts that lie in one layer each. */
+function runsOfLayers(torches) {
+  const runs = [];
+  for (const torch of torches) {
+    if (runs.length > 0 && runs[runs.length - 1][0].y === torch.y) runs[runs.length - 1].push(torch);
+    else runs.push([torch]);
+  }
+  return runs;
+}
+
 class List {
-  /** The list in that element. `ticked` is called with a torch and whether it is done, `chosen` with a torch. */
-  constructor(holder, cave, { ticked, chosen }) {
-    Object.assign(this, { cave, ticked, chosen });
+  /** The list in that element, beside the map. `ticked` is called with a torch and whether it is done, `chosen` with a
+   * torch. */
+  constructor(holder, map, cave, { ticked, chosen }) {
+    Object.assign(this, { holder, map, cave, ticked, chosen });
     this.items = [];
     this.heads = [];
-    const heights = [...new Set(cave.torches.map((torch) => torch.y))];
-    holder.append(...heights.flatMap((y) => this.layer(y)));
-    if (heights.length === 0) holder.append(element("p", { textContent: "No torch is needed." }));
+    const apart = cave.torches.length - (cave.apart || 0);
+    holder.append(...this.takenAway(), ...this.runs(cave.torches.slice(0, apart)));
+    if (cave.apart) holder.append(element("h2", { className: "apart", textContent: "Where nobody gets to on foot" }));
+    holder.append(...this.runs(cave.torches.slice(apart)));
+    if (cave.torches.length > 0) return;
+    holder.append(element("p", { textContent: cave.total ? "" : "No torch is needed." }));
   }
 
-  layer(y) {
-    const world = this.cave.corner === null ? "" : ` (y ${signed([this.cave.worldly(1, y)])})`;
+  /** The torches that stand there and are taken away. */
+  takenAway() {
+    const away = this.cave.away || [];
+    if (away.length === 0) return [];
+    const told = (x, y, z) => placeOf(this.cave, { x, y, z }).first;
+    const places = away.map((at) => element("li", { className: "away", textContent: told(...at) }));
+    const head = element("h2", {}, element("span", { textContent: `Take away ${away.length}` }));
+    return [head, element("ol", {}, ...places)];
+  }
+
+  runs(torches) {
+    return runsOfLayers(torches).flatMap((run) => this.run(run));
+  }
+
+  /** A part of the walk that stays in one layer. */
+  run(torches) {
+    const { y } = torches[0], world = this.cave.corner === null ? "" : ` (y ${signed([this.cave.worldly(1, y)])})`;
     const left = element("span");
-    this.heads.push({ y, left });
+    this.heads.push({ torches, left });
     const head = element("h2", {}, element("span", { textContent: `Layer ${y}${world}` }), left);
-    return [head, element("ol", {}, ...this.cave.inLayer(y).map((torch) => this.item(torch)))];
+    return [head, element("ol", {}, ...torches.map((torch) => this.item(torch)))];
   }
 
   item(torch) {
@@ -97,17 +126,32 @@ class List {
       item.classList.toggle("done", done.has(index));
       item.classList.toggle("chosen", chosen !== null && chosen.index === index);
     });
-    for (const { y, left } of this.heads) {
-      const all = this.cave.inLayer(y), count = all.filter((torch) => done.has(torch.index)).length;
-      left.textContent = `${count} of ${all.length}`;
+    for (const { torches, left } of this.heads) {
+      left.textContent = `${torches.filter((torch) => done.has(torch.index)).length} of ${torches.length}`;
     }
+  }
+
+  /** Brings the first torch of a layer into sight. */
+  follow(y) {
+    const torch = this.cave.torches.find((torch) => torch.y === y);
+    if (torch !== undefined) this.reveal(torch);
   }
 
   /** Brings a torch's line into sight, within the list alone. */
   reveal(torch) {
     const { item } = this.items[torch.index], scroller = item.closest("aside");
-    if (scroller.scrollHeight <= scroller.clientHeight) return;
     const line = item.getBoundingClientRect(), room = scroller.getBoundingClientRect();
-    if (line.top < room.top || line.bottom > room.bottom) scroller.scrollTop += line.top - room.top - room.height / 2;
+    if (scroller.scrollHeight <= scroller.clientHeight) this.revealBelow(line);
+    else if (line.top < room.top || line.bottom > room.bottom) {
+      scroller.scrollTop += line.top - room.top - room.height / 2;
+    }
+  }
+
+  /** Brings a line into sight below the map, on a phone, where the map stays as the page scrolls: once the list is
+   * there. */
+  revealBelow(line) {
+    const top = this.map.getBoundingClientRect().bottom, bottom = window.innerHeight;
+    const isListSeen = top < bottom && this.holder.getBoundingClientRect().top < bottom - 2 * line.height;
+    if (isListSeen && (line.top < top || line.bottom > bottom)) window.scrollBy(0, line.top - (top + bottom) / 2);
   }
 }

@@ -46,7 +46,8 @@ function layerName(y) {
   return cave.corner === null ? `Layer ${y}` : `Layer ${y} (y ${signed([cave.worldly(1, y)])})`;
 }
 
-function goTo(y) {
+/** Shows a layer. The list follows, unless it would move the overview away from under the pointer. */
+function goTo(y, isFollowed = true) {
   state.y = Math.min(cave.tall - 1, Math.max(0, y));
   byId("layer").value = state.y;
   byId("layer").setAttribute("aria-valuetext", layerName(state.y));
@@ -54,8 +55,10 @@ function goTo(y) {
   const told = count === 0 ? "no torch" : counted(count, "torch");
   const small = element("small", { textContent: `of ${cave.tall} · ${told}` });
   byId("height").replaceChildren(layerName(state.y), small);
+  overview.mark(state.y);
   canvas.setAttribute("aria-label", `Map of ${layerName(state.y)}: ${told}`);
   tell(state.cell);
+  if (isFollowed && (state.chosen === null || state.chosen.y !== state.y)) list.follow(state.y);
   redraw(true);
 }
 
@@ -89,11 +92,18 @@ function tell(cell) {
   if (torch) told.unshift(`torch ${torch.index + 1} ${torch.words}`);
   if (cave.levels !== null && block !== null) told.push(`light ${cave.levels[number]}`);
   if (cave.dark[number]) told.push("dark before");
-  byId("cell").replaceChildren(element("b", { textContent: `${first} ${second}`.trim() }), ` · ${told.join(" · ")}`);
+  const box = element("span", { className: "box", textContent: second && ` ${second}` });
+  byId("cell").replaceChildren(element("b", { textContent: first }), box, ` · ${told.join(" · ")}`);
+}
+
+/** Ticks the torch that is chosen, or takes its tick away. */
+function tickChosen() {
+  if (state.chosen !== null) tick(state.chosen, !ticks.done.has(state.chosen.index));
 }
 
 function tick(torch, isDone) {
   ticks.set(torch.index, isDone);
+  overview.renew([torch.y]);
   update();
 }
 
@@ -104,12 +114,22 @@ function update() {
   byId("carry").textContent = all === 0 ? "" : done === all ? "all done" : `carry ${counted(all - done, "torch")}`;
   byId("bar").max = Math.max(1, all);
   byId("bar").value = done;
+  byId("steps").hidden = all === 0;
+  byId("here").disabled = state.chosen === null;
+  byId("here").textContent = state.chosen !== null && ticks.done.has(state.chosen.index) ? "Not placed" : "Placed";
   list.update(ticks.done, state.chosen);
   for (const mark of byId("marks").children) {
     const inLayer = cave.inLayer(Number(mark.dataset.y));
     mark.classList.toggle("done", inLayer.every((torch) => ticks.done.has(torch.index)));
   }
   redraw();
+}
+
+/** Shows all anew: the ticks, the map and the overview. */
+function renew() {
+  update();
+  redraw(true);
+  overview.renew();
 }
 
 /** Small bars over the slider: the layers that have torches, and how many. */
@@ -125,7 +145,9 @@ function drawMarks() {
 }
 
 function tellFacts() {
-  const facts = [[counted(cave.torches.length, "torch")], [counted(cave.darkCount, "dark cell"), " before"]];
+  const total = cave.total === undefined ? cave.torches.length : cave.total, away = (cave.away || []).length;
+  const facts = [[counted(total, "torch")], [counted(cave.darkCount, "dark cell"), " before"]];
+  if (away > 0 || total > cave.torches.length) facts.push([`take away ${away}, place ${cave.torches.length}`]);
   facts.push([cave.size.join(" × "), " cells"]);
   if (cave.corner !== null) {
     const place = (cave.dimension || "").replace("minecraft:", "").replaceAll("_", " ");
@@ -135,42 +157,12 @@ function tellFacts() {
   const least = `at least ${cave.atLeast} ${cave.atLeast === 1 ? "is" : "are"} needed; more time may find fewer`;
   const proved = cave.atLeast !== null ? least : cave.verdict === null ? "" : "proved: no fewer do";
   if (proved) byId("facts").append(element("span", { className: "proved", textContent: proved }));
+  byId("notes").append(...(cave.notes || []).map((note) => element("li", { textContent: note })));
+  byId("notes").hidden = byId("notes").childElementCount === 0;
 }
 
-/** The signs of the map, each drawn as the map draws it. */
 function drawSigns() {
-  const colour = (told) => (context) => {
-    context.fillStyle = told();
-    context.fillRect(1, 1, 22, 22);
-  };
-  const floor = { ...HANGS.floor }, wall = { ...HANGS.east };
-  const level = (at) => () => css(lit(mix(theme().room, [124, 125, 128], 0.3), at, theme()));
-  const signs = [
-    ["new torch on the floor", (context) => drawTorch(context, 12, 12, 20, floor, false)],
-    ["new torch on a wall; the arrow points away from it", (context) => drawTorch(context, 12, 12, 20, wall, false)],
-    ["placed", (context) => drawTorch(context, 12, 12, 20, floor, true)],
-    ["torch a layer above or below", (context) => drawGhost(context, 12, 12, 22)],
-    ["a light that stands there", (context) => drawLamp(context, 12, 12, 24)],
-    ["dark before: mobs spawn there", (context) => {
-      context.fillStyle = theme().dark;
-      context.arc(12, 12, 4, 0, 7);
-      context.fill();
-      context.strokeStyle = theme().rim;
-      context.stroke();
-    }],
-    ["room in bright light", colour(level(14))],
-    ["room in faint light", colour(level(2))],
-    ["room without block light", colour(level(0))],
-    ["rock", colour(() => css(mix(theme().rock, [124, 125, 128], theme().tint)))],
-  ].filter(([words]) => cave.levels !== null || !words.startsWith("room"));
-  byId("signs").replaceChildren(...signs.map(([words, paint]) => {
-    const small = element("canvas", { width: 48, height: 48 });
-    small.style.width = small.style.height = "24px";
-    const context = small.getContext("2d");
-    context.scale(2, 2);
-    paint(context);
-    return element("li", {}, small, words);
-  }));
+  byId("signs").replaceChildren(...legendOf(cave, theme()));
 }
 
 /** A layer as a picture of its own, with that many of its pixels to one of the page. */
@@ -222,9 +214,11 @@ function pressed(event) {
     PageUp: () => goTo(state.y + 8), PageDown: () => goTo(state.y - 8),
     ArrowRight: () => step(1), ArrowLeft: () => step(-1),
     "+": () => zoom(1.3), "=": () => zoom(1.3), "-": () => zoom(1 / 1.3), 0: () => view.fit(),
-    Enter: () => state.chosen && tick(state.chosen, !ticks.done.has(state.chosen.index)),
+    Enter: tickChosen,
   };
   if (!(event.key in keys) || (event.key === "Enter" && onButton)) return;
+  const scrolls = /^(Arrow(Up|Down)|Page(Up|Down))$/.test(event.key);
+  if (scrolls && event.target.closest("aside") !== null) return; // the list scrolls by them
   if (onSlider && event.key.startsWith("Page")) return;
   if (onSlider && event.key.startsWith("Arrow")) return; // the slider does it itself
   event.preventDefault();
@@ -238,15 +232,20 @@ const view = new View(canvas, cave, {
     tell(cell || (state.chosen && state.chosen.y === state.y ? state.chosen : null));
     redraw();
   },
-  tapped: (cell) => {
-    const torch = cell && cave.torchAt(cell.x, state.y, cell.z);
+  tapped: (cell, px, py) => {
+    const torch = nearest(cave.inLayer(state.y), view, px, py);
     state.cell = cell;
     if (torch) choose(torch);
     else tell(cell);
     redraw();
   },
 });
-const list = new List(byId("list"), cave, { ticked: tick, chosen: choose });
+const overview = new Overview(byId("overview"), byId("maps"), cave, {
+  name: (y) => (cave.corner === null ? `Layer ${y}` : `y ${signed([cave.worldly(1, y)])}`),
+  look: () => ({ shown: shown(), theme: theme(), done: ticks.done }),
+  goTo: (y) => goTo(y, false),
+});
+const list = new List(byId("list"), canvas.closest("section"), cave, { ticked: tick, chosen: choose });
 
 function listen() {
   byId("layer").addEventListener("input", () => goTo(Number(byId("layer").value)));
@@ -255,24 +254,27 @@ function listen() {
   byId("nearer").addEventListener("click", () => zoom(1.5));
   byId("farther").addEventListener("click", () => zoom(1 / 1.5));
   byId("whole").addEventListener("click", () => view.fit());
+  byId("previous").addEventListener("click", () => step(-1));
+  byId("next").addEventListener("click", () => step(1));
+  byId("here").addEventListener("click", tickChosen);
   byId("save").addEventListener("click", savePicture);
   byId("print").addEventListener("click", () => window.print());
   byId("clear").addEventListener("click", () => {
     if (!window.confirm("Untick all torches?")) return;
     ticks.clear();
-    update();
+    renew();
   });
-  for (const id of ["light", "dark", "below"]) byId(id).addEventListener("change", () => redraw(true));
+  for (const id of ["light", "dark", "below"]) byId(id).addEventListener("change", renew);
   document.addEventListener("keydown", pressed);
   window.addEventListener("beforeprint", drawSheets);
   window.addEventListener("afterprint", () => byId("sheets").replaceChildren());
   window.addEventListener("storage", () => {
     ticks.read();
-    update();
+    renew();
   });
   lightScheme.addEventListener("change", () => {
     drawSigns();
-    redraw(true);
+    renew();
   });
   new ResizeObserver(() => (view.isFitted ? view.fit() : redraw())).observe(canvas);
 }
@@ -280,7 +282,6 @@ function listen() {
 byId("layer").max = cave.tall - 1;
 byId("light").closest("label").hidden = cave.levels === null;
 byId("clear").hidden = byId("bar").hidden = cave.torches.length === 0;
-byId("legend").open = window.innerWidth > 760;
 tellFacts();
 drawMarks();
 drawSigns();

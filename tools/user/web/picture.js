@@ -3,6 +3,7 @@
 const RULER = 22; // pixels of the strip at the top that has the coordinates
 const GRID_FROM = 12, RIMS_FROM = 16, NUMBERS_FROM = 19; // the scales from which these are drawn
 const CHUNK = 16;
+const CHOSEN = 14; // pixels of the square about the chosen torch, at least
 
 /** The cells of a layer that lie on a canvas of this size: the first and the last of each row and column. */
 function visible(cave, view, width, height) {
@@ -59,7 +60,7 @@ function drawDark(context, cave, y, view, part, theme, isAside) {
 }
 
 /** The level of light in each cell that isn't rock, as a number. */
-function drawNumbers(context, cave, y, view, part, theme) {
+function drawNumbers(context, cave, y, view, part, shown, theme) {
   context.font = `${Math.min(15, view.scale * 0.42)}px ${FONT}`;
   context.textAlign = "right";
   context.textBaseline = "alphabetic";
@@ -67,8 +68,7 @@ function drawNumbers(context, cave, y, view, part, theme) {
     const state = cave.stateAt(x, y, z), level = cave.levels[cave.number(x, y, z)];
     const isHidden = state === null || state.kind === "light" || cave.torchAt(x, y, z) !== undefined;
     if (isHidden || (state.kind === "solid" && level === 0)) return;
-    const colour = colourAt(cave, x, y, z, { light: true, below: true }, theme);
-    context.fillStyle = colour[0] + colour[1] + colour[2] > 390 ? "#221500" : "#ffffff";
+    context.fillStyle = brightness(colourAt(cave, x, y, z, shown, theme)) > 125 ? "#221500" : "#ffffff";
     context.fillText(level, view.left + (x + 0.93) * view.scale, view.top + (z + 0.92) * view.scale);
   });
 }
@@ -84,10 +84,12 @@ function drawTorches(context, cave, y, view, theme, marks) {
   }
 }
 
-function drawOutline(context, view, cell, colour) {
+/** A square about a cell, which is at least `least` pixels wide. */
+function drawOutline(context, view, cell, colour, least = 0) {
+  const side = Math.max(view.scale, least), more = (view.scale - side) / 2;
   context.lineWidth = 2;
   context.strokeStyle = colour;
-  context.strokeRect(view.left + cell.x * view.scale, view.top + cell.z * view.scale, view.scale, view.scale);
+  context.strokeRect(view.left + cell.x * view.scale + more, view.top + cell.z * view.scale + more, side, side);
 }
 
 /** How many letters the longest coordinate along that axis has, 0 to 2. */
@@ -146,14 +148,16 @@ function drawLayer(context, cave, y, image, view, width, height, shown, theme, m
   drawGrid(context, cave, view, part, theme);
   const isNumbered = shown.light && cave.levels !== null && view.scale >= NUMBERS_FROM;
   if (shown.dark) drawDark(context, cave, y, view, part, theme, isNumbered);
-  if (isNumbered) drawNumbers(context, cave, y, view, part, theme);
+  if (isNumbered) drawNumbers(context, cave, y, view, part, shown, theme);
   eachCell(part, (x, z) => {
     const state = cave.stateAt(x, y, z);
     if (state === null || state.kind !== "light") return;
-    drawLamp(context, view.left + (x + 0.5) * view.scale, view.top + (z + 0.5) * view.scale, view.scale);
+    const middle = [view.left + (x + 0.5) * view.scale, view.top + (z + 0.5) * view.scale];
+    drawLamp(context, ...middle, view.scale);
+    if (cave.isTakenAway(x, y, z)) drawCross(context, ...middle, view.scale);
   });
   drawTorches(context, cave, y, view, theme, marks);
-  if (marks.chosen && marks.chosen.y === y) drawOutline(context, view, marks.chosen, theme.chosen);
+  if (marks.chosen && marks.chosen.y === y) drawOutline(context, view, marks.chosen, theme.chosen, CHOSEN);
   if (marks.cell) drawOutline(context, view, marks.cell, theme.ink);
   drawRulers(context, cave, view, part, width, height, theme);
 }

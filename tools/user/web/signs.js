@@ -70,6 +70,19 @@ function drawFlame(context, x, y, radius) {
   context.fill();
 }
 
+/** A torch that stands there and is taken away: its light, crossed out. */
+function drawCross(context, x, y, side) {
+  const reach = Math.max(3.5, side * 0.36);
+  context.beginPath();
+  context.moveTo(x - reach, y - reach);
+  context.lineTo(x + reach, y + reach);
+  context.moveTo(x + reach, y - reach);
+  context.lineTo(x - reach, y + reach);
+  context.lineWidth = Math.max(2, side * 0.12);
+  context.strokeStyle = TORCH;
+  context.stroke();
+}
+
 /** A torch one layer above or below, as a ring: its light comes here too. */
 function drawGhost(context, x, y, side) {
   context.beginPath();

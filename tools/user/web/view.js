@@ -3,9 +3,22 @@
 const LARGEST = 64; // pixels a cell
 const FITTED = 36; // pixels a cell at which a small layer is shown first
 const SLACK = 4; // pixels that a finger may move and still tap
+const FINGER = 22; // pixels from the middle of a torch at which a tap still means it
+
+/** The torch whose middle is nearest to a pixel, as far as a finger means it; null where there is none. */
+function nearest(torches, view, px, py) {
+  let found = null, least = FINGER;
+  for (const torch of torches) {
+    const [x, y] = [view.left + (torch.x + 0.5) * view.scale, view.top + (torch.z + 0.5) * view.scale];
+    const far = Math.hypot(x - px, y - py);
+    if (far <= least) [found, least] = [torch, far];
+  }
+  return found;
+}
 
 class View {
-  /** A view of the cave on the canvas. `changed` is called after each change, `tapped` and `over` with a cell. */
+  /** A view of the cave on the canvas. `changed` is called after each change, `over` with a cell, `tapped` with a cell
+   * and the pixel. */
   constructor(canvas, cave, { changed, tapped, over }) {
     Object.assign(this, { canvas, cave, changed, tapped, over });
     this.fingers = new Map();
@@ -86,7 +99,9 @@ class View {
     canvas.addEventListener("pointermove", (event) => this.pointer(event));
     canvas.addEventListener("pointerup", (event) => this.up(event));
     canvas.addEventListener("pointercancel", (event) => this.up(event));
-    canvas.addEventListener("pointerleave", () => this.over(null));
+    canvas.addEventListener("pointerleave", (event) => {
+      if (event.pointerType === "mouse") this.over(null); // a finger that leaves has told its cell
+    });
   }
 
   down(event) {
@@ -123,6 +138,8 @@ class View {
     const before = this.fingers.get(event.pointerId);
     this.fingers.delete(event.pointerId);
     this.canvas.classList.remove("dragged");
-    if (before && !this.moved && event.type === "pointerup") this.tapped(this.cellAt(event.offsetX, event.offsetY));
+    if (before && !this.moved && event.type === "pointerup") {
+      this.tapped(this.cellAt(event.offsetX, event.offsetY), event.offsetX, event.offsetY);
+    }
   }
 }

@@ -1,10 +1,12 @@
 """Reading NBT (Minecraft Wiki, "NBT format"): one strict reader for all scripts, which uses no recursion.
 
 A value is a pair of its kind and what it holds: a number; a text's or an array's bytes; a compound's dictionary, values
-by names; a list's pair of its items' kind and the items, which are held without their kind."""
+by names; a list's pair of its items' kind and the items, which are held without their kind. What is wrong is told in
+the words of the program's fault lines."""
 import struct
 
-from structures import BYTE, BYTES, COMPOUND, DOUBLE, END, FLOAT, INT, INTS, LIST, LONG, LONGS, SHORT, TEXT
+from nbt_writer import BYTE, BYTES, COMPOUND, DOUBLE, END, FLOAT, INT, INTS, LIST, LONG, LONGS, SHORT, TEXT
+from refusals import Damaged
 
 DEEPEST = 512
 MOST = 2_000_000  # lists and compounds that are kept: no cave has so many, and each takes memory
@@ -14,10 +16,6 @@ ITEMS = {BYTES: 1, INTS: 4, LONGS: 8}
 NUMBERS = {kind: struct.Struct(form).unpack_from for kind, form in FORMS.items()}
 LENGTH = struct.Struct(">H").unpack_from
 COUNT = NUMBERS[INT]
-
-
-class Fault(Exception):
-    """Why an input is refused: the fault line without what stands before it on each."""
 
 
 class Open:
@@ -40,7 +38,7 @@ class Reader:
         """Where the next bytes begin, so many of which are there."""
         at = self.at
         if self.size - at < count:
-            raise Fault(f"nbt: truncated at {self.size}")
+            raise Damaged(f"nbt: truncated at {self.size}")
         self.at = at + count
         return at
 
@@ -53,14 +51,14 @@ class Reader:
         at = self.take(1)
         kind = self.data[at]
         if kind > LONGS:
-            raise Fault(f"nbt: bad tag {kind} at {at}")
+            raise Damaged(f"nbt: bad tag {kind} at {at}")
         return kind
 
     def array(self, width):
         at = self.take(4)
         count = COUNT(self.data, at)[0]
         if count < 0:
-            raise Fault(f"nbt: bad length at {at}")
+            raise Damaged(f"nbt: bad length at {at}")
         at = self.take(count * width)
         return self.data[at : at + count * width]
 
@@ -78,17 +76,17 @@ class Reader:
     def opened(self, kind, depth, is_kept):
         """The list or compound that begins here."""
         if depth > DEEPEST:
-            raise Fault(f"nbt: too deep at {self.at}")
+            raise Damaged(f"nbt: too deep at {self.at}")
         self.kept += is_kept
         if self.kept > MOST:
-            raise Fault(f"nbt: more than {MOST:,} lists and compounds")
+            raise Damaged(f"nbt: more than {MOST:,} lists and compounds")
         if kind == COMPOUND:
             return Open({}, is_kept=is_kept)
         kind = self.kind()
         at = self.take(4)
         count = COUNT(self.data, at)[0]
         if kind == END and count > 0:
-            raise Fault(f"nbt: bad length at {at}")
+            raise Damaged(f"nbt: bad length at {at}")
         if count <= 0:
             return Open([], kind)
         if kind in WIDTHS:
@@ -150,10 +148,10 @@ class Reader:
 def root_of(data, left_out=frozenset()):
     """The entries of the root; what stands behind it isn't looked at."""
     if data[:2] == b"\x1f\x8b":
-        raise Fault("nbt: compressed")
+        raise Damaged("nbt: compressed")
     reader = Reader(data, left_out)
     if data[reader.take(1)] != COMPOUND:
-        raise Fault("nbt: root is no compound")
+        raise Damaged("nbt: root is no compound")
     reader.text()
     return reader.compound()
 

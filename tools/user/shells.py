@@ -1,0 +1,49 @@
+"""What stands around a box of a world: one layer more on each side, its shell, as states of made names whose rows say
+what a cell of it is to the box. Its light is that which arrives there in the world, as if the cell itself shone, so the
+light inside the box is the world's. Nothing is planned in the shell: it has no room and no place for a torch, but where
+a mob in the box's highest layer has its head."""
+from boxes import Box
+from levels import Field
+from rows import Row, class_of
+
+MARGIN = 16  # layers about a box that are read: light that comes from farther has faded
+
+
+def outer(size):
+    """The numbers of the cells of the outermost layers of a box of these sides, and whether each is of the highest."""
+    wide, tall, long = size
+    for y in range(tall):
+        for z in range(long):
+            start, is_high = (y * long + z) * wide, y == tall - 1
+            if y in (0, tall - 1) or z in (0, long - 1):
+                yield from ((start + x, is_high) for x in range(wide))
+            else:
+                yield start, is_high
+                yield start + wide - 1, is_high
+
+
+def shelled(box, around, rows, headroom):
+    """A box as the planner reads it, whose outermost layers are its shell, and the rows of the shell's states. `around`
+    is a larger box of the same world, `rows` those of the table, `headroom` the free cells that a mob needs."""
+    field = Field(around, rows, is_lenient=True)
+    levels = field.spread(field.sources)
+    offset = [at - low for at, low in zip(box.corner, around.corner)]
+    classes = [class_of(rows, state) for state in box.palette]
+    found = Box(box.size, list(box.palette), box.cells[:], box.corner, box.dimension, box.data_version, box.name)
+    made = {}
+    for number, is_high in outer(box.size):
+        index = box.cells[number]
+        if index == box.NO_ENTRY:
+            continue
+        at = field.place(around.number(*(place + more for place, more in zip(box.position(number), offset))))
+        row, has_head = classes[index], is_high and headroom == 2 and classes[index].free
+        what = row.opacity, levels[at], has_head, row.stand, row.top, row.side
+        if what not in made:
+            made[what] = len(found.palette)
+            found.palette.append((f"shell:{len(made)}", {}))
+        found.cells[number] = made[what]
+    shell_rows = [
+        Row(found.palette[at][0].encode(), {}, opacity, level, has_head, stand, False, top, side)
+        for (opacity, level, has_head, stand, top, side), at in made.items()
+    ]
+    return found, shell_rows
