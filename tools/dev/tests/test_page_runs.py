@@ -1,0 +1,143 @@
+"""Whole runs of the page that plans by itself, beside those of `light`: of the same file both make the same files, byte
+for byte, and what is packed after it is unpacked. Both take the programs that lie in dist/; nothing is built."""
+import base64
+import gzip
+import os
+import random
+import re
+import subprocess
+import sys
+import tempfile
+import unittest
+
+import paths
+from made_schematics import litematic_file, sponge_file
+from test_planning_page import NODE, asked_page, example, opened, read, text_of_bytes
+
+import caves
+from repository import TOOLS, TOP
+from structure_files import read_structure
+
+PAGE = os.path.join(TOP, "dist", "torchplan.html")
+PROGRAM = os.path.join(TOP, "dist", "torchplan-x86_64-linux.gz")
+LIGHT = os.path.join(TOOLS, "user", "light")
+PACKED = re.compile(rb'<script id="program" type="text/plain">([^<]*)</script>')
+TOLD = {"rule": None, "headroom": "2", "table": None, "isSteady": False, "turns": None, "isToTheEnd": False}
+OWN = '[[row]]\nname = "minecraft:stone"\nopacity = 15\nstand = true\nside = true\n'
+FELT = '[[row]]\nname = "minecraft:stone"\nopacity = 15\nstand = true\n'  # no torch holds on it
+MADE_BY = re.compile(r"\n\nMade by: .*\n")
+TABLE = re.compile(r"\ntable\.toml .*")
+
+
+def runs_here(program):
+    """Whether the system runs a program."""
+    try:
+        return subprocess.run([program, "--version"], stdout=subprocess.PIPE, stderr=subprocess.PIPE).returncode == 0
+    except OSError:
+        return False
+
+
+def readme(data):
+    """README.txt without what the page tells otherwise: it has no command line, and keeps each table."""
+    return TABLE.sub("", MADE_BY.sub("\nMade with ", data.decode()))
+
+
+@unittest.skipIf(NODE is None, "no node is here, so the page's scripts aren't run")
+class Runs(unittest.TestCase):
+    maxDiff = 2000
+
+    @classmethod
+    def setUpClass(cls):
+        cls.room = tempfile.TemporaryDirectory()
+        cls.addClassCleanup(cls.room.cleanup)
+        cls.program, cls.wasm = os.path.join(cls.room.name, "torchplan"), os.path.join(cls.room.name, "torchplan.wasm")
+        for path, data in ((cls.program, read(PROGRAM)), (cls.wasm, base64.b64decode(PACKED.search(read(PAGE))[1]))):
+            with open(path, "wb") as file:
+                file.write(gzip.decompress(data))
+        os.chmod(cls.program, 0o755)
+        if not runs_here(cls.program):
+            raise unittest.SkipTest("the program of dist/ doesn't run here")
+        version = subprocess.run([cls.program, "--version"], stdout=subprocess.PIPE, text=True).stdout
+        cls.version = version.split()[1]
+
+    def by_light(self, path, words):
+        """The files that `light` makes, by their names."""
+        into = tempfile.mkdtemp(dir=self.room.name)
+        ran = subprocess.run([sys.executable, LIGHT, path, "--into", into, *words], stdout=subprocess.PIPE,
+                             stderr=subprocess.PIPE, text=True, env={**os.environ, "TORCHPLAN": self.program})
+        self.assertIn(ran.returncode, (0, 5), ran.stderr)
+        folder, = [os.path.join(into, name) for name in os.listdir(into)]
+        return {name: read(os.path.join(folder, name)) for name in os.listdir(folder)}
+
+    def compare(self, asked):
+        """Compares runs: the file's name and its bytes, what the page is told, and the words for `light`."""
+        questions = [{"what": "plan", "file": file, "bytes": text_of_bytes(data), "told": {**TOLD, **told}}
+                     for file, data, told, _ in asked]
+        for (file, data, told, words), answer in zip(asked, asked_page(questions, self.wasm, self.version)):
+            self.assertIn("answer", answer, f"{file}: {answer}")
+            seen = {name: base64.b64decode(text) for name, text in answer["answer"].items()}
+            path = os.path.join(self.room.name, file)
+            with open(path, "wb") as out:
+                out.write(data)
+            due = self.by_light(path, words)
+            self.assertEqual(set(seen) - {"table.toml"}, set(due) - {"table.toml"}, file)
+            for name in set(due) - {"README.txt"}:
+                self.assertEqual(opened(name, seen[name]), opened(name, due[name]), f"{file}: {name}")
+            self.assertEqual(readme(seen["README.txt"]), readme(due["README.txt"]), file)
+
+    def test_the_examples_under_both_rules(self):
+        names = ("corridor", "hall", "mine", "slab-floor", "slab-proofed", "two-levels")
+        self.compare([(f"{name}.nbt", read(example(f"{name}.nbt")), {"rule": rule}, ["--rule", rule])
+                      for name in names for rule in ("1.18", "1.17")])
+
+    def test_packed_files_and_schematics(self):
+        data = read(example("mine.nbt"))
+        box = read_structure(data, "mine")
+        cells = [max(0, cell) for cell in box.cells]
+        region = {"all": ((0, 0, 0), box.size, box.palette, cells)}
+        found = {
+            "My Mine.nbt": gzip.compress(data),
+            "mine.litematic": gzip.compress(litematic_file(random.Random(1), region)),
+            "mine.schem": gzip.compress(sponge_file(2, box.size, box.palette, cells)),
+            "newer.schem": gzip.compress(sponge_file(3, box.size, box.palette, cells)),
+        }
+        self.compare([(file, data, {}, []) for file, data in found.items()])
+
+    def test_options_and_a_search_that_is_stopped(self):
+        table = os.path.join(self.room.name, "mine.toml")
+        with open(table, "w", encoding="utf-8") as file:
+            file.write(OWN)
+        mine = read(example("mine.nbt"))
+        hall = caves.structure((26, 5, 26), lambda x, y, z: int(0 < x < 25 > z > 0 and 0 < y < 4))
+        self.compare([
+            ("mine.nbt", mine, {"headroom": "1", "isSteady": True}, ["--headroom", "1", "--steady"]),
+            ("mine.nbt", mine, {"table": {"name": "mine.toml", "text": OWN}}, ["--table", table]),
+            ("hall.nbt", hall, {"rule": "1.17", "turns": 2}, ["--rule", "1.17", "--turns", "2"]),
+            ("full.nbt", caves.structure((3, 3, 3), lambda x, y, z: 0), {}, []),
+        ])
+
+    def test_blocks_that_no_table_has_are_named_at_once(self):
+        strange = caves.structure((5, 4, 5), lambda x, y, z: (x + y) % 3, ["cave:a", "minecraft:air", "cave:b"])
+        ask = {"what": "plan", "file": "x.nbt", "bytes": text_of_bytes(strange), "told": TOLD}
+        answer, = asked_page([ask], self.wasm)
+        self.assertIn("No table has 2 blocks of the cave: cave:a, cave:b.", answer["fault"])
+        self.assertIn('name = "cave:b"', answer["more"])
+
+    def test_a_cell_that_no_torch_can_light_is_left_to_light(self):
+        table = os.path.join(self.room.name, "felt.toml")
+        with open(table, "w", encoding="utf-8") as file:
+            file.write(FELT)
+        cave = caves.structure((5, 5, 5), lambda x, y, z: int(0 < x < 4 > z > 0 and 0 < y < 4))
+        told = {**TOLD, "table": {"name": "felt.toml", "text": FELT}}
+        ask = {"what": "plan", "file": "felt.nbt", "bytes": text_of_bytes(cave), "told": told}
+        answer, = asked_page([ask], self.wasm)
+        self.assertIn("No torch can light one of the dark cells.", answer["fault"])
+        self.assertEqual(answer["line"], "torchplan: unlightable 1 1 1")
+        path = os.path.join(self.room.name, "felt.nbt")
+        with open(path, "wb") as out:
+            out.write(cave)
+        self.assertIn("put a slab there", self.by_light(path, ["--table", table])["README.txt"].decode())
+
+
+if __name__ == "__main__":
+    unittest.main()

@@ -1,0 +1,207 @@
+"use strict";
+
+// The way from a file to its plan, as `light` goes it (../../user/planning.py, answers.py): the program tells the dark
+// cells, plans, and checks the proof in an instance of its own; torches are moved; then the files are made.
+
+const DONE = 0, REJECTED = 4, STOPPED = 5;
+const WORK = 4_000_000, MOST_TURNS = 1_000_000; // of answers.py
+const NEEDED_LEVEL = { "1.18": 1, "1.17": 8 };
+const ENDINGS = [".gz", ".nbt", ".schem", ".litematic"];
+const MADE_CAVE = "the cave as it was planned, a packed structure file; plan.proof is of this cave";
+const EDGE = "torchplan: free cells lie at the box's edge: ";
+// Turns a region where a search went deeper than the engine's stack, or took more memory than there is.
+const FEWER_TURNS = [100, 10, 1];
+
+/** Why there is no plan: a sentence, and the program's own line where it said one. */
+class Refused extends Error {
+  constructor(sentence, line = null, more = []) {
+    super(sentence);
+    Object.assign(this, { line, more });
+  }
+}
+
+/** What a cave of that file is called. */
+function nameOfFile(name) {
+  const hasMore = (found, ending) => found.endsWith(ending) && found !== ending;
+  return ENDINGS.reduce((found, ending) => (hasMore(found, ending) ? found.slice(0, -ending.length) : found), name);
+}
+
+/** The cave of a file: its box, or null where only the program can say what is wrong; the structure file that the
+ * program reads; what it is called; and whether that structure file was made here. */
+async function caveOfFile(file, bytes) {
+  const name = nameOfFile(file), wrong = wrongFile(file, bytes);
+  if (wrong !== null) throw new Refused(wrong);
+  const data = await plain(bytes);
+  let root = null;
+  try {
+    root = rootOf(data, new Set([...NO_STRUCTURE, ...NO_BLOCKS]));
+  } catch (fault) {
+    if (!(fault instanceof Damaged)) throw fault;
+    return { box: null, data, name, isMade: false };
+  }
+  return caveOfRoot(root, data, name);
+}
+
+/** The cave of a file by its root. */
+function caveOfRoot(root, data, name) {
+  const wrong = wrongRoot(root);
+  if (wrong !== null) throw new Refused(wrong);
+  const made = (box) => ({ box, data: boxFile(box), name, isMade: true });
+  if (isLitematic(root)) return made(readLitematic(root, name));
+  const schematic = spongeOf(root);
+  if (schematic !== null) return made(readSponge(schematic, name));
+  try {
+    return { box: structureOfRoot(root, name), data, name, isMade: false };
+  } catch (fault) {
+    if (!(fault instanceof Damaged)) throw fault;
+    return { box: null, data, name, isMade: false };
+  }
+}
+
+/** How many turns a region gets, unless told. */
+const turnsFor = (dark) => Math.min(Math.floor(WORK / Math.max(1, dark)), MOST_TURNS);
+
+/** The program over a cave's files. `hear` gets each line of standard error. */
+class Planner {
+  constructor(module, files, options, hear) {
+    Object.assign(this, { module, files, options, hear });
+  }
+
+  /** What a command answers, and the lines that it said. The statuses that are well are told. */
+  async run(command, words, well) {
+    const lines = [];
+    let rest = "";
+    const hear = (text) => {
+      const parts = (rest + text).split("\n");
+      rest = parts.pop();
+      for (const line of parts) {
+        lines.push(line);
+        this.hear(line);
+      }
+    };
+    const read = (name) => this.files.get(name) || null;
+    const ended = await runProgram(this.module, [command, ...words, ...this.options], { read, hear });
+    if (!well.includes(ended.status)) throw refusalOf(ended.status, lines.pop() || "");
+    return { ...ended, lines, text: new TextDecoder().decode(ended.output) };
+  }
+}
+
+/** The sentence for a status that leaves no plan, by the program's line. */
+function refusalOf(status, line) {
+  const unknown = /^torchplan: unknown block (.*)$/.exec(line);
+  if (unknown) return new Refused(`The table of blocks doesn't know ${unknown[1]}. Add a row for it.`, line);
+  if (/^torchplan: table/.test(line)) return new Refused("The table of blocks isn't one that the program takes.", line);
+  if (/^torchplan: nbt:/.test(line)) {
+    return new Refused("This is no structure file as Minecraft's Java Edition saves it, or it is damaged.", line);
+  }
+  const sentences = {
+    1: "The program refuses this file.",
+    3: "No torch can light one of the dark cells. Put a slab there and save the cave anew, or use light on a" +
+      " computer, which plans the rest as if a slab lay there.",
+    4: "The check doesn't accept the proof, so nothing is shown. Please report this cave.",
+    7: "The plan takes more memory than this browser gives a page. Save a smaller part, or use the program.",
+  };
+  return new Refused(sentences[status] || "The program ended in an unexpected way.", line || `status ${status}`);
+}
+
+/** Whether the engine itself ended the program: its stack or its memory didn't suffice. */
+const isOfEngine = (error) => error instanceof RangeError || error instanceof WebAssembly.RuntimeError;
+
+/** The plan, with as many turns as told; with fewer where the search went deeper than the engine's stack allows. */
+async function planDeep(planner, words, turns, tell) {
+  const limits = [turns, ...FEWER_TURNS.filter((fewer) => turns === null || fewer < turns)];
+  for (const limit of limits) {
+    try {
+      const more = limit === null ? [] : ["--turns", String(limit)];
+      return { planned: await planner.run("plan", [...words, ...more], [DONE, STOPPED]), limit };
+    } catch (error) {
+      if (!isOfEngine(error)) throw error;
+      tell({ note: "The search went deeper than this browser's stack; it is planned with fewer turns." });
+    }
+  }
+  throw new Refused("The search goes deeper than this browser's stack allows. Use the program for this cave.");
+}
+
+/** The light of each cell with the torches; null where the table isn't read here (so its rows are null), or a dark
+ * cell would seem dark. */
+function levelsAfter(box, rows, dark, plan, rule) {
+  const levels = rows === null ? null : lightLevels(box, rows, plan.torches);
+  const isLow = levels === null || dark.some((place) => levels[box.number(...place)] < NEEDED_LEVEL[rule]);
+  return isLow ? null : levels;
+}
+
+/** The cave of a file, or why it can't be read. */
+async function demandCave(file, bytes) {
+  try {
+    return await caveOfFile(file, bytes);
+  } catch (fault) {
+    throw fault instanceof Damaged ? new Refused(`The file can't be read: ${fault.message}.`) : fault;
+  }
+}
+
+/** Refuses blocks that no row fits, all at once, with a table that has a row for each. */
+function demandRows(box, rows, own) {
+  const names = unknownNames(box, rows);
+  if (names.length === 0) return;
+  const listed = `No table has ${names.length === 1 ? "1 block" : `${grouped(names.length)} blocks`} of the cave`;
+  const how = "These lines have a row for each, as full and solid. Look them over, keep them in a file that ends in" +
+    " .toml, and choose it as your own blocks.";
+  throw new Refused(`${listed}: ${names.join(", ")}. ${how}`, null, tableForUnknown(names, own).split("\n"));
+}
+
+/** What the program answers of a cave: its dark cells, its plan, and the verdict on the proof, from an instance of its
+ * own (null where the search was stopped); and the files that hold these. */
+async function answersOf(planner, told, tell) {
+  tell({ step: "Looking for dark cells" });
+  const seen = await planner.run("dark", ["cave.nbt", "--progress"], [DONE]), dark = readDark(seen.text);
+  const edge = seen.lines.find((line) => line.startsWith(EDGE));
+  tell({ step: `Planning torches for ${grouped(dark.length)} dark cells` });
+  const turns = told.isToTheEnd ? null : told.turns || turnsFor(dark.length);
+  const words = ["cave.nbt", "--proof", "plan.proof", "--progress"];
+  const { planned, limit } = await planDeep(planner, words, turns, tell);
+  const { text, output, peak, memory } = planned, files = new Map([["plan.txt", output]]);
+  const answers = { dark, plan: readPlan(text), verdict: null, turns: limit, peak, memory, files };
+  answers.edge = edge ? edge.slice(EDGE.length) : null;
+  if (planned.status === DONE) {
+    tell({ step: "Checking the proof" });
+    planner.files.set("plan.proof", planned.made.get("plan.proof"));
+    const checked = await planner.run("check", ["cave.nbt", "plan.proof"], [DONE]);
+    answers.verdict = checked.text.trim();
+    files.set("plan.proof", planner.files.get("plan.proof")).set("plan.check", checked.output);
+  }
+  return answers;
+}
+
+/** Plans a file. `told`: rule (null: by the file's version), headroom, table (null, or its name and text), isSteady,
+ * turns (null: as `light` has it), isToTheEnd. `tell` gets steps, notes and the program's lines. */
+async function planFile(module, file, bytes, told, tell) {
+  const began = performance.now();
+  const { box, data, name, isMade } = await demandCave(file, bytes);
+  const version = box && box.dataVersion, rule = ruleFor(told.rule, version);
+  const table = chosenTable(version, told.table, told.isSteady), rows = rowsOfTable(table.text);
+  if (version > LATEST.dataVersion) {
+    tell({ note: `The cave is of a later version than ${LATEST.name}: a block that is new is refused by its name.` });
+  }
+  if (box !== null && rows !== null) demandRows(box, rows, told.table && told.table.text);
+  const files = new Map([["cave.nbt", data], ["table.toml", utf8(table.text)]]);
+  const options = ["--table", "table.toml", "--rule", rule, "--headroom", told.headroom];
+  const planner = new Planner(module, files, options, (line) => tell({ line: line.replace(/^torchplan: /, "") }));
+  const answers = await answersOf(planner, told, tell);
+  if (box === null) throw new Refused("The program reads this file, but this page doesn't.");
+  if (rows !== null) tell({ step: "Moving torches to where they shine best" });
+  const best = rows === null ? answers : await rearranged(planner, box, rows, NEEDED_LEVEL[rule], answers);
+  const { dark, plan, verdict, edge, ...more } = best;
+  tell({ step: "Drawing the map" });
+  const levels = levelsAfter(box, rows, dark, plan, rule), notes = edgeLines(edge, box, rows, dark);
+  const how = { version: DATA.version, rule, headroom: told.headroom, table: table.name };
+  how.files = { "table.toml": "the table of blocks that the plan goes by" };
+  if (isMade) how.files["cave.nbt"] = MADE_CAVE;
+  const walked = { ...plan, torches: inWalkOrder(plan.torches) };
+  const made = await filesOfPlan(box, walked, dark, levels, verdict, how, notes);
+  const own = [["table.toml", files.get("table.toml")], ...(isMade ? [["cave.nbt", await packed(data)]] : [])];
+  const { atLeast, torches } = plan, all = new Map([...made, ...more.files, ...own]);
+  return {
+    ...more, name, rule, table: table.name, dark: dark.length, torches: torches.length, atLeast, verdict, files: all,
+    ms: performance.now() - began,
+  };
+}
