@@ -16,10 +16,11 @@ const [, , file, ...words] = process.argv;
 const faults = Object.fromEntries((process.env.FAULTS || "").split(" ").map((one) => one.split("=")));
 const kept = new Map();
 
+/** A file's bytes; null where it isn't there. Node's own streams, by which the program asks what OUT is, aren't. */
 function read(name) {
   if (!kept.has(name)) {
     try {
-      kept.set(name, fs.readFileSync(name === "/dev/stdin" ? 0 : name));
+      kept.set(name, name.startsWith("/proc/self/") ? null : fs.readFileSync(name === "/dev/stdin" ? 0 : name));
     } catch {
       kept.set(name, null);
     }
