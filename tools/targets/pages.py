@@ -9,18 +9,24 @@ import sys
 import kit
 
 sys.path.insert(1, os.path.join(kit.TOP, "tools", "user"))
+import box_runs
+import chunks
+import dimensions
 import looks
 import page
 import rows
+import shells
 import unknowns
 import versions
+import worlds
 
 PARTS = os.path.join(kit.HERE, "page")
 TABLES = os.path.join(kit.TOP, "examples", "tables")
 WORKER = ["host.js", "bytes.js", "names.js", "nbt.js", "structures.js", "tables.js", "levels.js", "places.js",
           "plans.js", "walks.js", "edges.js", "plan_page.js", "packs.js", "schematics.js", "schematic_files.js",
           "wrong_files.js", "unknowns.js", "certificates.js", "brightening.js", "rearranging.js", "outputs.js",
-          "planning.js", "worker.js"]
+          "extents.js", "region_files.js", "chunks.js", "dimensions.js", "worlds.js", "shells.js", "world_files.js",
+          "world_caves.js", "planning.js", "worker.js"]
 
 
 def part(name):
@@ -46,6 +52,20 @@ def data(version):
         "shipped": rows.SHIPPED,
         "unknown": unknowns.HEAD,
         "columns": rows.COLUMNS,
+        "chunks": {"earliest": chunks.EARLIEST, "leftOut": sorted(name.decode() for name in chunks.LEFT_OUT)},
+        "dimensions": {
+            "overworld": dimensions.OVERWORLD,
+            "name": dimensions.NAME.pattern,
+            "folders": dimensions.FOLDERS,
+            "usual": dimensions.USUAL,
+            "tall": dimensions.TALL,
+        },
+        "worlds": {
+            "around": worlds.AROUND,
+            "at": worlds.AT,
+            "margin": shells.MARGIN,
+            "otherLevels": box_runs.OTHER_LEVELS,
+        },
         "looks": {
             "air": sorted(looks.AIR),
             "shining": sorted(looks.SHINING),

@@ -1,10 +1,12 @@
 // What the page's scripts make of files, for test_planning_page.py: a JSON of questions comes on standard input, and
 // their answers go to standard output. The first word is the file that has the scripts, the second the program.
 import fs from "node:fs";
+import path from "node:path";
 import vm from "node:vm";
 
-const names = `boxFile, brightened, filesOfPlan, caveOfFile, chosenTable, edgeLines, inWalkOrder, levelsAfter,
-  plainNameOfCave, planFile, readDark, readPlan, readRows, rowsOfTable, rowText, sha256, tableForUnknown, textOf, DATA`;
+const names = `boxFile, brightened, filesOfPlan, caveOfFile, caveOfWorld, chosenTable, edgeLines, inWalkOrder,
+  levelsAfter, plainNameOfCave, planFile, planWorld, readDark, readPlan, readRows, rowsOfTable, rowText, seenOf, sha256,
+  tableForUnknown, textOf, withShell, DATA`;
 const page = vm.runInThisContext(`${fs.readFileSync(process.argv[2], "utf-8")}; ({ ${names} })`);
 const bytesOf = (text) => new Uint8Array(Buffer.from(text, "base64"));
 const textOf = (bytes) => Buffer.from(bytes).toString("base64");
@@ -18,7 +20,41 @@ async function caveOf({ file, bytes, corner, dimension, name }) {
   return cave;
 }
 
+/** The files below a folder as a browser hands them on: each with its path, which begins with the folder's name. */
+function filesBelow(folder, name = path.basename(folder)) {
+  return fs.readdirSync(folder, { withFileTypes: true }).flatMap((entry) => {
+    const [at, told] = [path.join(folder, entry.name), `${name}/${entry.name}`];
+    return entry.isDirectory() ? filesBelow(at, told) : [[told, new Blob([fs.readFileSync(at)])]];
+  });
+}
+
+const NOTHING = Uint8Array.of(10, 0, 0, 0); // a compound of NBT without entries
+
+/** Files that are told by their paths alone. */
+const filesNamed = (paths) =>
+  paths.map((told) => [told, new Blob(told.endsWith("level.dat") ? [NOTHING] : [])]);
+
+const seenBox = (box) => ({ size: box.size, cells: [...box.cells], version: box.dataVersion, corner: box.corner,
+  dimension: box.dimension, name: box.name, palette: box.palette.map(([told, props]) => [told, Object.fromEntries(props)]) });
+
 const answers = {
+  /** A box of a world: as it stands, as the program reads it, and the rows of its shell. */
+  async world({ folder, dimension, corners, rule, headroom }) {
+    const found = await page.caveOfWorld(filesBelow(folder), dimension, corners, rule);
+    const rows = page.rowsOfTable(page.chosenTable(found.box.dataVersion).text);
+    const cave = page.withShell(found, rows, headroom);
+    return { box: seenBox(cave.box), around: seenBox(cave.around), made: [...cave.box.made], data: textOf(cave.data),
+      rows: cave.rows.map(page.rowText).join(""), notes: cave.notes };
+  },
+
+  look: ({ folder, paths, dimension }) => page.seenOf(folder ? filesBelow(folder) : filesNamed(paths), dimension),
+
+  /** All that the page makes of a box of a world. */
+  async planWorld({ folder, dimension, corners, told }) {
+    const asked = { files: filesBelow(folder), dimension, corners };
+    return textsOf((await page.planWorld(await program, asked, told, () => {})).files);
+  },
+
   /** The files of a plan. */
   async files(asked) {
     const { box } = await caveOf(asked), plan = page.readPlan(asked.plan), dark = page.readDark(asked.dark);

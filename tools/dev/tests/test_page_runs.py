@@ -12,6 +12,7 @@ import unittest
 
 import paths
 from made_schematics import litematic_file, sponge_file
+from saved_worlds import V1_16, V1_18, V1_21, Saved
 from test_planning_page import NODE, asked_page, example, opened, read, text_of_bytes
 
 import caves
@@ -60,10 +61,10 @@ class Runs(unittest.TestCase):
         version = subprocess.run([cls.program, "--version"], stdout=subprocess.PIPE, text=True).stdout
         cls.version = version.split()[1]
 
-    def by_light(self, path, words):
+    def by_light(self, *words):
         """The files that `light` makes, by their names."""
         into = tempfile.mkdtemp(dir=self.room.name)
-        ran = subprocess.run([sys.executable, LIGHT, path, "--into", into, *words], stdout=subprocess.PIPE,
+        ran = subprocess.run([sys.executable, LIGHT, *words, "--into", into], stdout=subprocess.PIPE,
                              stderr=subprocess.PIPE, text=True, env={**os.environ, "TORCHPLAN": self.program})
         self.assertIn(ran.returncode, (0, 5), ran.stderr)
         folder, = [os.path.join(into, name) for name in os.listdir(into)]
@@ -79,11 +80,14 @@ class Runs(unittest.TestCase):
             path = os.path.join(self.room.name, file)
             with open(path, "wb") as out:
                 out.write(data)
-            due = self.by_light(path, words)
-            self.assertEqual(set(seen) - {"table.toml"}, set(due) - {"table.toml"}, file)
-            for name in set(due) - {"README.txt"}:
-                self.assertEqual(opened(name, seen[name]), opened(name, due[name]), f"{file}: {name}")
-            self.assertEqual(readme(seen["README.txt"]), readme(due["README.txt"]), file)
+            self.compare_files(file, seen, self.by_light(path, *words))
+
+    def compare_files(self, what, seen, due):
+        """Compares the page's files with light's, which has no table where it is a vanilla one."""
+        self.assertEqual(set(seen) - {"table.toml"}, set(due) - {"table.toml"}, what)
+        for name in set(due) - {"README.txt"}:
+            self.assertEqual(opened(name, seen[name]), opened(name, due[name]), f"{what}: {name}")
+        self.assertEqual(readme(seen["README.txt"]), readme(due["README.txt"]), what)
 
     def test_the_examples_under_both_rules(self):
         names = ("corridor", "hall", "mine", "slab-floor", "slab-proofed", "two-levels")
@@ -136,7 +140,37 @@ class Runs(unittest.TestCase):
         path = os.path.join(self.room.name, "felt.nbt")
         with open(path, "wb") as out:
             out.write(cave)
-        self.assertIn("put a slab there", self.by_light(path, ["--table", table])["README.txt"].decode())
+        self.assertIn("put a slab there", self.by_light(path, "--table", table)["README.txt"].decode())
+
+    def test_boxes_of_worlds(self):
+        asked = [((2, 11, 3), (26, 17, 22), {}, "region", V1_21), ((9, 12, 9), (9, 13, 30), {}, "region", V1_16),
+                 ((-20, 10, -3), (12, 40, 9), {"headroom": "1"}, "region", V1_18),
+                 ((2, 11, 3), (14, 17, 12), {"rule": "1.17"}, "DIM-1/region", V1_18)]
+        questions, words = [], []
+        for number, (low, high, told, region, version) in enumerate(asked):
+            folder = os.path.join(tempfile.mkdtemp(dir=self.room.name), f"my world {number}")
+            Saved(folder, region, version).fill(rooms, [0, 1], [(x, z) for x in (-1, 0, 1) for z in (0, 1)], version)
+            questions.append({"what": "planWorld", "folder": folder, "dimension": None, "corners": [low, high],
+                              "told": {**TOLD, **told}})
+            dimension = ["--dimension", "nether"] if region != "region" else []
+            more = [word for name, value in told.items() for word in (f"--{name}", value)]
+            words.append(["--world", folder, "--from", *map(str, low), "--to", *map(str, high), *dimension, *more])
+        for asked, answer in zip(words, asked_page(questions, self.wasm, self.version)):
+            self.assertIn("answer", answer, f"{asked}: {answer}")
+            seen = {name: base64.b64decode(text) for name, text in answer["answer"].items()}
+            due = self.by_light(*asked)
+            self.assertIn("table.toml", due)
+            self.compare_files(asked, seen, due)
+
+
+def rooms(x, y, z):
+    """Rooms of 9 x 4 x 9 with doors within stone, some of them lit, some of them with water."""
+    is_inside = y in range(12, 16) and (x % 10 and z % 10 or (x % 10 == 5 or z % 10 == 5) and y < 14)
+    if not is_inside:
+        return "minecraft:stone", {}
+    if (x % 20, y, z % 20) == (3, 12, 3):
+        return "minecraft:lantern", {"hanging": "false"}
+    return ("minecraft:water", {"level": "0"}) if (x % 30, y) == (21, 12) else ("minecraft:air", {})
 
 
 if __name__ == "__main__":

@@ -41,15 +41,19 @@ const isPacked = (bytes) => bytes[0] === 0x1f && bytes[1] === 0x8b;
 const packed = (bytes) => through(bytes, new CompressionStream("gzip"));
 const deflated = (bytes) => through(bytes, new CompressionStream("deflate-raw"));
 
-/** The bytes of a file of the game, which is packed by gzip or not at all. */
-async function plain(bytes) {
-  if (bytes.length > MOST_BYTES) throw new Damaged(`it has more than ${grouped(MOST_BYTES)} bytes`);
-  if (!isPacked(bytes)) return bytes;
+/** Bytes unpacked, up to the limit: by "gzip", or by "deflate", as browsers call what zlib writes. */
+async function unpackedBy(packing, bytes) {
   try {
-    return await through(bytes, new DecompressionStream("gzip"), MOST_BYTES);
+    return await through(bytes, new DecompressionStream(packing), MOST_BYTES);
   } catch (fault) {
     throw fault instanceof Damaged ? fault : new Damaged("its packed data is damaged");
   }
+}
+
+/** The bytes of a file of the game, which is packed by gzip or not at all. */
+async function plain(bytes) {
+  if (bytes.length > MOST_BYTES) throw new Damaged(`it has more than ${grouped(MOST_BYTES)} bytes`);
+  return isPacked(bytes) ? unpackedBy("gzip", bytes) : bytes;
 }
 
 /** A number with commas between thousands. */

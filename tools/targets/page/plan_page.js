@@ -30,7 +30,8 @@ function kindsOf(box, plan) {
   const found = box.palette.map(kindOf), told = new Map(), signs = { ".": "room", "*": "light" };
   for (const [y, rows] of plan.layers) {
     rows.forEach((row, z) => [...row].forEach((sign, x) => {
-      if (".*#".includes(sign)) told.set(box.cells[box.number(x, y, z)], sign);
+      const number = box.number(x, y, z);
+      if (".*#".includes(sign) && !box.made.has(number)) told.set(box.cells[number], sign);
     }));
   }
   for (const [index, sign] of told) {

@@ -20,6 +20,9 @@ class Refused extends Error {
   }
 }
 
+/** Why there is no plan, by a line as `light` has it. */
+const refusedLine = (line) => new Refused(`${line[0].toUpperCase()}${line.slice(1)}.`);
+
 /** What a cave of that file is called. */
 function nameOfFile(name) {
   const hasMore = (found, ending) => found.endsWith(ending) && found !== ending;
@@ -27,7 +30,8 @@ function nameOfFile(name) {
 }
 
 /** The cave of a file: its box, or null where only the program can say what is wrong; the structure file that the
- * program reads; what it is called; and whether that structure file was made here. */
+ * program reads; what it is called; whether that structure file was made here; the larger box about it, which only a
+ * box of a world has; and what has to be known of it, in lines. */
 async function caveOfFile(file, bytes) {
   const name = nameOfFile(file), wrong = wrongFile(file, bytes);
   if (wrong !== null) throw new Refused(wrong);
@@ -37,24 +41,26 @@ async function caveOfFile(file, bytes) {
     root = rootOf(data, new Set([...NO_STRUCTURE, ...NO_BLOCKS]));
   } catch (fault) {
     if (!(fault instanceof Damaged)) throw fault;
-    return { box: null, data, name, isMade: false };
+    return caveAs(null, data, name, false);
   }
   return caveOfRoot(root, data, name);
 }
+
+const caveAs = (box, data, name, isMade) => ({ box, data, name, isMade, around: null, notes: [] });
 
 /** The cave of a file by its root. */
 function caveOfRoot(root, data, name) {
   const wrong = wrongRoot(root);
   if (wrong !== null) throw new Refused(wrong);
-  const made = (box) => ({ box, data: boxFile(box), name, isMade: true });
+  const made = (box) => caveAs(box, boxFile(box), name, true);
   if (isLitematic(root)) return made(readLitematic(root, name));
   const schematic = spongeOf(root);
   if (schematic !== null) return made(readSponge(schematic, name));
   try {
-    return { box: structureOfRoot(root, name), data, name, isMade: false };
+    return caveAs(structureOfRoot(root, name), data, name, false);
   } catch (fault) {
     if (!(fault instanceof Damaged)) throw fault;
-    return { box: null, data, name, isMade: false };
+    return caveAs(null, data, name, false);
   }
 }
 
@@ -172,36 +178,69 @@ async function answersOf(planner, told, tell) {
   return answers;
 }
 
-/** Plans a file. `told`: rule (null: by the file's version), headroom, table (null, or its name and text), isSteady,
+/** The cave as the planner reads it: a box of a world with its shell, all else as it stands. `read` is the box that is
+ * planned, `rows` are those of made names. */
+function laidOut(cave, rows, told) {
+  if (cave.around === null) return { ...cave, read: cave.box, rows: [] };
+  if (rows === null) {
+    throw new Refused("A box of a world takes rows of its own, and this page doesn't read your table: write its rows as" +
+      " tables [[row]].");
+  }
+  return withShell(cave, rows, told.headroom);
+}
+
+/** The files of a plan: those that `light` makes, with the table and the answers. */
+async function filesOf(cave, answers, table, how, levels, notes) {
+  const { plan, dark, verdict, files } = answers, { box } = cave, all = new Map(files);
+  how.files = { "table.toml": "the table of blocks that the plan goes by" };
+  if (cave.isMade) how.files["cave.nbt"] = MADE_CAVE;
+  const walked = { ...plan, torches: inWalkOrder(plan.torches) };
+  const made = await filesOfPlan(box, walked, dark, levels, verdict, how, notes);
+  if (box.corner !== null) {
+    all.set("plan.txt", utf8(withCorner(new TextDecoder().decode(all.get("plan.txt")), box)));
+  }
+  const own = [["table.toml", utf8(table)], ...(cave.isMade ? [["cave.nbt", await packed(cave.data)]] : [])];
+  return new Map([...made, ...all, ...own]);
+}
+
+/** Plans a cave. `told`: rule (null: by the file's version), headroom, table (null, or its name and text), isSteady,
  * turns (null: as `light` has it), isToTheEnd. `tell` gets steps, notes and the program's lines. */
-async function planFile(module, file, bytes, told, tell) {
-  const began = performance.now();
-  const { box, data, name, isMade } = await demandCave(file, bytes);
-  const version = box && box.dataVersion, rule = ruleFor(told.rule, version);
-  const table = chosenTable(version, told.table, told.isSteady), rows = rowsOfTable(table.text);
+async function planCave(module, found, told, tell) {
+  const version = found.box && found.box.dataVersion, rule = ruleFor(told.rule, version);
+  const table = chosenTable(version, told.table, told.isSteady), tableRows = rowsOfTable(table.text);
   if (version > LATEST.dataVersion) {
     tell({ note: `The cave is of a later version than ${LATEST.name}: a block that is new is refused by its name.` });
   }
-  if (box !== null && rows !== null) demandRows(box, rows, told.table && told.table.text);
-  const files = new Map([["cave.nbt", data], ["table.toml", utf8(table.text)]]);
+  if (found.box !== null && tableRows !== null) demandRows(found.box, tableRows, told.table && told.table.text);
+  const cave = laidOut(found, tableRows, told), { box, read, name } = cave;
+  const rows = tableRows && [...tableRows, ...cave.rows];
+  const text = cave.rows.length > 0 ? withRows(table.text, cave.rows) : table.text;
+  const files = new Map([["cave.nbt", cave.data], ["table.toml", utf8(text)]]);
   const options = ["--table", "table.toml", "--rule", rule, "--headroom", told.headroom];
   const planner = new Planner(module, files, options, (line) => tell({ line: line.replace(/^torchplan: /, "") }));
   const answers = await answersOf(planner, told, tell);
   if (box === null) throw new Refused("The program reads this file, but this page doesn't.");
   if (rows !== null) tell({ step: "Moving torches to where they shine best" });
-  const best = rows === null ? answers : await rearranged(planner, box, rows, NEEDED_LEVEL[rule], answers);
-  const { dark, plan, verdict, edge, ...more } = best;
+  const best = rows === null ? answers : await rearranged(planner, read, rows, NEEDED_LEVEL[rule], answers);
+  const { dark, plan, verdict, edge, turns, peak, memory } = best;
   tell({ step: "Drawing the map" });
-  const levels = levelsAfter(box, rows, dark, plan, rule), notes = edgeLines(edge, box, rows, dark);
+  const levels = levelsAfter(read, rows, dark, plan, rule);
+  const notes = cave.around === null ? edgeLines(edge, box, rows, dark) : cave.notes;
   const how = { version: DATA.version, rule, headroom: told.headroom, table: table.name };
-  how.files = { "table.toml": "the table of blocks that the plan goes by" };
-  if (isMade) how.files["cave.nbt"] = MADE_CAVE;
-  const walked = { ...plan, torches: inWalkOrder(plan.torches) };
-  const made = await filesOfPlan(box, walked, dark, levels, verdict, how, notes);
-  const own = [["table.toml", files.get("table.toml")], ...(isMade ? [["cave.nbt", await packed(data)]] : [])];
-  const { atLeast, torches } = plan, all = new Map([...made, ...more.files, ...own]);
-  return {
-    ...more, name, rule, table: table.name, dark: dark.length, torches: torches.length, atLeast, verdict, files: all,
-    ms: performance.now() - began,
-  };
+  const made = await filesOf(cave, best, text, how, levels, notes);
+  const { atLeast, torches } = plan, counts = { dark: dark.length, torches: torches.length, atLeast };
+  return { ...counts, turns, peak, memory, name, rule, table: table.name, verdict, files: made };
 }
+
+/** Plans a cave that is read first; with how many milliseconds that took. */
+async function planRead(module, reading, told, tell) {
+  const began = performance.now(), done = await planCave(module, await reading, told, tell);
+  return { ...done, ms: performance.now() - began };
+}
+
+/** Plans a file. */
+const planFile = (module, file, bytes, told, tell) => planRead(module, demandCave(file, bytes), told, tell);
+
+/** Plans the box between two corners of a world among files, in a dimension. */
+const planWorld = (module, { files, dimension, corners }, told, tell) =>
+  planRead(module, caveOfWorld(files, dimension, corners, told.rule), told, tell);

@@ -45,6 +45,12 @@ function textOfPlan(plan, box, signs) {
   return lines.map((line) => `${line}\n`).join("");
 }
 
+/** The text of a plan with a line more, behind that of the dark cells: the world's coordinates of the corner. */
+function withCorner(text, { corner, dimension }) {
+  const [first, second, ...rest] = text.split("\n");
+  return [first, second, `corner ${corner.join(" ")} in ${dimension}`, ...rest].join("\n");
+}
+
 /** The dark cells that a text names: three numbers each. */
 function readDark(text) {
   const [first, ...rest] = text.split("\n").filter((line) => line !== "");

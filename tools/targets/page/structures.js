@@ -8,8 +8,9 @@ const NO_STRUCTURE = ["nbt", "entities"]; // entries that have no part in the bl
 
 /** Blocks in a box. A cell's number is (y * Z + z) * X + x; a cell without an entry has NO_ENTRY. */
 class Box {
+  /** `made` has the numbers of cells that the planner reads as something else than what stands there. */
   constructor(size, palette, cells, { corner = null, dimension = null, dataVersion = null, name = "" } = {}) {
-    Object.assign(this, { size, palette, cells, corner, dimension, dataVersion, name });
+    Object.assign(this, { size, palette, cells, corner, dimension, dataVersion, name, made: new Set() });
   }
 
   number(x, y, z) {
@@ -23,6 +24,22 @@ class Box {
 
   has(x, y, z) {
     return [x, y, z].every((at, axis) => at >= 0 && at < this.size[axis]);
+  }
+
+  /** The box of these sides at a position, with the states that it has. */
+  part(low, size) {
+    const cells = new Int32Array(countOf(size));
+    for (let y = 0, to = 0; y < size[1]; y += 1) {
+      for (let z = 0; z < size[2]; z += 1, to += size[0]) {
+        const start = this.number(low[0], low[1] + y, low[2] + z);
+        cells.set(this.cells.subarray(start, start + size[0]), to);
+      }
+    }
+    const used = [...new Set(cells)].filter((cell) => cell !== NO_ENTRY).sort((one, other) => one - other);
+    const places = new Map([[NO_ENTRY, NO_ENTRY], ...used.map((index, at) => [index, at])]);
+    const corner = this.corner && this.corner.map((at, axis) => at + low[axis]);
+    return new Box(size, used.map((index) => this.palette[index]), cells.map((cell) => places.get(cell)),
+      { ...this, corner });
   }
 
   /** The block state there, or null where the box has no entry. */
