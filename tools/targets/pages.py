@@ -27,6 +27,7 @@ WORKER = ["host.js", "bytes.js", "names.js", "nbt.js", "structures.js", "tables.
           "wrong_files.js", "unknowns.js", "certificates.js", "brightening.js", "rearranging.js", "outputs.js",
           "extents.js", "region_files.js", "chunks.js", "dimensions.js", "worlds.js", "shells.js", "world_files.js",
           "world_caves.js", "planning.js", "worker.js"]
+SCRIPTS = ["chosen.js", "world_form.js", "page.js"]
 
 
 def part(name):
@@ -102,7 +103,7 @@ def made(program, version):
         "WORKER": worker(version),
         "PROGRAM": packed(program),
         "TABLES": packed(json.dumps(tables(), ensure_ascii=False).encode()),
-        "SCRIPT": part("page.js"),
+        "SCRIPT": "\n".join(map(part, SCRIPTS)),
     }
     whole, *rest = part("page.html").split("{{")
     for piece in rest:

@@ -36,8 +36,9 @@ const program = unpacked(textIn("program")).then((bytes) => WebAssembly.compile(
 const tables = unpacked(textIn("tables")).then((bytes) => JSON.parse(new TextDecoder().decode(bytes)));
 const code = URL.createObjectURL(new Blob([byId("worker").textContent], { type: "text/javascript" }));
 
-// What is under way: the worker, the cave, when it began, how many turns were told, and notes for the end.
-const state = { worker: null, cave: null, began: 0, turn: 0, ticking: 0, links: [], notes: new Set() };
+// What is under way: the worker, the cave, the files of a world (else null), when it began, how many turns were told,
+// and notes for the end.
+const state = { worker: null, cave: null, files: null, began: 0, turn: 0, ticking: 0, links: [], notes: new Set() };
 
 const counted = (count, one, many) => `${count.toLocaleString("en-GB")} ${count === 1 ? one : many}`;
 const seconds = () => `${Math.floor((performance.now() - state.began) / 1000)} s`;
@@ -46,6 +47,7 @@ function show({ start = true, work = false, fault = false }) {
   byId("start").hidden = !start;
   byId("result").hidden = start;
   byId("work").hidden = !work;
+  byId("world").hidden = work || state.files === null;
   byId("fault").hidden = !fault;
   if (!work) clearInterval(state.ticking);
 }
@@ -59,11 +61,17 @@ function told(turns) {
 }
 
 /** Plans the cave that was chosen last; `turns` where the options don't say how many. */
-async function plan(turns = null) {
+const plan = (turns = null) => ask(`Reading ${state.cave.file}`, { ...state.cave, told: told(turns) });
+
+/** Looks which boxes the world has that was chosen: those of a dimension, or of the player's. */
+const look = (dimension = null) => ask("Looking into the world", { look: { files: state.files, dimension } });
+
+/** Asks a new worker. */
+async function ask(step, asked) {
   stop();
   Object.assign(state, { began: performance.now(), turn: 0, notes: new Set() });
   show({ work: true });
-  byId("step").textContent = `Reading ${state.cave.file}`;
+  byId("step").textContent = step;
   byId("line").textContent = byId("clock").textContent = "";
   state.ticking = setInterval(() => (byId("clock").textContent = seconds()), 500);
   try {
@@ -71,14 +79,14 @@ async function plan(turns = null) {
     if (worker !== state.worker) return;
     worker.onmessage = ({ data }) => hear(worker, data);
     worker.onerror = (event) => refuse({ sentence: "This page's worker failed.", line: event.message });
-    worker.postMessage({ module, tables: text, ...state.cave, told: told(turns) });
+    worker.postMessage({ module, tables: text, ...asked });
   } catch (error) {
     const sentence = "This browser can't run the program: it needs WebAssembly and workers (see the limits below).";
     refuse({ sentence, line: String(error) });
   }
 }
 
-function hear(worker, { done, refused, step, line, note }) {
+function hear(worker, { done, seen, refused, step, line, note }) {
   if (worker !== state.worker) return;
   if (step) byId("step").textContent = step;
   if (note || line) byId("line").textContent = note || line;
@@ -86,6 +94,7 @@ function hear(worker, { done, refused, step, line, note }) {
   const turn = /turn (\d+)$/.exec(line || "");
   if (turn) state.turn = Math.max(state.turn, Number(turn[1]));
   if (done) finish(done);
+  if (seen) offer(seen);
   if (refused) refuse(refused);
 }
 
@@ -105,6 +114,13 @@ function refuse({ sentence, line, more = [] }) {
   byId("rows").hidden = more.length === 0;
   byId("rows").textContent = more.join("\n");
   byId("sofar").hidden = true;
+}
+
+/** Offers a box of the world that was looked into. */
+function offer(seen) {
+  stop();
+  fillForm(seen);
+  show({});
 }
 
 /** The user stops the search. It can be planned with the turns that it had: the program takes the same ones again. */
@@ -149,17 +165,26 @@ function finish(done) {
   state.done = done;
 }
 
-async function take(file) {
-  if (!file) return;
+/** Takes what was chosen or dropped: a world, or the first file as a cave. */
+async function take(files) {
+  if (files.length === 0) return;
+  state.files = areOfWorld(files) ? files : null;
+  if (state.files !== null) return void look();
+  const [[, file]] = files;
   state.cave = { file: file.name, bytes: new Uint8Array(await file.arrayBuffer()) };
   plan();
 }
 
+const NO_FOLDER = "This browser doesn't let the page read a folder that is dropped. Choose the world's folder by the" +
+  " button, or choose its files region/r.X.Z.mca.";
+
 function listen() {
-  byId("file").addEventListener("change", (event) => {
-    take(event.target.files[0]);
-    event.target.value = ""; // so that the same file can be chosen again
-  });
+  for (const name of ["file", "folder"]) {
+    byId(name).addEventListener("change", (event) => {
+      take(chosenFiles(event.target.files));
+      event.target.value = ""; // so that the same file can be chosen again
+    });
+  }
   byId("table").addEventListener("change", async (event) => {
     const [file] = event.target.files;
     state.table = file ? { name: file.name, text: await file.text() } : null;
@@ -168,7 +193,8 @@ function listen() {
     document.addEventListener(kind, (event) => {
       event.preventDefault();
       byId("drop").classList.toggle("over", kind === "dragover");
-      if (kind === "drop" && event.dataTransfer.files.length > 0) take(event.dataTransfer.files[0]);
+      if (kind !== "drop") return;
+      droppedFiles(event.dataTransfer).then(take, (fault) => refuse({ sentence: NO_FOLDER, line: String(fault) }));
     });
   }
   byId("stop").addEventListener("click", stopped);
@@ -181,3 +207,4 @@ function listen() {
 
 byId("version").textContent = `torchplan ${document.documentElement.dataset.version || ""}`.trim();
 listen();
+listenToForm();
