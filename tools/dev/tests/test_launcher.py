@@ -21,6 +21,8 @@ printf '#!/bin/sh\\necho "built $*"\\n' >crates/torchplan/out/torchplan
 chmod 755 crates/torchplan/out/torchplan
 """
 PACKED = "dist/torchplan-x86_64-linux.gz"
+PACKED_FOR_ARM = "dist/torchplan-aarch64-linux.gz"
+FOR_ARM = b'#!/bin/sh\necho "for ARM $*"\n'
 FILES = {
     "crates.txt": b"# each crate, and what it stands on\nlow:\nother: low\ntorchplan may_wait=1: low clap\n",
     "HANDLES": b"Handles allowed: none.\n",
@@ -68,6 +70,7 @@ class Checkout:
         os.chmod(path_to(self.tools, "rt"), 0o755)
         self.builds = path_to(self.tools, "builds")
         self.pack()
+        self.pack_for_arm()
 
     def __enter__(self):
         return self
@@ -80,16 +83,32 @@ class Checkout:
     def path(self, name):
         return path_to(self.root, name)
 
-    def pack(self):
-        """Packs the stand-in program as pack-program would."""
+    def sources(self):
         script = '. "$root/tools/dev/sources.sh" && sum_of_sources'
         told = subprocess.check_output(["sh", "-c", script], env={**os.environ, "root": self.root}, text=True)
-        lines = ["version 1.2.3", "kit some-kit logic 0", "glibc 2.34", f"sources {told.strip()}"]
-        lines.append(f"program {hashlib.sha256(PROGRAM).hexdigest()}")
+        return f"sources {told.strip()}"
+
+    def record(self, name, lines):
         record = "".join(f"{line}\n" for line in lines).encode()
-        record += f"record {hashlib.sha256(record).hexdigest()}\n".encode()
-        write(self.path("dist/BUILT"), record)
+        write(self.path(name), record + f"record {hashlib.sha256(record).hexdigest()}\n".encode())
+
+    def pack(self):
+        """Packs the stand-in program as pack-program would."""
+        lines = ["version 1.2.3", "kit some-kit logic 0", "glibc 2.34", self.sources()]
+        self.record("dist/BUILT", [*lines, f"program {hashlib.sha256(PROGRAM).hexdigest()}"])
         write(self.path(PACKED), gzip.compress(PROGRAM, mtime=0))
+
+    def pack_for_arm(self):
+        """Packs a stand-in for the program for ARM64 as pack-targets would."""
+        lines = ["version 1.2.3", "kit some-kit logic 0", self.sources(), "torchplan.wasm 0"]
+        self.record("dist/TARGETS", [*lines, f"torchplan-aarch64-linux {hashlib.sha256(FOR_ARM).hexdigest()}"])
+        write(self.path(PACKED_FOR_ARM), gzip.compress(FOR_ARM, mtime=0))
+
+    def call_itself(self, system):
+        """Has the system call itself so, by a stand-in for uname."""
+        write(path_to(self.tools, "uname"), f"#!/bin/sh\necho '{system}'\n".encode())
+        os.chmod(path_to(self.tools, "uname"), 0o755)
+        os.remove(path_to(self.tools, "rt"))
 
     def start(self, *words, can_build=True, before=(), **settings):
         path = os.defpath if not can_build else os.pathsep.join([self.tools, os.defpath])
@@ -208,6 +227,25 @@ class Launcher(unittest.TestCase):
             ran = here.start("plan", can_build=False)
             self.assertEqual((ran.returncode, ran.stdout), (70, ""))
             self.assertIn("it needs Linux on x86_64 (on Windows: in WSL) and glibc 2.34 or later", ran.stderr)
+
+    def test_each_system_of_a_shared_checkout_runs_its_own_program(self):
+        with Checkout() as here:
+            self.assertEqual(here.start("plan").stdout, "packed plan\n")
+            here.call_itself("Linux aarch64")
+            first, second = here.start("plan"), here.start("check")
+            self.assertEqual((first.returncode, first.stdout), (0, "for ARM plan\n"))
+            self.assertEqual((second.stdout, second.stderr), ("for ARM check\n", ""))
+            change_byte(here.path(PACKED_FOR_ARM), -9)
+            here.forget()
+            self.assertIn("no rt is on the PATH", here.start("plan").stderr)
+
+    def test_a_system_that_dist_has_no_program_for(self):
+        with Checkout() as here:
+            here.call_itself("Darwin arm64")
+            ran = here.start("plan")
+            self.assertEqual((ran.returncode, ran.stdout), (70, ""))
+            self.assertEqual(ran.stderr, "torchplan: it needs Linux on x86_64 (on Windows: in WSL) or on ARM64;"
+                             " this is Darwin arm64\n")
 
     def test_many_launchers_at_once(self):
         with Checkout() as here:
