@@ -1,0 +1,5 @@
+pub mod FieldLemmas
+pub mod LineLemmas
+pub mod MisfitLemmas
+pub mod ReadLemmas
+pub mod PutLemmas
