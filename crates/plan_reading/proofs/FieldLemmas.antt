@@ -10,7 +10,7 @@ use Rattle.certificate_lines.proofs.Digits.{digits_of, longest, read_on, value_o
 use Rattle.certificate_lines.proofs.Feeds.{no_cut}
 use Rattle.cave_model.specs.declared.hang.Hang.{Hang}
 use Rattle.cave_model.specs.declared.hang.Hang.TheVariants.{Floor, North, East, South, West}
-use Rattle.plan_reading.specs.HangWord.{hang_word}
+use Rattle.cave_plan.specs.PlanText.{hang_word}
 use Rattle.plan_reading.specs.Fields.{BeginsWithHead, BeginsWithNumber, BeginsWithTorch, HasNoCorner, HasNoHang}
 use Rattle.plan_reading.specs.Fields.{HasNoHead, HasNoNumber, HasNoTorch, IsNoDigit}
 use Rattle.plan_reading.specs.PlanLines.{IsNear, dark_line, head_line, torch_line}

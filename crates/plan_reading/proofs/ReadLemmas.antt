@@ -13,7 +13,7 @@ use Rattle.certificate_lines.proofs.Feeds.{clean_append, clean_digits, clean_wor
 use Rattle.certificate_lines.proofs.Unique.{GoesOn, clean_front, compare}
 use Rattle.cave_model.specs.declared.hang.Hang.{Hang}
 use Rattle.cave_model.specs.declared.hang.Hang.TheVariants.{Floor, North, East, South, West}
-use Rattle.plan_reading.specs.HangWord.{hang_word}
+use Rattle.cave_plan.specs.PlanText.{hang_word}
 use Rattle.plan_reading.specs.Fields.{BeginsWithDark, BeginsWithHead, BeginsWithTorch, HasNoCorner, HasNoTorch}
 use Rattle.plan_reading.specs.Placed.{IsNoPlan}
 use Rattle.plan_reading.specs.PlanLines.{AreFirstLines, IsFirstMisfit, IsInRange, IsNear, TellsTorches, Told}

@@ -3,7 +3,7 @@ use Rattle.std.specs.Prelude.{◌≡◌, ◌<◌, ◌⊎◌, ℕ, List, ◌∷�
 use Rattle.certificate_lines.specs.Cuts.{HasNoFeed}
 use Rattle.certificate_lines.specs.Numbers.{IsSmall}
 use Rattle.cave_model.specs.declared.hang.Hang.{Hang}
-use Rattle.plan_reading.specs.HangWord.{hang_word}
+use Rattle.cave_plan.specs.PlanText.{hang_word}
 use Rattle.plan_reading.specs.PlanLines.{IsNear, corner_line, dark_line, head_line, torch_line}
 use Rattle.plan_reading.specs.declared.torch.ToldTorch.{ToldTorch}
 

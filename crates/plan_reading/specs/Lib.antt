@@ -1,5 +1,4 @@
 -- public clauses cite
-pub mod HangWord
 pub mod PlanLines
 pub mod Placed
 pub mod Texts

@@ -5,7 +5,7 @@ use Rattle.std.specs.Prelude.{Option, Some, None, IfSome}
 use Rattle.proof_rules.specs.Text.{ended}
 use Rattle.certificate_lines.specs.Cuts.{HasNoFeed}
 use Rattle.certificate_lines.specs.Numbers.{IsSmall}
-use Rattle.plan_reading.specs.HangWord.{hang_word}
+use Rattle.cave_plan.specs.PlanText.{hang_word}
 use Rattle.plan_reading.specs.declared.torch.ToldTorch.{ToldTorch}
 
 -- how many torches there are; of a stopped plan also the number that no safe torches are fewer than
