@@ -93,7 +93,8 @@ no_verdict e structure bytes table certificate same within told long of_input = 
   where
     of_cave : (e : CheckFault) → verdicts.IsFaultOfBytes bytes table e
         → IsNoVerdict structure table certificate (of_check e)
-    of_cave e is = inl (input_fault (λ b f. IsFaultOfBytes b table f) structure bytes (of_check e) same within (told_fault bytes table e is))
+    of_cave e is = inl (input_fault (λ b f. IsFaultOfBytes b table f) structure bytes (of_check e) same within
+        (told_fault bytes table e is))
 
     by : (e : CheckFault) → ((¬ IsOfReading e) → verdicts.IsFaultOfBytes bytes table e)
         → (e ≡ check.TooLong → IfSome certificate (λ text. proof_limit < length text)) → IsOfInput (of_check e)
@@ -295,8 +296,8 @@ module _ (structure rest table : Option (List ℕ)) (rule : Rule) (certificate :
         whole = whole_judged certificate verdict (Err faults.OutOfMemory) checked.whole;
         left = Keeps-refl held;
         fault = λ of. absurd (of.2 refl);
-        refused = input_refused (λ b f. IsFaultOfBytes b table f) structure bytes (Unsaid faults.OutOfMemory) same within
-            (λ due of. inr (inr (inr refl)));
+        refused = input_refused (λ b f. IsFaultOfBytes b table f) structure bytes (Unsaid faults.OutOfMemory) same
+            within (λ due of. inr (inr (inr refl)));
         before = λ failed. absurd (cc);
       }
 

@@ -1,5 +1,6 @@
 -- How a run ends that reads a structure and writes one text. This is this project's own.
-use Rattle.std.specs.Prelude.{◌≡◌, ◌≢◌, ◌<◌, ◌≤◌, ◌⊎◌, ℕ, List, length, Option, Result, MatchResult, IfErr, IfSome, OnOk}
+use Rattle.std.specs.Prelude.{◌≡◌, ◌≢◌, ◌<◌, ◌≤◌, ◌⊎◌, ℕ, List, length, Option, Result, MatchResult, IfErr, IfSome}
+use Rattle.std.specs.Prelude.{OnOk}
 use Rattle.std.specs.Io.KnownBytes.{Appends, Keeps}
 use Rattle.certificate_text.specs.Writing.{AppendsFront}
 use Rattle.proof_check.specs.Reading.{GivesAtMost}

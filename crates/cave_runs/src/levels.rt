@@ -65,8 +65,8 @@ fn text_of<O: Watcher>(
 {
     let world = read_cave(alloc, bytes, table, rule)?;
     tell_sides(&world, observer);
-    let world = lit_by(alloc, world, plan)?;
-    let text = world_text(alloc, &world)?;
+    let lit = lit_by(alloc, world, plan)?;
+    let text = world_text(alloc, &lit)?;
     Ok(text)
 }
 

@@ -3,3 +3,4 @@ pub mod LineLemmas
 pub mod MisfitLemmas
 pub mod ReadLemmas
 pub mod PutLemmas
+pub mod PrintedLemmas

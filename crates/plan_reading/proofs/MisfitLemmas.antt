@@ -1,6 +1,6 @@
 -- The first line that doesn't fit.
-use Rattle.std.proofs.Common.{◌≡◌, ℕ, ◌+◌, ◌-◌, ◌<◌, ◌≤◌, ◌⊎◌, inl, inr, List, [], ◌∷◌, ◌++◌, length, map, All, refl, sym}
-use Rattle.std.proofs.Common.{ap, subst, arith, ◌∙◌, append_assoc, Option, Some, None, replicate}
+use Rattle.std.proofs.Common.{◌≡◌, ℕ, ◌+◌, ◌-◌, ◌<◌, ◌≤◌, ◌⊎◌, inl, inr, List, [], ◌∷◌, ◌++◌, length, map, All}
+use Rattle.std.proofs.Common.{refl, sym, ap, subst, arith, ◌∙◌, append_assoc, Option, Some, None, replicate}
 use Rattle.std.specs.Prelude.{IfSome, codes}
 use Rattle.std.proofs.lemmas.List.{append_cancel_left, length-append, length-map, length-replicate, map-append}
 use Rattle.std.proofs.lemmas.List.Elements.{All-append, All-head, All-nil, All-replicate, All-tail}

@@ -74,12 +74,15 @@ which cave us cell c =
 -- the cell of a torch is among them
 among : (cave : Cave) (us : List ToldTorch) (k : ℕ) → k < length us
     → Contains (map (cell_of cave.size) us) (cell_of cave.size (torch_at us k))
-among cave us k inside =
-    (k, omega (arith, inside, length-map us (cell_of cave.size)),
-    get_or-map (cell_of cave.size) us k (torch_at [] 0) (cell_of cave.size (torch_at us k)) inside)
+among cave us k inside = (
+  k,
+  omega (arith, inside, length-map us (cell_of cave.size)),
+  get_or-map (cell_of cave.size) us k (torch_at [] 0) (cell_of cave.size (torch_at us k)) inside,
+)
 
 -- each of the cells gives way to a torch
-all_put : (cave : Cave) (us : List ToldTorch) → AllMayStand cave us → with_torches.ArePut cave (map (cell_of cave.size) us)
+all_put : (cave : Cave) (us : List ToldTorch) → AllMayStand cave us
+    → with_torches.ArePut cave (map (cell_of cave.size) us)
 all_put cave us stand = record {
   at = λ cell c. let w = which cave us cell c in
       subst (λ (n : ℕ). IsTrue (class_at cave n).put) w.2 (legal_put cave us w.0 (stand w.0 w.1));
@@ -94,9 +97,12 @@ StandsAs cave vs j t = IsTrue (is_within cave.size (point_of t)) × IsTrue (is_l
 stands_so : (cave : Cave) (us vs : List ToldTorch) (j : ℕ) → ((k : ℕ) → k ≤ j → torch_at us k ≡ torch_at vs k)
     → MayStand cave us j → MayStand cave vs j
 stands_so cave us vs j same m =
-    let here_so : StandsAs cave vs j (torch_at us j) = (m.inside, m.legal,
-    λ k less. subst (λ (t : ToldTorch). cell_of cave.size t ≢ cell_of cave.size (torch_at us j))
-    (same k (omega (arith, less))) (m.alone k less)) in
+    let here_so : StandsAs cave vs j (torch_at us j) = (
+      m.inside,
+      m.legal,
+      λ k less. subst (λ (t : ToldTorch). cell_of cave.size t ≢ cell_of cave.size (torch_at us j))
+          (same k (omega (arith, less))) (m.alone k less),
+    ) in
     let so = subst (λ (t : ToldTorch). StandsAs cave vs j t) (same j (omega arith)) here_so in
     record { inside = so.0; legal = so.1; alone = so.2 }
 
@@ -116,12 +122,16 @@ push_stands cave us t stand free = λ j less. elim (cases_lt j (length us)) [
       (λ k le. sym (get_or_append_left us (t ∷ []) (torch_at [] 0) k (omega (arith, le, early)))) (stand j early)
   | inr late ↦ (let last : length us ≡ j = omega (arith, less, late, length_push us t) in
       let here : t ≡ torch_at (us ++ t ∷ []) j = sym (get_or_push us t (torch_at [] 0) j last) in
-      let here_so : StandsAs cave (us ++ t ∷ []) j t = (free.inside, free.legal, λ k early same.
-      let inside : k < length us = omega (arith, early, last) in
-      let is : cell_of cave.size (torch_at us k) ≡ cell_of cave.size t =
-      ap (cell_of cave.size) (sym (get_or_append_left us (t ∷ []) (torch_at [] 0) k inside)) ∙ same in
-      free_alone cave us t stand free (subst (λ (n : ℕ). Contains (map (cell_of cave.size) us) n) is
-      (among cave us k inside))) in
+      let here_so : StandsAs cave (us ++ t ∷ []) j t = (
+        free.inside,
+        free.legal,
+        λ k early same.
+            let inside : k < length us = omega (arith, early, last) in
+            let is : cell_of cave.size (torch_at us k) ≡ cell_of cave.size t =
+            ap (cell_of cave.size) (sym (get_or_append_left us (t ∷ []) (torch_at [] 0) k inside)) ∙ same in
+            free_alone cave us t stand free (subst (λ (n : ℕ). Contains (map (cell_of cave.size) us) n) is
+            (among cave us k inside)),
+      ) in
       let so = subst (λ (u : ToldTorch). StandsAs cave (us ++ t ∷ []) j u) here here_so in
       record { inside = so.0; legal = so.1; alone = so.2 })
 ]
@@ -156,14 +166,18 @@ first_illegal cave torches i old inside are taken = record {
 } where
   us : List ToldTorch
   us = take i torches
+
   counted : length us ≡ i
   counted = length-take-le i torches (omega (arith, inside))
+
   same : (k : ℕ) → k < i → torch_at us k ≡ torch_at torches k
   same k less = get_or-take i torches k (torch_at [] 0) less
+
   earlier : (n : ℕ) → StandsIllegally cave torches n → (n < i) ⊎ (i ≤ n) → i ≤ n
   earlier n bad (inr le) = le
   earlier n bad (inl lt) = absurd (bad.1 (stands_so cave us torches n (λ k le. same k (omega (arith, le, lt)))
       (are.stand n (omega (arith, lt, counted)))))
+
   untaken : MayStand cave torches i → IsTrue (get_or old (cell_of cave.size (torch_at torches i)) void).put
   untaken m =
       let cell = cell_of cave.size (torch_at torches i) in

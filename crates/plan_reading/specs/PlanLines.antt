@@ -5,7 +5,9 @@ use Rattle.std.specs.Prelude.{Option, Some, None, IfSome}
 use Rattle.proof_rules.specs.Text.{ended}
 use Rattle.certificate_lines.specs.Cuts.{HasNoFeed}
 use Rattle.certificate_lines.specs.Numbers.{IsSmall}
-use Rattle.cave_plan.specs.PlanText.{hang_word}
+use Rattle.cave_base.specs.Box.{coordinates}
+use Rattle.cave_model.specs.Cave.{Cave}
+use Rattle.cave_plan.specs.PlanText.{hang_at, hang_word}
 use Rattle.plan_reading.specs.declared.torch.ToldTorch.{ToldTorch}
 
 -- how many torches there are; of a stopped plan also the number that no safe torches are fewer than
@@ -76,3 +78,12 @@ pub record IsFirstMisfit (bytes : List ℕ) (number : ℕ) : Type 0 where
   pub fits : AreFirstLines before
   pub breaks : (next later : List ℕ) → rest ≡ next ++ 10 ∷ later → ¬ AreFirstLines (before ++ next ∷ [])
   pub unfinished : (torches : List ToldTorch) → ¬ TellsTorches bytes torches
+
+-- the torch that a plan's text tells of this cell
+abbrev pub told_at : Cave → ℕ → ToldTorch
+told_at cave cell = record {
+  x = (coordinates cave.size cell).x;
+  y = (coordinates cave.size cell).y;
+  z = (coordinates cave.size cell).z;
+  hang = hang_at cave cell;
+}
