@@ -13,12 +13,12 @@ _torchplan() {
         --proof) COMPREPLY=($(compgen -f -- "$word")); return ;;
     esac
     if [[ $COMP_CWORD == 1 ]]; then
-        COMPREPLY=($(compgen -W "plan check dark help --help --version" -- "$word"))
+        COMPREPLY=($(compgen -W "plan check dark levels help --help --version" -- "$word"))
     elif [[ $word == -* ]]; then
         case $command in
             plan) all="$rules --proof --workers --turns --progress --help" ;;
             check) all="$rules --help" ;;
-            dark) all="$rules --progress --help" ;;
+            dark | levels) all="$rules --progress --help" ;;
         esac
         COMPREPLY=($(compgen -W "$all" -- "$word"))
     else

@@ -50,20 +50,25 @@ pub const fn zeros_of(left: usize) -> Zeros {
     Zeros { left, given: 0 }
 }
 
-/// Takes up to 16 bytes, and no memory, and fails where more come.
+/// Takes up to 24 bytes, and no memory, and fails where more come.
 #[derive(Drop)]
 pub struct ShortWriter {
-    pub taken: [u8; 16],
-    pub count: usize,
+    taken: [u8; 24],
+    count: usize,
 }
 
 impl ShortWriter {
     /// It has taken nothing yet.
     pub fn new() -> ShortWriter {
         ShortWriter {
-            taken: [0; 16],
+            taken: [0; 24],
             count: 0,
         }
+    }
+
+    /// What it has taken.
+    pub fn taken(&self) -> &[u8] {
+        self.taken.get(..self.count).unwrap_or(&[])
     }
 }
 

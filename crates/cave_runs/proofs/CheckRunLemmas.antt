@@ -26,7 +26,8 @@ use Rattle.cave_runs.specs.CheckRuns.{Judges, LeavesLine, ShowsFewest, verdict_l
 use Rattle.cave_runs.specs.Faults.{run_fault_of, of_check}
 use Rattle.cave_runs.specs.Limits.{structure_limit, proof_limit}
 use Rattle.cave_runs.specs.RunOfCheck.{IsRunOfCheck}
-use Rattle.cave_runs.specs.Runs.{IsFaultOfBytes, IsOfInput}
+use Rattle.cave_runs.specs.Runs.{IsFaultOfBytes}
+use Rattle.cave_runs.specs.TextRuns.{IsOfInput}
 use Rattle.cave_runs.specs.declared.fault.Input.{Input}
 use Rattle.cave_runs.specs.declared.fault.Input.TheVariants.{ProofInput, StructureInput}
 use Rattle.cave_runs.specs.declared.fault.RunFault.{RunFault}
@@ -92,7 +93,8 @@ no_verdict e structure bytes table certificate same within told long of_input = 
   where
     of_cave : (e : CheckFault) → verdicts.IsFaultOfBytes bytes table e
         → IsNoVerdict structure table certificate (of_check e)
-    of_cave e is = inl (input_fault structure bytes table (of_check e) same within (told_fault bytes table e is))
+    of_cave e is = inl (input_fault (λ b f. IsFaultOfBytes b table f) structure bytes (of_check e) same within
+        (told_fault bytes table e is))
 
     by : (e : CheckFault) → ((¬ IsOfReading e) → verdicts.IsFaultOfBytes bytes table e)
         → (e ≡ check.TooLong → IfSome certificate (λ text. proof_limit < length text)) → IsOfInput (of_check e)
@@ -219,6 +221,7 @@ line_kept (faults.TooLong i) structure table rule certificate held other = Keeps
 line_kept (faults.Scan f) structure table rule certificate held other = Keeps-refl held
 line_kept (faults.Table f) structure table rule certificate held other = Keeps-refl held
 line_kept (faults.Build f) structure table rule certificate held other = Keeps-refl held
+line_kept (faults.Plan f) structure table rule certificate held other = Keeps-refl held
 line_kept (faults.Unlightable x y z) structure table rule certificate held other = Keeps-refl held
 line_kept faults.NoThread structure table rule certificate held other = Keeps-refl held
 
@@ -275,7 +278,7 @@ module _ (structure rest table : Option (List ℕ)) (rule : Rule) (certificate :
       whole = whole_fault certificate e (Err (of_check e)) (of_check e) refl refl checked.whole;
       left = line_kept (of_check e) structure table rule certificate held (check_unwritten e);
       fault = no_verdict e structure bytes table certificate same within checked.fault checked.too_long;
-      refused = input_refused structure bytes table (Unsaid (of_check e)) same within
+      refused = input_refused (λ b f. IsFaultOfBytes b table f) structure bytes (Unsaid (of_check e)) same within
           (λ due of. unsaid bytes table e checked.refused due of);
       before = λ failed. (ended, checked.before (read_failed e failed));
     }
@@ -293,8 +296,8 @@ module _ (structure rest table : Option (List ℕ)) (rule : Rule) (certificate :
         whole = whole_judged certificate verdict (Err faults.OutOfMemory) checked.whole;
         left = Keeps-refl held;
         fault = λ of. absurd (of.2 refl);
-        refused = input_refused structure bytes table (Unsaid faults.OutOfMemory) same within
-            (λ due of. inr (inr (inr refl)));
+        refused = input_refused (λ b f. IsFaultOfBytes b table f) structure bytes (Unsaid faults.OutOfMemory) same
+            within (λ due of. inr (inr (inr refl)));
         before = λ failed. absurd (cc);
       }
 
@@ -310,7 +313,7 @@ module _ (structure rest table : Option (List ℕ)) (rule : Rule) (certificate :
         left = subst (λ (f : RunFault). LeavesLine f structure table rule certificate old new) (sym is)
             (verdict, judges structure bytes table rule certificate verdict same checked.found, front);
         fault = λ of. absurd (of.1 is);
-        refused = input_refused structure bytes table (Unsaid e) same within
+        refused = input_refused (λ b f. IsFaultOfBytes b table f) structure bytes (Unsaid e) same within
             (λ due of. absurd (none_due bytes table checked.refused due of));
         before = λ failed. absurd
             (let both : faults.WriteFailed ≡ faults.ReadFailed = sym is ∙ failed in cc);
@@ -329,7 +332,7 @@ module _ (structure rest table : Option (List ℕ)) (rule : Rule) (certificate :
         whole = whole_judged certificate verdict (Ok verdict) checked.whole;
         left = tt;
         fault = tt;
-        refused = input_refused structure bytes table (λ due. ⊥) same within
+        refused = input_refused (λ b f. IsFaultOfBytes b table f) structure bytes (λ due. ⊥) same within
             (λ due of. none_due bytes table checked.refused due of);
         before = tt;
       }

@@ -1,3 +1,4 @@
 pub mod RunLemmas
 pub mod PlanRunLemmas
 pub mod CheckRunLemmas
+pub mod LevelsRunLemmas

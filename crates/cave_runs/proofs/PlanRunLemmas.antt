@@ -34,7 +34,7 @@ use Rattle.cave_runs.specs.Limits.{structure_limit}
 use Rattle.cave_runs.specs.PlanRuns.{WritesBest, EndsIn, Plans, BeginsTexts, BeginsPlan, Leaves}
 use Rattle.cave_runs.specs.PlanRuns.{LeavesIn, LeavesProved, NamesUnlit, IsNoPlan, IsNoPlanOfInput}
 use Rattle.cave_runs.specs.RunOfPlan.{IsRunOfPlan}
-use Rattle.cave_runs.specs.Runs.{IsOfInput}
+use Rattle.cave_runs.specs.TextRuns.{IsOfInput}
 use Rattle.cave_runs.proofs.RunLemmas.{IsNotRead, IsTooLong, bytes_unwritten, cave_refused, cave_clean, long_input}
 use Rattle.cave_runs.proofs.RunLemmas.{long_refused, unwritten, widened}
 use Rattle.cave_runs.specs.declared.fault.Input.TheVariants.{StructureInput}
@@ -163,6 +163,7 @@ leaves fault known bytes table rule allowance cave old new proof_old proof_new s
     by (faults.Scan f) b = absurd b
     by (faults.Table f) b = absurd b
     by (faults.Build f) b = absurd b
+    by (faults.Plan f) b = absurd b
     by (faults.Unlightable x y z) b = absurd b
     by faults.NoThread b = absurd b
 
@@ -289,6 +290,7 @@ leaves_kept (faults.TooLong i) known table rule allowance held proof other = (Ke
 leaves_kept (faults.Scan f) known table rule allowance held proof other = (Keeps-refl held, Keeps-refl proof)
 leaves_kept (faults.Table f) known table rule allowance held proof other = (Keeps-refl held, Keeps-refl proof)
 leaves_kept (faults.Build f) known table rule allowance held proof other = (Keeps-refl held, Keeps-refl proof)
+leaves_kept (faults.Plan f) known table rule allowance held proof other = (Keeps-refl held, Keeps-refl proof)
 leaves_kept (faults.Unlightable x y z) known table rule allowance held proof other =
     (Keeps-refl held, Keeps-refl proof)
 leaves_kept faults.NoThread known table rule allowance held proof other = (Keeps-refl held, Keeps-refl proof)
@@ -311,6 +313,7 @@ left_by (faults.TooLong i) cave allowance old new proof_old proof_new b = absurd
 left_by (faults.Scan f) cave allowance old new proof_old proof_new b = absurd b
 left_by (faults.Table f) cave allowance old new proof_old proof_new b = absurd b
 left_by (faults.Build f) cave allowance old new proof_old proof_new b = absurd b
+left_by (faults.Plan f) cave allowance old new proof_old proof_new b = absurd b
 left_by (faults.Unlightable x y z) cave allowance old new proof_old proof_new b = absurd b
 left_by faults.NoThread cave allowance old new proof_old proof_new b = absurd b
 

@@ -1,19 +1,18 @@
--- Why a run is refused, from why its parts are, and the run of dark cells.
+-- Why a run is refused, from why its parts are, and a run that writes one text.
 use Rattle.std.proofs.Common.{◌≡◌, ◌≢◌, ℕ, ◌<◌, ◌≤◌, List, length, Option, Some, None, Result, Ok, Err, refl, sym, ap}
 use Rattle.std.proofs.Common.{subst, ◌∙◌, ◌⊎◌, inl, inr, arith}
 use Rattle.std.specs.Prelude.{IfErr, IfSome, OnErr, OnOk}
 use Rattle.std.specs.Io.KnownBytes.{Appends}
 use Rattle.std.proofs.KnownBytes.{Keeps-refl}
 use Rattle.cave_reading.specs.Bytes as caves
-use Rattle.cave_model.specs.Rule.{Rule}
 use Rattle.cave_reading.specs.declared.cave_fault.CaveFault.{CaveFault}
 use Rattle.cave_reading.specs.declared.cave_fault.CaveFault.TheVariants as cave
 use Rattle.certificate_text.specs.Writing.{AppendsFront}
 use Rattle.proof_check.specs.Reading.{GivesAtMost}
 use Rattle.cave_runs.specs.Faults.{run_fault_of}
 use Rattle.cave_runs.specs.Limits.{structure_limit}
-use Rattle.cave_runs.specs.RunOfDark.{IsRunOfDark}
-use Rattle.cave_runs.specs.Runs.{IsFaultOfBytes, IsFaultOfInput, IsOfInput, IsDarkTextOf, BeginsDark, WritesDark}
+use Rattle.cave_runs.specs.Runs.{IsFaultOfBytes}
+use Rattle.cave_runs.specs.TextRuns.{BeginsText, IsOfBytes, IsOfInput, IsRunOfText, WritesText}
 use Rattle.cave_runs.specs.declared.fault.Input.TheVariants.{StructureInput}
 use Rattle.cave_runs.specs.declared.fault.RunFault.{RunFault}
 use Rattle.cave_runs.specs.declared.fault.RunFault.TheVariants as faults
@@ -42,32 +41,34 @@ pub cave_clean : (bytes : List ℕ) (table : Option (List ℕ))
 cave_clean bytes table clean due (inner, is, same) = clean inner is
 
 -- what is said of the bytes that were read, said of those that the reader had
-pub input_fault : (known : Option (List ℕ)) (bytes : List ℕ) (table : Option (List ℕ)) (e : RunFault)
-    → IfSome known (λ b. bytes ≡ b) → length bytes ≤ structure_limit → IsFaultOfBytes bytes table e
-    → IfSome known (λ b. IsFaultOfInput b table e)
-input_fault None bytes table e same within fault = tt
-input_fault (Some b) bytes table e same within fault =
-    inr (
-      subst (λ (x : List ℕ). length x ≤ structure_limit) same within,
-      subst
-          (λ (x : List ℕ). IsFaultOfBytes x table e) same fault,
-    )
+pub input_fault : (Inner : List ℕ → RunFault → Type 0) (known : Option (List ℕ)) (bytes : List ℕ) (e : RunFault)
+    → IfSome known (λ b. bytes ≡ b) → length bytes ≤ structure_limit → Inner bytes e
+    → IfSome known (λ b. IsOfBytes Inner b e)
+input_fault Inner None bytes e same within fault = tt
+input_fault Inner (Some b) bytes e same within fault =
+    subst (λ (x : List ℕ). IsOfBytes Inner x e) same (inr (within, fault))
 
 -- a fault that is due to an input within the limit is one of its bytes
-pub within_limit : (bytes : List ℕ) (table : Option (List ℕ)) (due : RunFault) → length bytes ≤ structure_limit
-    → IsFaultOfInput bytes table due → IsFaultOfBytes bytes table due
-within_limit bytes table due within (inl long) = absurd (omega (arith, long.0))
-within_limit bytes table due within (inr fault) = fault.1
+within_limit : (Inner : List ℕ → RunFault → Type 0) (bytes : List ℕ) (due : RunFault) → length bytes ≤ structure_limit
+    → IsOfBytes Inner bytes due → Inner bytes due
+within_limit Inner bytes due within (inl long) = absurd (omega (arith, long.0))
+within_limit Inner bytes due within (inr fault) = fault.1
 
 -- what the bytes' faults meet, those of the input meet
-pub input_refused : (known : Option (List ℕ)) (bytes : List ℕ) (table : Option (List ℕ)) (Met : RunFault → Type 0)
-    → IfSome known (λ b. bytes ≡ b) → length bytes ≤ structure_limit
-    → ((due : RunFault) → IsFaultOfBytes bytes table due → Met due)
-    → IfSome known (λ b. (due : RunFault) → IsFaultOfInput b table due → Met due)
-input_refused None bytes table Met same within met = tt
-input_refused (Some b) bytes table Met same within met =
-    λ due fault. met due (within_limit bytes table due within
-    (subst (λ (x : List ℕ). IsFaultOfInput x table due) (sym same) fault))
+pub input_refused : (Inner : List ℕ → RunFault → Type 0) (known : Option (List ℕ)) (bytes : List ℕ)
+    (Met : RunFault → Type 0) → IfSome known (λ b. bytes ≡ b) → length bytes ≤ structure_limit
+    → ((due : RunFault) → Inner bytes due → Met due)
+    → IfSome known (λ b. (due : RunFault) → IsOfBytes Inner b due → Met due)
+input_refused Inner None bytes Met same within met = tt
+input_refused Inner (Some b) bytes Met same within met =
+    λ due fault. met due (within_limit Inner bytes due within
+    (subst (λ (x : List ℕ). IsOfBytes Inner x due) (sym same) fault))
+
+-- what holds of the bytes that were read holds of those that the reader had
+known_too : (Holds : List ℕ → Type 0) (known : Option (List ℕ)) (bytes : List ℕ) → IfSome known (λ b. bytes ≡ b)
+    → Holds bytes → IfSome known Holds
+known_too Holds None bytes same h = tt
+known_too Holds (Some b) bytes same h = subst Holds same h
 
 -- a refusal without streams is one with them
 pub widened : (e due : RunFault) → (e ≡ due) ⊎ (e ≡ faults.OutOfMemory)
@@ -84,11 +85,6 @@ IsNotRead e = (e ≡ faults.ReadFailed) ⊎ (e ≡ faults.TooLong StructureInput
 -- too long is what has more bytes than the limit
 abbrev pub IsTooLong : Option (List ℕ) → RunFault → Type 0
 IsTooLong known e = e ≡ faults.TooLong StructureInput → IfSome known (λ bytes. structure_limit < length bytes)
-
--- the input is too long, or its bytes have such a fault
-abbrev pub IsOfBytes : (List ℕ → RunFault → Type 0) → List ℕ → RunFault → Type 0
-IsOfBytes Inner bytes fault = ((structure_limit < length bytes) × (fault ≡ faults.TooLong StructureInput))
-    ⊎ ((length bytes ≤ structure_limit) × Inner bytes fault)
 
 -- no write failed
 pub unwritten : (e : RunFault) → IsNotRead e → e ≡ faults.WriteFailed → ⊥
@@ -122,7 +118,7 @@ long_refused Inner Met (Some bytes) e (inr (inl is)) long same failed none =
     λ due of. same due (due_long Inner bytes e due is (long is) of)
 long_refused Inner Met (Some bytes) e (inr (inr is)) long same failed none = λ due of. none is due
 
--- ---- the run of dark cells
+-- ---- faults of the bytes
 
 -- no fault of a cave is a failed write
 never_written : (e : CaveFault) → run_fault_of e ≡ faults.WriteFailed → ⊥
@@ -136,75 +132,62 @@ pub bytes_unwritten : (bytes : List ℕ) (table : Option (List ℕ)) (e : RunFau
     → e ≡ faults.WriteFailed → ⊥
 bytes_unwritten bytes table e (inner, of, same) is = never_written inner (sym same ∙ is)
 
--- the text of the bytes that were read, written as that of those that the reader had
-dark_written : (known : Option (List ℕ)) (bytes : List ℕ) (table : Option (List ℕ)) (rule : Rule) (text : List ℕ)
-    (old new : Option (List ℕ)) → IfSome known (λ b. bytes ≡ b) → IsDarkTextOf bytes table rule text
-    → Appends old new text → IfSome known (λ b. WritesDark b table rule old new)
-dark_written None bytes table rule text old new same dark written = tt
-dark_written (Some b) bytes table rule text old new same dark written =
-    (text, subst (λ (x : List ℕ). IsDarkTextOf x table rule text) same dark, written)
+-- ---- a run that writes one text
 
--- and a beginning of it
-dark_begun : (known : Option (List ℕ)) (bytes : List ℕ) (table : Option (List ℕ)) (rule : Rule) (text : List ℕ)
-    (old new : Option (List ℕ)) → IfSome known (λ b. bytes ≡ b) → IsDarkTextOf bytes table rule text
-    → AppendsFront old new text → IfSome known (λ b. BeginsDark b table rule old new)
-dark_begun None bytes table rule text old new same dark front = tt
-dark_begun (Some b) bytes table rule text old new same dark front =
-    (text, subst (λ (x : List ℕ). IsDarkTextOf x table rule text) same dark, front)
+module _ (IsText : List ℕ → List ℕ → Type 0) (IsFault : List ℕ → RunFault → Type 0) (known rest : Option (List ℕ)) where
+  -- a run whose input wasn't read
+  pub text_unread : (e : RunFault) (held : Option (List ℕ)) → IsNotRead e → IsTooLong known e
+      → (e ≡ faults.ReadFailed → GivesAtMost structure_limit known rest)
+      → IsRunOfText IsText IsFault known rest (Err e) held held
+  text_unread e held not_read long before = record {
+    done = tt;
+    untouched = λ other. Keeps-refl held;
+    begun = λ failed. absurd (unwritten e not_read failed);
+    fault = λ of. long_input IsFault known e not_read long of;
+    refused = long_refused IsFault (λ due. (e ≡ due) ⊎ (e ≡ faults.ReadFailed) ⊎ (e ≡ faults.OutOfMemory)) known e
+        not_read long (λ due same. inl same) (λ failed due. inr (inl failed)) (λ none due. inr (inr none));
+    before = before;
+  }
 
--- a run whose input wasn't read
-pub dark_unread : (known rest table : Option (List ℕ)) (rule : Rule) (e : RunFault) (held : Option (List ℕ))
-    → IsNotRead e → IsTooLong known e → (e ≡ faults.ReadFailed → GivesAtMost structure_limit known rest)
-    → IsRunOfDark known rest table rule (Err e) held held
-dark_unread known rest table rule e held not_read long before = record {
-  done = tt;
-  untouched = λ other. Keeps-refl held;
-  begun = λ failed. absurd (unwritten e not_read failed);
-  fault = λ of. long_input (λ bytes f. IsFaultOfBytes bytes table f) known e not_read long of;
-  refused = long_refused (λ bytes f. IsFaultOfBytes bytes table f)
-      (λ due. (e ≡ due) ⊎ (e ≡ faults.ReadFailed) ⊎ (e ≡ faults.OutOfMemory)) known e not_read long
-      (λ due same. inl same) (λ failed due. inr (inl failed)) (λ none due. inr (inr none));
-  before = before;
-}
+  module _ (bytes : List ℕ) (same : IfSome known (λ b. bytes ≡ b)) (within : length bytes ≤ structure_limit)
+      (ended : GivesAtMost structure_limit known rest) where
+    -- one whose input has a fault
+    pub text_refused : (e : RunFault) (held : Option (List ℕ)) → (e ≢ faults.OutOfMemory → IsFault bytes e)
+        → (IsFault bytes e → e ≡ faults.WriteFailed → ⊥)
+        → ((due : RunFault) → IsFault bytes due → (e ≡ due) ⊎ (e ≡ faults.OutOfMemory))
+        → IsRunOfText IsText IsFault known rest (Err e) held held
+    text_refused e held told other_fault refused = record {
+      done = tt;
+      untouched = λ other. Keeps-refl held;
+      begun = λ failed. absurd (other_fault (told
+          (λ none. (let both : faults.WriteFailed ≡ faults.OutOfMemory = sym failed ∙ none in cc))) failed);
+      fault = λ of. input_fault IsFault known bytes e same within (told of.2);
+      refused = input_refused IsFault known bytes
+          (λ due. (e ≡ due) ⊎ (e ≡ faults.ReadFailed) ⊎ (e ≡ faults.OutOfMemory)) same within
+          (λ due of. widened e due (refused due of));
+      before = λ failed. ended;
+    }
 
--- one whose input has a fault
-pub dark_refused : (known rest table : Option (List ℕ)) (rule : Rule) (bytes : List ℕ) (e : RunFault)
-    (held : Option (List ℕ)) → IfSome known (λ b. bytes ≡ b) → length bytes ≤ structure_limit
-    → GivesAtMost structure_limit known rest → (e ≢ faults.OutOfMemory → IsFaultOfBytes bytes table e)
-    → ((due : RunFault) → IsFaultOfBytes bytes table due → (e ≡ due) ⊎ (e ≡ faults.OutOfMemory))
-    → IsRunOfDark known rest table rule (Err e) held held
-dark_refused known rest table rule bytes e held same within ended told refused = record {
-  done = tt;
-  untouched = λ other. Keeps-refl held;
-  begun = λ failed. absurd (bytes_unwritten bytes table e (told
-      (λ none. (let both : faults.WriteFailed ≡ faults.OutOfMemory = sym failed ∙ none in cc))) failed);
-  fault = λ of. input_fault known bytes table e same within (told of.2);
-  refused = input_refused known bytes table (λ due. (e ≡ due) ⊎ (e ≡ faults.ReadFailed) ⊎ (e ≡ faults.OutOfMemory))
-      same within (λ due of. widened e due (refused due of));
-  before = λ failed. ended;
-}
-
--- one that ends with the write of its text
-pub dark_ended : (known rest table : Option (List ℕ)) (rule : Rule) (bytes text : List ℕ)
-    (r : Result (Unit {0}) RunFault) (old new : Option (List ℕ)) → IfSome known (λ b. bytes ≡ b)
-    → length bytes ≤ structure_limit → GivesAtMost structure_limit known rest → IsDarkTextOf bytes table rule text
-    → ((due : RunFault) → IsFaultOfBytes bytes table due → ⊥) → OnOk r (Appends old new text)
-    → IfErr r (λ e. e ≡ faults.WriteFailed) → OnErr r (AppendsFront old new text)
-    → IsRunOfDark known rest table rule r old new
-dark_ended known rest table rule bytes text (Ok u) old new same within ended dark clean written kind front = record {
-  done = dark_written known bytes table rule text old new same dark written;
-  untouched = tt;
-  begun = tt;
-  fault = tt;
-  refused = input_refused known bytes table (λ due. ⊥) same within clean;
-  before = tt;
-}
-dark_ended known rest table rule bytes text (Err e) old new same within ended dark clean written kind front = record {
-  done = tt;
-  untouched = λ other. absurd (other kind);
-  begun = λ failed. dark_begun known bytes table rule text old new same dark front;
-  fault = λ of. absurd (of.1 kind);
-  refused = input_refused known bytes table (λ due. (e ≡ due) ⊎ (e ≡ faults.ReadFailed) ⊎ (e ≡ faults.OutOfMemory))
-      same within (λ due of. absurd (clean due of));
-  before = λ failed. ended;
-}
+    -- one that ends with the write of its text
+    pub text_ended : (text : List ℕ) (r : Result (Unit {0}) RunFault) (old new : Option (List ℕ)) → IsText bytes text
+        → ((due : RunFault) → IsFault bytes due → ⊥) → OnOk r (Appends old new text)
+        → IfErr r (λ e. e ≡ faults.WriteFailed) → OnErr r (AppendsFront old new text)
+        → IsRunOfText IsText IsFault known rest r old new
+    text_ended text (Ok u) old new is clean written kind front = record {
+      done = known_too (λ b. WritesText (IsText b) old new) known bytes same (text, is, written);
+      untouched = tt;
+      begun = tt;
+      fault = tt;
+      refused = input_refused IsFault known bytes (λ due. ⊥) same within clean;
+      before = tt;
+    }
+    text_ended text (Err e) old new is clean written kind front = record {
+      done = tt;
+      untouched = λ other. absurd (other kind);
+      begun = λ failed. known_too (λ b. BeginsText (IsText b) old new) known bytes same (text, is, front);
+      fault = λ of. absurd (of.1 kind);
+      refused = input_refused IsFault known bytes
+          (λ due. (e ≡ due) ⊎ (e ≡ faults.ReadFailed) ⊎ (e ≡ faults.OutOfMemory)) same within
+          (λ due of. absurd (clean due of));
+      before = λ failed. ended;
+    }

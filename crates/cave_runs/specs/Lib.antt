@@ -2,8 +2,12 @@
 pub mod Limits
 pub mod DarkText
 pub mod Faults
+pub mod TextRuns
 pub mod Runs
 pub mod RunOfDark
+pub mod LevelsText
+pub mod LevelsRuns
+pub mod RunOfLevels
 pub mod PlanRuns
 pub mod RunOfPlan
 pub mod CheckRuns

@@ -4,7 +4,8 @@ use Rattle.cave_model.specs.Rule.{Rule}
 use Rattle.proof_check.specs.declared.verdict.Verdict.{Verdict}
 use Rattle.cave_runs.specs.CheckRuns.{GiveAtMost, IsNoVerdict, IsTrusted, IsUnsaid, IsWhole, LeavesLine, SaysIt}
 use Rattle.cave_runs.specs.CheckRuns.{WritesVerdict}
-use Rattle.cave_runs.specs.Runs.{IsFaultOfInput, IsOfInput}
+use Rattle.cave_runs.specs.Runs.{IsFaultOfInput}
+use Rattle.cave_runs.specs.TextRuns.{IsOfInput}
 use Rattle.cave_runs.specs.declared.fault.RunFault.{RunFault}
 use Rattle.cave_runs.specs.declared.fault.RunFault.TheVariants as faults
 

@@ -5,7 +5,7 @@ use Rattle.proof_check.specs.Reading.{GivesAtMost}
 use Rattle.search_traits.specs.declared.planner.Allowance.{Allowance}
 use Rattle.cave_runs.specs.Limits.{structure_limit}
 use Rattle.cave_runs.specs.PlanRuns.{IsNoPlanOfInput, Leaves, Plans}
-use Rattle.cave_runs.specs.Runs.{IsOfInput, IsRefusedRun}
+use Rattle.cave_runs.specs.TextRuns.{IsOfInput, IsRefusedRun}
 use Rattle.cave_runs.specs.declared.fault.RunFault.{RunFault}
 use Rattle.cave_runs.specs.declared.fault.RunFault.TheVariants as faults
 use Rattle.cave_runs.specs.declared.plan.Outcome.{Outcome}

@@ -1,12 +1,13 @@
 //! Why a run was refused, and its fault line: specs/Faults.antt and specs/Texts.antt.
 ghost use Rattle.std.specs.Prelude.{◌≡◌};
-ghost use Rattle.cave_runs.specs.Faults.{run_fault_of, of_check, of_plan, of_write};
+ghost use Rattle.cave_runs.specs.Faults.{run_fault_of, of_check, of_plan, of_torches, of_write};
 ghost use Rattle.cave_runs.specs.declared.fault.RunFault.TheVariants.{OutOfMemory};
 
 use block_rows::RowsFault;
 use cave_plan::PlanFault;
 use cave_reading::{BuildFault, CaveFault};
 use certificate_text::WriteFault;
+use plan_reading::TorchesFault;
 use proof_check::CheckFault;
 use scan_core::ScanFault;
 use std::alloc::AllocError;
@@ -17,6 +18,7 @@ use thiserror::Error;
 pub enum Input {
     StructureInput,
     TableInput,
+    PlanInput,
     ProofInput,
 }
 
@@ -35,6 +37,8 @@ pub enum RunFault {
     Table(RowsFault),
     #[error("{0}")]
     Build(BuildFault),
+    #[error("{0}")]
+    Plan(TorchesFault),
     #[error("unlightable {x} {y} {z}")]
     Unlightable { x: u32, y: u32, z: u32 },
     #[error("no thread")]
@@ -53,6 +57,7 @@ impl Input {
         match self {
             Input::StructureInput => "structure",
             Input::TableInput => "table",
+            Input::PlanInput => "plan",
             Input::ProofInput => "proof",
         }
     }
@@ -67,6 +72,17 @@ impl From<CaveFault> for RunFault {
             CaveFault::Table(fault) => RunFault::Table(fault),
             CaveFault::Build(fault) => RunFault::Build(fault),
             CaveFault::OutOfMemory => RunFault::OutOfMemory,
+        }
+    }
+}
+
+impl From<TorchesFault> for RunFault {
+    ghost from_gives = { λ e r. r ≡ of_torches e };
+
+    fn from(fault: TorchesFault) -> RunFault {
+        match fault {
+            TorchesFault::OutOfMemory => RunFault::OutOfMemory,
+            fault => RunFault::Plan(fault),
         }
     }
 }

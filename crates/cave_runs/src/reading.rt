@@ -1,12 +1,12 @@
 //! Reading an input whole, within its limit of specs/Limits.antt.
 ghost use Rattle.std.specs.Prelude.{◌≡◌, ◌≤◌, ◌<◌, ◌⊎◌, length, IfOk, IfErr, IfSome};
-ghost use Rattle.cave_runs.specs.Limits.{table_limit};
-ghost use Rattle.cave_runs.specs.declared.fault.Input.TheVariants.{TableInput};
+ghost use Rattle.cave_runs.specs.Limits.{plan_limit, table_limit};
+ghost use Rattle.cave_runs.specs.declared.fault.Input.TheVariants.{PlanInput, TableInput};
 ghost use Rattle.cave_runs.specs.declared.fault.RunFault.{RunFault};
 ghost use Rattle.proof_check.specs.Reading.{GivesAtMost};
 
 use crate::fault::{Input, RunFault};
-use crate::limits::TABLE_LIMIT;
+use crate::limits::{PLAN_LIMIT, TABLE_LIMIT};
 use proof_check::{READ_CALLS, READ_SIZE};
 use std::alloc::Global;
 use std::io::Read;
@@ -46,6 +46,23 @@ pub fn read_all<R: Read>(
         }
     }
     Err(RunFault::ReadFailed)
+}
+
+/// Reads a plan's text to the end of the reader: it has at most 67,108,864 bytes.
+pub fn read_plan<R: Read>(alloc: Global, reader: &mut R) -> Result<Vec<u8>, RunFault>
+    // What is answered is just what the reader had.
+    ensures all { IfOk result (λ v. IfSome (R.remaining reader.old) (λ bytes. v.items ≡ bytes)) }
+    ensures within { IfOk result (λ v. length v.items ≤ plan_limit) }
+    // It is too long only above the limit.
+    ensures too_long { IfErr result (λ e. e ≡ RunFault.TooLong PlanInput
+        → IfSome (R.remaining reader.old) (λ bytes. plan_limit < length bytes)) }
+    ensures kinds { IfErr result (λ e. (e ≡ RunFault.ReadFailed) ⊎ (e ≡ RunFault.TooLong PlanInput)
+        ⊎ (e ≡ RunFault.OutOfMemory)) }
+    // A failed read comes before more than the limit was read.
+    ensures before { IfErr result (λ e. e ≡ RunFault.ReadFailed
+        → GivesAtMost plan_limit (R.remaining reader.old) (R.remaining reader.new)) }
+{
+    read_all(alloc, reader, PLAN_LIMIT, Input::PlanInput)
 }
 
 /// Reads a user's table to the end of the reader: it has at most 1,048,576 bytes.

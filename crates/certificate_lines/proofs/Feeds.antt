@@ -58,7 +58,7 @@ pub clean_append : (a b : List ℕ) → HasNoFeed a → HasNoFeed b → HasNoFee
 clean_append [] b n m = m
 clean_append (c ∷ a) b n m = (n.0, clean_append a b n.1 m)
 
-clean_digits : (ds : List ℕ) → AreDigits ds → HasNoFeed ds
+pub clean_digits : (ds : List ℕ) → AreDigits ds → HasNoFeed ds
 clean_digits [] d = tt
 clean_digits (c ∷ cs) d = ((λ e. (let f = d.0 in omega arith)), clean_digits cs d.2)
 
@@ -70,11 +70,11 @@ clean_numbers (n ∷ ns) a = (
       (clean_digits (decimal n) (digits_of n (All-head IsSmall n ns a))) (clean_numbers ns (All-tail IsSmall n ns a)),
 )
 
-abbrev is_clean : List ℕ → Bool
+abbrev pub is_clean : List ℕ → Bool
 is_clean [] = true
 is_clean (c ∷ cs) = not (nat_eq c 10) && is_clean cs
 
-clean_word : (word : List ℕ) → is_clean word ≡ true → HasNoFeed word
+pub clean_word : (word : List ℕ) → is_clean word ≡ true → HasNoFeed word
 clean_word [] e = tt
 clean_word (c ∷ cs) e =
     let r = and_both (not (nat_eq c 10)) (is_clean cs) e in (

@@ -9,7 +9,7 @@ use Rattle.certificate_lines.specs.Cuts.{AreClean}
 use Rattle.certificate_lines.proofs.Feeds.{clean_leads, one_cut}
 use Rattle.certificate_lines.specs.declared.stage.Stage.TheVariants as stage
 
-clean_front : (a b : List (List ℕ)) → AreClean (a ++ b) → AreClean a
+pub clean_front : (a b : List (List ℕ)) → AreClean (a ++ b) → AreClean a
 clean_front [] b h = tt
 clean_front (l ∷ a) b h = (h.0, clean_front a b h.1)
 
@@ -28,7 +28,8 @@ pub record GoesOn (a b : List (List ℕ)) (rest : List ℕ) : Type 0 where
   pub is : b ≡ a ++ next ∷ later
   pub text : rest ≡ next ++ 10 ∷ bytes
 
-compare : (a b : List (List ℕ)) (r s : List ℕ) → AreClean a → AreClean b → ended a ++ r ≡ ended b ++ s
+-- lines that the same bytes begin with are as many, or those of one go on after those of the other
+pub compare : (a b : List (List ℕ)) (r s : List ℕ) → AreClean a → AreClean b → ended a ++ r ≡ ended b ++ s
     → (length a ≡ length b) ⊎ (GoesOn a b r ⊎ GoesOn b a s)
 compare [] [] r s n m e = inl refl
 compare [] (l ∷ b) r s n m e =

@@ -16,8 +16,10 @@ mod shape;
 mod stage;
 mod step;
 
+pub use cut::cut_line;
 pub use kind::LineKind;
 pub use lines::{Lines, is_done};
+pub use numbers::number;
 pub use pieces::Pieces;
 pub use read::first_misfit;
 pub use stage::Stage;

@@ -25,8 +25,8 @@ fn digit(text: &[u8]) -> Option<(u64, &[u8])>
     Some((u64::from(*byte - b'0'), rest))
 }
 
-/// The number that a text begins with, and what comes after it.
-fn number(text: &[u8]) -> Option<(u32, &[u8])>
+/// The number that a text begins with, and what comes after it: at most 4,294,967,295, without leading zeros.
+pub fn number(text: &[u8]) -> Option<(u32, &[u8])>
     ensures { MatchOption result (BeginsWithNone text.now)
         (λ r. BeginsWith text.now r.0 r.1.now) }
 {

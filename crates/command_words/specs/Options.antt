@@ -11,6 +11,10 @@ use Rattle.clap.specs.declared.builder.value_parser.ValueParser.TheVariants.{Sig
 abbrev pub placed : Text → Rule
 placed name = record (new_rule name) { action = Some Set; required = true }
 
+-- one that may be left out
+abbrev pub optional : Text → Rule
+optional name = record (new_rule name) { action = Some Set }
+
 -- an option with a value
 abbrev pub valued : Text → Rule
 valued name = record (new_rule name) { long = Some name; action = Some Set; value_names = 1 }
@@ -52,6 +56,11 @@ plan = with_rule (with_rule (with_rule (with_rule (on_file (codes "plan")) (valu
 abbrev pub check : App
 check = ruled (with_rule (with_rule (new_app (codes "check")) (placed (codes "FILE"))) (placed (codes "PROOF")))
 
+-- the command `levels`, on a structure file and a plan, which may be left out
+abbrev pub levels : App
+levels = with_rule (ruled (with_rule (with_rule (new_app (codes "levels")) (placed (codes "FILE")))
+    (optional (codes "PLAN")))) (flag (codes "progress"))
+
 -- the program without its commands; it has a version, and one of the commands is asked for
 abbrev pub bare : App
 bare = record (new_app (codes "torchplan")) {
@@ -64,7 +73,8 @@ bare = record (new_app (codes "torchplan")) {
 
 -- the program
 abbrev pub torchplan : App
-torchplan = with_subcommand (with_subcommand (with_subcommand bare dark.top) plan.top) check.top
+torchplan = with_subcommand (with_subcommand (with_subcommand (with_subcommand bare dark.top) plan.top) check.top)
+    levels.top
 
 -- the command is built as that, and none of its arguments is global
 pub record IsCommand (app : App) (command : Command) : Type 0 where

@@ -9,7 +9,7 @@ use Rattle.cave_model.specs.RuleOf.{rule_of}
 use Rattle.command_words.specs.Options.{torchplan}
 use Rattle.command_words.specs.Versions.{IsNeedFor}
 use Rattle.command_words.specs.declared.request.Request.{Request}
-use Rattle.command_words.specs.declared.request.Request.TheVariants.{Dark, Plan, Check}
+use Rattle.command_words.specs.declared.request.Request.TheVariants.{Dark, Plan, Check, Levels}
 
 -- a number of so many bits in decimal digits, after a plus or without one; and which
 abbrev pub IsNumber : ℕ → Text → Type 0
@@ -67,6 +67,10 @@ IsAskedBy name rows (Plan file table opts proof progress) = (name ≡ codes "pla
 IsAskedBy name rows (Check file proof table rule) = (name ≡ codes "check")
     × (first_of (codes "FILE") rows ≡ Some file.now) × (first_of (codes "PROOF") rows ≡ Some proof.now)
     × (first_of (codes "table") rows ≡ option_copied table) × IsRuleOf rows (rule_of rule)
+IsAskedBy name rows (Levels file plan table rule progress) = (name ≡ codes "levels")
+    × (first_of (codes "FILE") rows ≡ Some file.now) × (first_of (codes "PLAN") rows ≡ option_copied plan)
+    × (first_of (codes "table") rows ≡ option_copied table) × IsRuleOf rows (rule_of rule)
+    × IsFlagOf (one_of (codes "progress") rows) progress
 
 -- the matches of the command of this name ask for nothing
 abbrev pub NoneIsAskedBy : Text → List Row → Type 0

@@ -19,6 +19,13 @@ fn placed<'a>(alloc: Global, name: &'a str, help: &'a str) -> Arg<'a>
         .help(help)
 }
 
+/// An argument that may be left out.
+fn optional<'a>(alloc: Global, name: &'a str, help: &'a str) -> Arg<'a>
+    ensures { IsArg (options.optional name.now) result }
+{
+    Arg::new(alloc, name).action(ArgAction::Set).help(help)
+}
+
 fn file<'a>(alloc: Global) -> Arg<'a>
     ensures { IsArg (options.placed (codes "FILE")) result }
 {
@@ -33,6 +40,16 @@ fn certificate<'a>(alloc: Global) -> Arg<'a>
     ensures { IsArg (options.placed (codes "PROOF")) result }
 {
     placed(alloc, "PROOF", "The proof that `plan --proof` wrote")
+}
+
+fn told_plan<'a>(alloc: Global) -> Arg<'a>
+    ensures { IsArg (options.optional (codes "PLAN")) result }
+{
+    optional(
+        alloc,
+        "PLAN",
+        "What `plan` printed: its torches count as well",
+    )
 }
 
 fn progress<'a>(alloc: Global) -> Arg<'a>
@@ -137,6 +154,21 @@ fn check_command<'a>(alloc: Global) -> Result<Command<'a>, AllocError>
     ruled(alloc, command)
 }
 
+fn levels_command<'a>(alloc: Global) -> Result<Command<'a>, AllocError>
+    ensures { IfOk result (IsCommand options.levels) }
+{
+    let command = Command::new(alloc, "levels")
+        .about(
+            "Print the block light of each cell, a hexadecimal digit each, a line for each row along x",
+        )
+        .after_help(
+            "Example: torchplan levels cave.nbt cave.plan\nIt prints `levels 29 3 3`, and nine lines of 29 digits.",
+        )
+        .arg(file(alloc))?
+        .arg(told_plan(alloc))?;
+    ruled(alloc, command)?.arg(progress(alloc))
+}
+
 /// The program's command.
 pub(crate) fn command<'a>(alloc: Global) -> Result<Command<'a>, AllocError>
     ensures { IfOk result (IsCommand options.torchplan) }
@@ -151,5 +183,6 @@ pub(crate) fn command<'a>(alloc: Global) -> Result<Command<'a>, AllocError>
         .arg_required_else_help(true)
         .subcommand(dark_command(alloc)?)?
         .subcommand(plan_command(alloc)?)?
-        .subcommand(check_command(alloc)?)
+        .subcommand(check_command(alloc)?)?
+        .subcommand(levels_command(alloc)?)
 }

@@ -44,6 +44,16 @@ pub enum Request<'a> {
         table: Option<&'a str>,
         rule: Rule,
     },
+    /// The levels of light, with the torches of the plan in the file `plan`, where one is named; it is never standard
+    /// input.
+    Levels {
+        file: &'a str,
+        plan: Option<&'a str>,
+        table: Option<&'a str>,
+        rule: Rule,
+        /// Whether standard error tells where the box cuts the cave.
+        progress: bool,
+    },
 }
 
 /// Headroom 1 where that is told, and else 2.
@@ -136,6 +146,18 @@ fn check_of<'a>(matches: &ArgMatches<'a>) -> Option<Request<'a>>
     })
 }
 
+fn levels_of<'a>(matches: &ArgMatches<'a>) -> Option<Request<'a>>
+    ensures { IsFoundBy (codes "levels") (rows_of (found_of matches.now)) result }
+{
+    Some(Request::Levels {
+        file: matches.get_str("FILE")?,
+        plan: matches.get_str("PLAN"),
+        table: matches.get_str("table"),
+        rule: rule_of(matches)?,
+        progress: matches.get_flag("progress"),
+    })
+}
+
 /// What the command that was entered asks for.
 fn asked<'a>(matches: &ArgMatches<'a>) -> Option<Request<'a>>
     ensures some { IfSome result (IsEntered (subcommand_rows_of matches.now)) }
@@ -149,6 +171,9 @@ fn asked<'a>(matches: &ArgMatches<'a>) -> Option<Request<'a>>
     }
     if let Some(check) = matches.subcommand_matches("check") {
         return check_of(check);
+    }
+    if let Some(levels) = matches.subcommand_matches("levels") {
+        return levels_of(levels);
     }
     None
 }

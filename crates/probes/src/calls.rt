@@ -11,10 +11,12 @@ use scan_core::{ScanFault, read_scan};
 use std::alloc::Global;
 use std::io::Read;
 use std::test::Fail;
-use torch_plan::{RunFault, Unobserved, read_table, run_dark};
+use torch_plan::{RunFault, Unobserved, read_plan, read_table, run_dark, run_levels};
 
 const TABLE: &[u8] =
     b"[[row]]\nname = \"cave:felt\"\nwhen = { wet = \"no\" }\nopacity = 15\nstand = true\n";
+
+const PLAN: &[u8] = b"torches 1\ndark 1\nT 0 1 0 floor\n";
 
 /// The root has its blocks.
 fn read_root_is_wrong(alloc: Global, pillar: &[u8]) -> bool {
@@ -127,10 +129,37 @@ fn run_dark_is_wrong(alloc: Global, pillar: &[u8]) -> bool {
         &Unobserved,
         &mut writer,
     );
-    let ShortWriter { taken, count } = writer;
     match ended {
-        Ok(()) => count != 13 || &taken != b"dark 1\n0 1 0\n\0\0\0",
-        Err(RunFault::OutOfMemory) => count != 0,
+        Ok(()) => writer.taken() != b"dark 1\n0 1 0\n",
+        Err(RunFault::OutOfMemory) => !writer.taken().is_empty(),
+        Err(_) => true,
+    }
+}
+
+fn read_plan_is_wrong(alloc: Global) -> bool {
+    let mut reader = PLAN;
+    match read_plan(alloc, &mut reader) {
+        Ok(bytes) => bytes.as_slice() != PLAN,
+        Err(fault) => !matches!(fault, RunFault::OutOfMemory),
+    }
+}
+
+/// The text is that of the pillar with a torch; where memory is refused nothing is written.
+fn run_levels_is_wrong(alloc: Global, pillar: &[u8]) -> bool {
+    let mut reader = pillar;
+    let mut writer = ShortWriter::new();
+    let ended = run_levels(
+        alloc,
+        &mut reader,
+        Some(TABLE),
+        Rule::new(2, 1),
+        Some(PLAN),
+        &Unobserved,
+        &mut writer,
+    );
+    match ended {
+        Ok(()) => writer.taken() != b"levels 1 3 1\n0\ne\nd\n",
+        Err(RunFault::OutOfMemory) => !writer.taken().is_empty(),
         Err(_) => true,
     }
 }
@@ -152,6 +181,8 @@ pub fn run(rt: &HostRuntime) -> Result<(), Fail> {
         ("Problem::new", problem_is_wrong(alloc, &pillar)),
         ("read_table", read_table_is_wrong(alloc)),
         ("run_dark", run_dark_is_wrong(alloc, &pillar)),
+        ("read_plan", read_plan_is_wrong(alloc)),
+        ("run_levels", run_levels_is_wrong(alloc, &pillar)),
     ];
     for (call, is_wrong) in wrong {
         if is_wrong {

@@ -5,6 +5,7 @@ mod entering;
 mod faults;
 mod gates;
 mod helped;
+mod level_streams;
 mod limits;
 mod plan_streams;
 mod planning;

@@ -1,7 +1,7 @@
 -- What is known of the files that a run may open. This is this project's own.
 use Rattle.std.specs.Prelude.{◌≡◌, ◌≢◌, ◌⊎◌, ℕ, Bool, true, false, List, Option, Some, None}
 use Rattle.std.specs.Prelude.{IsTrue, IsFalse, MatchResult, Result, bytes_eq, codes}
-use Rattle.cave_runs.specs.declared.fault.Input.TheVariants.{TableInput}
+use Rattle.cave_runs.specs.declared.fault.Input.TheVariants.{PlanInput, TableInput}
 use Rattle.cave_runs.specs.declared.fault.RunFault.{RunFault}
 use Rattle.cave_runs.specs.declared.fault.RunFault.TheVariants as faults
 
@@ -25,15 +25,20 @@ made_in sources (Some out) = sources.made out
 abbrev pub LacksStructure : Sources → List ℕ → Type 0
 LacksStructure sources file = IsFalse (bytes_eq file (codes "-")) × IsTrue (sources.missing file)
 
--- a table is named, and known to have no file
-abbrev pub LacksTable : Sources → Option (List ℕ) → Type 0
-LacksTable sources None = ⊥
-LacksTable sources (Some path) = IsTrue (sources.missing path)
+-- a file is named, and known to be missing
+abbrev pub LacksNamed : Sources → Option (List ℕ) → Type 0
+LacksNamed sources None = ⊥
+LacksNamed sources (Some path) = IsTrue (sources.missing path)
 
 -- reading failed, the table is too long, or memory ran out
 abbrev pub IsUnread : {X : Type 0} → Result X RunFault → Type 0
 IsUnread result = MatchResult result (λ _. ⊥) (λ fault. (fault ≡ faults.ReadFailed)
     ⊎ (fault ≡ faults.TooLong TableInput) ⊎ (fault ≡ faults.OutOfMemory))
+
+-- reading failed, the table or the plan is too long, or memory ran out
+abbrev pub AreUnread : {X : Type 0} → Result X RunFault → Type 0
+AreUnread result = MatchResult result (λ _. ⊥) (λ fault. (fault ≡ faults.ReadFailed)
+    ⊎ (fault ≡ faults.TooLong TableInput) ⊎ (fault ≡ faults.TooLong PlanInput) ⊎ (fault ≡ faults.OutOfMemory))
 
 -- for all that is known, it is so
 abbrev pub MayBe : Option Bool → Type 0

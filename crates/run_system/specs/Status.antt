@@ -6,7 +6,7 @@ use Rattle.cave_runs.specs.declared.plan.Outcome.{Outcome}
 use Rattle.cave_runs.specs.declared.plan.Outcome.TheVariants.{Done, Stopped}
 use Rattle.cave_runs.specs.declared.fault.RunFault.{RunFault}
 use Rattle.cave_runs.specs.declared.fault.RunFault.TheVariants.{ReadFailed, TooLong, WriteFailed, Scan, Table, Build}
-use Rattle.cave_runs.specs.declared.fault.RunFault.TheVariants.{Unlightable, NoThread, OutOfMemory}
+use Rattle.cave_runs.specs.declared.fault.RunFault.TheVariants.{Plan, Unlightable, NoThread, OutOfMemory}
 
 -- 1 for refused input, 3 where a cell can't be lit, 6 where reading or writing failed, 7 where memory or threads were
 -- refused
@@ -17,6 +17,7 @@ status WriteFailed = 6
 status (Scan fault) = 1
 status (Table fault) = 1
 status (Build fault) = 1
+status (Plan fault) = 1
 status (Unlightable x y z) = 3
 status NoThread = 7
 status OutOfMemory = 7

@@ -10,7 +10,11 @@ pub fn status_of(fault: &RunFault) -> u8
     ensures { result ≡ status fault.now }
 {
     match fault {
-        RunFault::TooLong(_) | RunFault::Scan(_) | RunFault::Table(_) | RunFault::Build(_) => 1,
+        RunFault::TooLong(_)
+        | RunFault::Scan(_)
+        | RunFault::Table(_)
+        | RunFault::Build(_)
+        | RunFault::Plan(_) => 1,
         RunFault::Unlightable { .. } => 3,
         RunFault::ReadFailed | RunFault::WriteFailed => 6,
         RunFault::NoThread | RunFault::OutOfMemory => 7,

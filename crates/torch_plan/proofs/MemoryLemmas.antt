@@ -5,16 +5,18 @@ use Rattle.std.specs.Prelude.{IfSome, IsFalse, IsTrue, bytes_eq, codes, option_c
 use Rattle.cave_model.specs.RuleOf.{rule_of}
 use Rattle.cave_runs.specs.CheckRuns.{WritesVerdict}
 use Rattle.cave_runs.specs.PlanRuns.{Plans}
+use Rattle.cave_runs.specs.LevelsRuns.{IsLevelsTextOf}
 use Rattle.cave_runs.specs.Runs.{WritesDark}
+use Rattle.cave_runs.specs.TextRuns.{WritesText}
 use Rattle.cave_runs.specs.declared.fault.RunFault.{RunFault}
 use Rattle.cave_runs.specs.declared.fault.RunFault.TheVariants as faults
 use Rattle.command_words.specs.declared.request.Request.{Request}
-use Rattle.command_words.specs.declared.request.Request.TheVariants.{Dark, Plan, Check}
-use Rattle.torch_plan.specs.Answers.{Answers, Does, structure_in, table_in}
+use Rattle.command_words.specs.declared.request.Request.TheVariants.{Dark, Plan, Check, Levels}
+use Rattle.torch_plan.specs.Answers.{Answers, Does, Known, named_in, structure_in}
 use Rattle.torch_plan.specs.Given.{given}
 use Rattle.torch_plan.specs.Memory.{AnswersInMemory, IsAnswered, Reads, Writes, are_none, bytes_at}
 use Rattle.torch_plan.specs.Memory.{sources_of}
-use Rattle.run_system.specs.Sources.{LacksStructure, LacksTable, Sources, made_in}
+use Rattle.run_system.specs.Sources.{LacksStructure, LacksNamed, Sources, made_in}
 use Rattle.run_system.specs.Status.{status}
 use Rattle.torch_plan.specs.declared.memory.NamedFile.{NamedFile}
 
@@ -26,6 +28,7 @@ unanswered faults.WriteFailed code is of = grind arith
 unanswered (faults.Scan fault) code is of = grind arith
 unanswered (faults.Table fault) code is of = grind arith
 unanswered (faults.Build fault) code is of = grind arith
+unanswered (faults.Plan fault) code is of = grind arith
 unanswered (faults.Unlightable x y z) code is of = grind arith
 unanswered faults.NoThread code is of = grind arith
 unanswered faults.OutOfMemory code is of = grind arith
@@ -48,15 +51,15 @@ structure_of false input found there = some_of found (λ none. there (refl, none
 
 -- a table that isn't missing
 table_of : (sources : Sources) (files : List NamedFile) (input : List ℕ) (table : Option (List ℕ))
-    → ¬ LacksTable (sources_of files input) table
-    → (rows : Option (List ℕ)) × (table_in (sources_of files input) table ≡ Some rows)
+    → ¬ LacksNamed (sources_of files input) table
+    → (rows : Option (List ℕ)) × (named_in (sources_of files input) table ≡ Some rows)
 table_of sources files input None there = (None, refl)
 table_of sources files input (Some path) there = let found = some_of (bytes_at files path) there in
     (Some found.0, ap (option_map Some) found.1)
 
 -- what is read, where nothing is missing
 pub reads : (files : List NamedFile) (input file : List ℕ) (table : Option (List ℕ))
-    → ¬ (LacksStructure (sources_of files input) file ⊎ LacksTable (sources_of files input) table)
+    → ¬ (LacksStructure (sources_of files input) file ⊎ LacksNamed (sources_of files input) table)
     → (bytes : List ℕ) × (rows : Option (List ℕ)) × Reads (sources_of files input) file table bytes rows
 reads files input file table there =
     let structure = structure_of (bytes_eq file (codes "-")) input (bytes_at files file) (λ lacks. there (inl lacks)) in
@@ -86,7 +89,7 @@ wrote files input output proof code (Dark file table rule progress) (Ok u, is, r
         is,
         also (structure_in known file.now) read.0
             (λ bytes. WritesDark bytes read.1 (rule_of rule) (Some []) (Some output)) read.2.structure
-            (resolved (table_in known (option_copied table)) read.1 (λ rows. IfSome (structure_in known file.now)
+            (resolved (named_in known (option_copied table)) read.1 (λ rows. IfSome (structure_in known file.now)
             (λ bytes. WritesDark bytes rows (rule_of rule) (Some []) (Some output))) read.2.user run.done),
       ),
     )
@@ -106,7 +109,7 @@ wrote files input output proof code (Plan file table opts out progress) (inr (ap
         is,
         also (structure_in known file.now) read.0
             (λ bytes. Plans bytes read.1 (rule_of opts.rule) allowance outcome (Some []) (Some output) made proof)
-            read.2.structure (resolved (table_in known (option_copied table)) read.1
+            read.2.structure (resolved (named_in known (option_copied table)) read.1
             (λ rows. IfSome (structure_in known file.now) (λ bytes. Plans bytes rows (rule_of opts.rule) allowance
             outcome (Some []) (Some output) made proof)) read.2.user run.done),
       ),
@@ -129,12 +132,36 @@ wrote files input output proof code (Check file certificate table rule) (Ok verd
         subst (λ (t : Option (List ℕ)). WritesVerdict (Some read.0) read.1 (rule_of rule) t (Some []) (Some output)
             verdict) text.1 (subst (λ (s : Option (List ℕ)). WritesVerdict s read.1 (rule_of rule)
             (bytes_at files certificate.now) (Some []) (Some output) verdict) read.2.structure
-            (resolved (table_in known (option_copied table)) read.1
+            (resolved (named_in known (option_copied table)) read.1
             (λ rows. WritesVerdict (structure_in known file.now) rows (rule_of rule) (bytes_at files certificate.now)
             (Some []) (Some output) verdict) read.2.user run.done)),
       ),
     )
 wrote files input output proof code (Check file certificate table rule) (Err fault, is, run) of =
+    absurd (unanswered fault code is of)
+wrote files input output proof code (Levels file plan table rule progress) (Ok u, is, run) of =
+    let known = sources_of files input in
+    let read = reads files input file.now (option_copied table)
+    (λ lacks. run.lacking (elim lacks [ inl a ↦ inl a | inr b ↦ inr (inl b) ])) in
+    let text = table_of known files input (option_copied plan) (λ lacks. run.lacking (inr (inr lacks))) in (
+      read.0,
+      read.1,
+      (
+        read.2,
+        text.0,
+        text.1,
+        is,
+        also (structure_in known file.now) read.0
+            (λ bytes. WritesText (IsLevelsTextOf bytes read.1 (rule_of rule) text.0) (Some []) (Some output))
+            read.2.structure (resolved (named_in known (option_copied table)) read.1
+            (λ rows. IfSome (structure_in known file.now) (λ bytes.
+            WritesText (IsLevelsTextOf bytes rows (rule_of rule) text.0) (Some []) (Some output))) read.2.user
+            (resolved (named_in known (option_copied plan)) text.0 (λ t. Known known file.now (option_copied table)
+            (λ bytes rows. WritesText (IsLevelsTextOf bytes rows (rule_of rule) t) (Some []) (Some output)))
+            text.1 run.done)),
+      ),
+    )
+wrote files input output proof code (Levels file plan table rule progress) (Err fault, is, run) of =
     absurd (unanswered fault code is of)
 
 -- what words wrote that have an answer

@@ -5,14 +5,16 @@ use Rattle.std.specs.Io.KnownBytes.{Keeps}
 use Rattle.std.specs.Prelude.{IfErr, IfOk, IfSome, IsFalse, OnOk, bytes_eq, codes, if◌then◌else◌}
 use Rattle.cave_model.specs.Rule.{Rule}
 use Rattle.cave_runs.specs.PlanRuns.{BeginsPlan, IsNoPlanOfInput, Plans}
-use Rattle.cave_runs.specs.Runs.{BeginsDark, IsFaultOfInput, IsOfInput, WritesDark}
+use Rattle.cave_runs.specs.Runs.{BeginsDark, IsFaultOfInput, WritesDark}
+use Rattle.cave_runs.specs.LevelsRuns.{IsFaultOfLevels, IsLevelsTextOf}
+use Rattle.cave_runs.specs.TextRuns.{BeginsText, IsOfBytes, IsOfInput, WritesText}
 use Rattle.cave_runs.specs.declared.fault.RunFault.{RunFault}
 use Rattle.cave_runs.specs.declared.fault.RunFault.TheVariants as faults
 use Rattle.cave_runs.specs.declared.plan.Outcome.{Outcome}
 use Rattle.search_traits.specs.declared.planner.Allowance.{Allowance}
-use Rattle.torch_plan.specs.Answers.{AnswersDark, AnswersPlan, LeavesMade, LeavesOutput, structure_in}
-use Rattle.torch_plan.specs.Answers.{table_in}
-use Rattle.run_system.specs.Sources.{Sources, LacksStructure, LacksTable, made_in}
+use Rattle.torch_plan.specs.Answers.{AnswersDark, AnswersLevels, AnswersPlan, Known, LeavesMade, LeavesOutput}
+use Rattle.torch_plan.specs.Answers.{named_in, structure_in}
+use Rattle.run_system.specs.Sources.{Sources, LacksStructure, LacksNamed, made_in}
 
 -- standard input, where that is named
 pub standard_in : (sources : Sources) (file : List ℕ) → bytes_eq file (codes "-") ≡ true
@@ -39,17 +41,25 @@ known structure remaining (Some r) read what same told h =
     subst (λ (x : Option (List ℕ)). IfSome structure (λ bytes. what bytes x)) told
     (subst (λ (s : Option (List ℕ)). IfSome s (λ bytes. what bytes read)) same h)
 
+-- nothing is missing
+none_lacks : (sources : Sources) (file : List ℕ) (plan table : Option (List ℕ))
+    → ¬ (LacksStructure sources file ⊎ LacksNamed sources table) → ¬ LacksNamed sources plan
+    → ¬ (LacksStructure sources file ⊎ LacksNamed sources table ⊎ LacksNamed sources plan)
+none_lacks sources file plan table there also (inl lacks) = there (inl lacks)
+none_lacks sources file plan table there also (inr (inl lacks)) = there (inr lacks)
+none_lacks sources file plan table there also (inr (inr lacks)) = also lacks
+
 -- a run of dark cells over what is known
 pub dark_answered : (sources : Sources) (file : List ℕ) (table : Option (List ℕ)) (rule : Rule)
     (old new remaining read : Option (List ℕ)) (result : Result (Unit {0}) RunFault)
-    → remaining ≡ structure_in sources file → IfSome (table_in sources table) (λ r. read ≡ r)
+    → remaining ≡ structure_in sources file → IfSome (named_in sources table) (λ r. read ≡ r)
     → OnOk result (IfSome remaining (λ bytes. WritesDark bytes read rule old new)) → LeavesOutput result old new
     → IfErr result (λ e. e ≡ faults.WriteFailed → IfSome remaining (λ bytes. BeginsDark bytes read rule old new))
     → IfErr result (λ e. IsOfInput e → IfSome remaining (λ bytes. IsFaultOfInput bytes read e))
-    → ¬ (LacksStructure sources file ⊎ LacksTable sources table)
+    → ¬ (LacksStructure sources file ⊎ LacksNamed sources table)
     → AnswersDark sources file table rule old new result
 dark_answered sources file table rule old new remaining read (Ok u) same told done left begun fault there = record {
-  done = known (structure_in sources file) remaining (table_in sources table) read
+  done = known (structure_in sources file) remaining (named_in sources table) read
       (λ bytes rows. WritesDark bytes rows rule old new) same told done;
   left = left;
   begun = tt;
@@ -59,9 +69,9 @@ dark_answered sources file table rule old new remaining read (Ok u) same told do
 dark_answered sources file table rule old new remaining read (Err e) same told done left begun fault there = record {
   done = tt;
   left = left;
-  begun = λ failed. known (structure_in sources file) remaining (table_in sources table) read
+  begun = λ failed. known (structure_in sources file) remaining (named_in sources table) read
       (λ bytes rows. BeginsDark bytes rows rule old new) same told (begun failed);
-  fault = λ of. inr (known (structure_in sources file) remaining (table_in sources table) read
+  fault = λ of. inr (known (structure_in sources file) remaining (named_in sources table) read
       (λ bytes rows. IsFaultOfInput bytes rows e) same told (fault of));
   lacking = λ lacks. absurd (there lacks);
 }
@@ -69,7 +79,7 @@ dark_answered sources file table rule old new remaining read (Err e) same told d
 -- a run of a plan over what is known
 pub plan_answered : (sources : Sources) (file : List ℕ) (table out : Option (List ℕ)) (rule : Rule)
     (allowance : Allowance) (old new kept remaining read : Option (List ℕ)) (result : Result Outcome RunFault)
-    → remaining ≡ structure_in sources file → IfSome (table_in sources table) (λ r. read ≡ r)
+    → remaining ≡ structure_in sources file → IfSome (named_in sources table) (λ r. read ≡ r)
     → IfOk result (λ outcome. IfSome remaining (λ bytes.
     Plans bytes read rule allowance outcome old new (made_in sources out) kept))
     → LeavesOutput result old new
@@ -78,11 +88,11 @@ pub plan_answered : (sources : Sources) (file : List ℕ) (table out : Option (L
     → IfErr result (λ e. IsOfInput e → e ≢ faults.NoThread
     → IfSome remaining (λ bytes. IsNoPlanOfInput bytes read rule e))
     → IfErr result (λ e. e ≡ faults.NoThread → 1 < allowance.workers) → LeavesMade result (made_in sources out) kept
-    → ¬ (LacksStructure sources file ⊎ LacksTable sources table)
+    → ¬ (LacksStructure sources file ⊎ LacksNamed sources table)
     → AnswersPlan sources file table out rule allowance old new kept result
 plan_answered sources file table out rule allowance old new kept remaining read (Ok outcome) same told done left begun
     fault threads untouched there = record {
-      done = known (structure_in sources file) remaining (table_in sources table) read
+      done = known (structure_in sources file) remaining (named_in sources table) read
           (λ bytes rows. Plans bytes rows rule allowance outcome old new (made_in sources out) kept) same told done;
       left = left;
       begun = tt;
@@ -97,25 +107,70 @@ plan_answered sources file table out rule allowance old new kept remaining read 
       left = left;
       begun = λ failed. (elim (begun failed) [
         | inl keeps ↦ inl keeps
-        | inr some ↦ inr (known (structure_in sources file) remaining (table_in sources table) read
+        | inr some ↦ inr (known (structure_in sources file) remaining (named_in sources table) read
             (λ bytes rows. BeginsPlan bytes rows rule allowance old new (made_in sources out) kept) same told some)
       ]);
-      fault = λ of more. inr (known (structure_in sources file) remaining (table_in sources table) read
+      fault = λ of more. inr (known (structure_in sources file) remaining (named_in sources table) read
           (λ bytes rows. IsNoPlanOfInput bytes rows rule e) same told (fault of more));
       threads = threads;
       untouched = untouched;
       lacking = λ lacks. absurd (there lacks);
     }
 
+-- what holds of the plan that was read holds of what is known
+with_plan : (rows : Option (Option (List ℕ))) (read : Option (List ℕ)) (what : Option (List ℕ) → Type 0)
+    → IfSome rows (λ r. read ≡ r) → what read → IfSome rows what
+with_plan None read what told h = tt
+with_plan (Some r) read what told h = subst what told h
+
+-- a run of levels over what is known
+pub levels_answered : (sources : Sources) (file : List ℕ) (plan table : Option (List ℕ)) (rule : Rule)
+    (old new remaining read text : Option (List ℕ)) (result : Result (Unit {0}) RunFault)
+    → remaining ≡ structure_in sources file → IfSome (named_in sources table) (λ r. read ≡ r)
+    → IfSome (named_in sources plan) (λ r. text ≡ r)
+    → OnOk result (IfSome remaining (λ bytes. WritesText (IsLevelsTextOf bytes read rule text) old new))
+    → LeavesOutput result old new
+    → IfErr result (λ e. e ≡ faults.WriteFailed
+    → IfSome remaining (λ bytes. BeginsText (IsLevelsTextOf bytes read rule text) old new))
+    → IfErr result (λ e. IsOfInput e
+    → IfSome remaining (λ bytes. IsOfBytes (λ b f. IsFaultOfLevels b read rule text f) bytes e))
+    → ¬ (LacksStructure sources file ⊎ LacksNamed sources table) → ¬ LacksNamed sources plan
+    → AnswersLevels sources file plan table rule old new result
+levels_answered sources file plan table rule old new remaining read text (Ok u) same told said done left begun fault
+    there also = record {
+      done = with_plan (named_in sources plan) text (λ t. Known sources file table (λ bytes rows.
+          WritesText (IsLevelsTextOf bytes rows rule t) old new)) said
+          (known (structure_in sources file) remaining (named_in sources table) read
+          (λ bytes rows. WritesText (IsLevelsTextOf bytes rows rule text) old new) same told done);
+      left = left;
+      begun = tt;
+      fault = tt;
+      lacking = λ lacks. absurd (none_lacks sources file plan table there also lacks);
+    }
+levels_answered sources file plan table rule old new remaining read text (Err e) same told said done left begun fault
+    there also = record {
+      done = tt;
+      left = left;
+      begun = λ failed. with_plan (named_in sources plan) text (λ t. Known sources file table (λ bytes rows.
+          BeginsText (IsLevelsTextOf bytes rows rule t) old new)) said
+          (known (structure_in sources file) remaining (named_in sources table) read
+          (λ bytes rows. BeginsText (IsLevelsTextOf bytes rows rule text) old new) same told (begun failed));
+      fault = λ of. inr (inr (with_plan (named_in sources plan) text (λ t. Known sources file table (λ bytes rows.
+          IsOfBytes (λ b f. IsFaultOfLevels b rows rule t f) bytes e)) said
+          (known (structure_in sources file) remaining (named_in sources table) read
+          (λ bytes rows. IsOfBytes (λ b f. IsFaultOfLevels b rows rule text f) bytes e) same told (fault of))));
+      lacking = λ lacks. absurd (none_lacks sources file plan table there also lacks);
+    }
+
 -- standard input isn't missing
 pub there_at_standard : (sources : Sources) (file : List ℕ) (table : Option (List ℕ))
-    → bytes_eq file (codes "-") ≡ true → ¬ LacksTable sources table
-    → ¬ (LacksStructure sources file ⊎ LacksTable sources table)
+    → bytes_eq file (codes "-") ≡ true → ¬ LacksNamed sources table
+    → ¬ (LacksStructure sources file ⊎ LacksNamed sources table)
 there_at_standard sources file table is has (inl lacks) = absurd (true≢false (sym is ∙ lacks.0))
 there_at_standard sources file table is has (inr lacks) = has lacks
 
 -- nor is a file that was opened
 pub there_at_file : (sources : Sources) (file : List ℕ) (table : Option (List ℕ)) → IsFalse (sources.missing file)
-    → ¬ LacksTable sources table → ¬ (LacksStructure sources file ⊎ LacksTable sources table)
+    → ¬ LacksNamed sources table → ¬ (LacksStructure sources file ⊎ LacksNamed sources table)
 there_at_file sources file table is has (inl lacks) = absurd (true≢false (sym lacks.1 ∙ is))
 there_at_file sources file table is has (inr lacks) = has lacks

@@ -7,7 +7,7 @@ use Rattle.cave_runs.specs.declared.plan.Outcome.{Outcome}
 use Rattle.cave_runs.specs.declared.plan.Outcome.TheVariants.{Done, Stopped}
 use Rattle.proof_check.specs.declared.verdict.Verdict.{Verdict}
 use Rattle.proof_check.specs.declared.verdict.Verdict.TheVariants.{Accepted, Rejected}
-use Rattle.torch_plan.specs.Answers.{LeavesOutput, check_status, dark_status, plan_status}
+use Rattle.torch_plan.specs.Answers.{LeavesOutput, check_status, text_status, plan_status}
 use Rattle.run_system.specs.Status.{IsRefused, status}
 
 -- other statuses aren't such
@@ -35,10 +35,10 @@ left_by : (old new : Option (List ℕ)) (fault : RunFault) → (fault ≢ faults
 left_by old new fault left refused =
     left (λ same. refused_6 (subst (λ (f : RunFault). IsRefused (status f)) same refused))
 
-pub dark_silent : (old new : Option (List ℕ)) (ended : Result (Unit {0}) RunFault) → LeavesOutput ended old new
-    → IsRefused (dark_status ended) → Keeps old new
-dark_silent old new (Ok done) left refused = absurd (refused_0 refused)
-dark_silent old new (Err fault) left refused = left_by old new fault left refused
+pub text_silent : (old new : Option (List ℕ)) (ended : Result (Unit {0}) RunFault) → LeavesOutput ended old new
+    → IsRefused (text_status ended) → Keeps old new
+text_silent old new (Ok done) left refused = absurd (refused_0 refused)
+text_silent old new (Err fault) left refused = left_by old new fault left refused
 
 pub plan_silent : (old new : Option (List ℕ)) (ended : Result Outcome RunFault) → LeavesOutput ended old new
     → IsRefused (plan_status ended) → Keeps old new

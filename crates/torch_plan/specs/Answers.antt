@@ -6,46 +6,52 @@ use Rattle.cave_model.specs.Rule.{Rule}
 use Rattle.cave_model.specs.RuleOf.{rule_of}
 use Rattle.proof_check.specs.declared.verdict.Verdict.{Verdict}
 use Rattle.cave_runs.specs.CheckRuns.{IsNoVerdict, LeavesLine, WritesVerdict}
-use Rattle.cave_runs.specs.Limits.{table_limit}
+use Rattle.cave_runs.specs.Limits.{plan_limit, table_limit}
 use Rattle.cave_runs.specs.PlanRuns.{BeginsPlan, IsNoPlanOfInput, Plans}
-use Rattle.cave_runs.specs.Runs.{BeginsDark, IsFaultOfInput, IsOfInput, WritesDark}
-use Rattle.cave_runs.specs.declared.fault.Input.TheVariants.{TableInput}
+use Rattle.cave_runs.specs.Runs.{BeginsDark, IsFaultOfInput, WritesDark}
+use Rattle.cave_runs.specs.LevelsRuns.{IsFaultOfLevels, IsLevelsTextOf}
+use Rattle.cave_runs.specs.TextRuns.{BeginsText, IsOfBytes, IsOfInput, WritesText}
+use Rattle.cave_runs.specs.declared.fault.Input.TheVariants.{PlanInput, TableInput}
 use Rattle.cave_runs.specs.declared.fault.RunFault.{RunFault}
 use Rattle.cave_runs.specs.declared.fault.RunFault.TheVariants as faults
 use Rattle.cave_runs.specs.declared.plan.Outcome.{Outcome}
 use Rattle.command_words.specs.Requests.{IsAsked}
 use Rattle.search_traits.specs.declared.planner.Allowance.{Allowance}
 use Rattle.torch_plan.specs.Given.{given}
-use Rattle.run_system.specs.Sources.{IsUnread, LacksStructure, LacksTable, MayOverwrite, MayStandApart, Sources}
-use Rattle.run_system.specs.Sources.{made_in}
+use Rattle.run_system.specs.Sources.{AreUnread, IsUnread, LacksNamed, LacksStructure, MayOverwrite, MayStandApart}
+use Rattle.run_system.specs.Sources.{Sources, made_in}
 use Rattle.run_system.specs.Status.{end_status, judged, status}
 use Rattle.command_words.specs.Mistakes.{AreWellFormed}
 use Rattle.torch_plan.specs.Usage.{IsExplained}
 use Rattle.command_words.specs.declared.request.Request.{Request}
-use Rattle.command_words.specs.declared.request.Request.TheVariants.{Dark, Plan, Check}
+use Rattle.command_words.specs.declared.request.Request.TheVariants.{Dark, Plan, Check, Levels}
 
 -- what is known of a structure: `-` is standard input
 abbrev pub structure_in : Sources → List ℕ → Option (List ℕ)
 structure_in sources file = if bytes_eq file (codes "-") then sources.input else sources.files file
 
--- what is known of the user's table, where one is named
-abbrev pub table_in : Sources → Option (List ℕ) → Option (Option (List ℕ))
-table_in sources None = Some None
-table_in sources (Some path) = option_map Some (sources.files path)
+-- what is known of the user's table or a plan's text, where one is named
+abbrev pub named_in : Sources → Option (List ℕ) → Option (Option (List ℕ))
+named_in sources None = Some None
+named_in sources (Some path) = option_map Some (sources.files path)
 
 -- this holds of the structure and the table, where both are known
 abbrev pub Known : Sources → List ℕ → Option (List ℕ) → (List ℕ → Option (List ℕ) → Type 0) → Type 0
 Known sources file table what =
-    IfSome (table_in sources table) (λ rows. IfSome (structure_in sources file) (λ bytes. what bytes rows))
+    IfSome (named_in sources table) (λ rows. IfSome (structure_in sources file) (λ bytes. what bytes rows))
 
--- a table is named, and as far as its bytes are known they are too many
-abbrev pub IsLong : Sources → Option (List ℕ) → Type 0
-IsLong sources None = ⊥
-IsLong sources (Some path) = IfSome (sources.files path) (λ rows. table_limit < length rows)
+-- a file is named, and as far as its bytes are known they are more than that
+abbrev pub IsLong : ℕ → Sources → Option (List ℕ) → Type 0
+IsLong limit sources None = ⊥
+IsLong limit sources (Some path) = IfSome (sources.files path) (λ bytes. limit < length bytes)
 
--- the fault is that of such a table
+-- the fault is that of too long a table
 abbrev pub IsOfTable : Sources → Option (List ℕ) → RunFault → Type 0
-IsOfTable sources table fault = (fault ≡ faults.TooLong TableInput) × IsLong sources table
+IsOfTable sources table fault = (fault ≡ faults.TooLong TableInput) × IsLong table_limit sources table
+
+-- the fault is that of too long a plan
+abbrev pub IsOfPlan : Sources → Option (List ℕ) → RunFault → Type 0
+IsOfPlan sources plan fault = (fault ≡ faults.TooLong PlanInput) × IsLong plan_limit sources plan
 
 -- a fault but of writing leaves the output as it was
 abbrev pub LeavesOutput : {X : Type 0} → Result X RunFault → Option (List ℕ) → Option (List ℕ) → Type 0
@@ -58,10 +64,10 @@ LeavesMade result made kept = IfErr result (λ fault. fault ≢ faults.WriteFail
 
 -- ---- dark cells
 
--- 0, or that of the fault
-abbrev pub dark_status : Result (Unit {0}) RunFault → ℕ
-dark_status (Ok done) = 0
-dark_status (Err fault) = status fault
+-- that of a text alone: 0, or that of the fault
+abbrev pub text_status : Result (Unit {0}) RunFault → ℕ
+text_status (Ok done) = 0
+text_status (Err fault) = status fault
 
 -- the dark cells were written, or the fault is that of a long table or the structure's
 pub record AnswersDark (sources : Sources) (file : List ℕ) (table : Option (List ℕ)) (rule : Rule)
@@ -72,7 +78,28 @@ pub record AnswersDark (sources : Sources) (file : List ℕ) (table : Option (Li
       BeginsDark bytes rows rule old new))
   pub fault : IfErr result (λ fault. IsOfInput fault → IsOfTable sources table fault
       ⊎ Known sources file table (λ bytes rows. IsFaultOfInput bytes rows fault))
-  pub lacking : LacksStructure sources file ⊎ LacksTable sources table → IsUnread result
+  pub lacking : LacksStructure sources file ⊎ LacksNamed sources table → IsUnread result
+
+-- ---- levels
+
+-- this holds of the structure, the table and the plan, where all are known
+abbrev pub AllKnown : Sources → List ℕ → Option (List ℕ) → Option (List ℕ)
+    → (List ℕ → Option (List ℕ) → Option (List ℕ) → Type 0) → Type 0
+AllKnown sources file plan table what =
+    IfSome (named_in sources plan) (λ text. Known sources file table (λ bytes rows. what bytes rows text))
+
+-- the levels were written, or the fault is that of a long table, a long plan, the structure's or the plan's
+pub record AnswersLevels (sources : Sources) (file : List ℕ) (plan table : Option (List ℕ)) (rule : Rule)
+    (old new : Option (List ℕ)) (result : Result (Unit {0}) RunFault) : Type 0 where
+  pub done : OnOk result (AllKnown sources file plan table (λ bytes rows text.
+      WritesText (IsLevelsTextOf bytes rows rule text) old new))
+  pub left : LeavesOutput result old new
+  pub begun : IfErr result (λ fault. fault ≡ faults.WriteFailed → AllKnown sources file plan table
+      (λ bytes rows text. BeginsText (IsLevelsTextOf bytes rows rule text) old new))
+  pub fault : IfErr result (λ fault. IsOfInput fault → IsOfTable sources table fault ⊎ IsOfPlan sources plan fault
+      ⊎ AllKnown sources file plan table (λ bytes rows text.
+      IsOfBytes (λ b e. IsFaultOfLevels b rows rule text e) bytes fault))
+  pub lacking : LacksStructure sources file ⊎ LacksNamed sources table ⊎ LacksNamed sources plan → AreUnread result
 
 -- ---- plans
 
@@ -94,7 +121,7 @@ pub record AnswersPlan (sources : Sources) (file : List ℕ) (table out : Option
       ⊎ Known sources file table (λ bytes rows. IsNoPlanOfInput bytes rows rule fault))
   pub threads : IfErr result (λ fault. fault ≡ faults.NoThread → 1 < allowance.workers)
   pub untouched : LeavesMade result (made_in sources out) kept
-  pub lacking : LacksStructure sources file ⊎ LacksTable sources table → IsUnread result
+  pub lacking : LacksStructure sources file ⊎ LacksNamed sources table → IsUnread result
 
 -- ---- verdicts
 
@@ -106,15 +133,15 @@ check_status (Err fault) = status fault
 -- the verdict was written, or the fault is that of a long table, of the structure or of the certificate's length
 pub record AnswersCheck (sources : Sources) (file proof : List ℕ) (table : Option (List ℕ)) (rule : Rule)
     (old new : Option (List ℕ)) (result : Result Verdict RunFault) : Type 0 where
-  pub done : IfOk result (λ verdict. IfSome (table_in sources table) (λ rows.
+  pub done : IfOk result (λ verdict. IfSome (named_in sources table) (λ rows.
       WritesVerdict (structure_in sources file) rows rule (sources.files proof) old new verdict))
   pub left : LeavesOutput result old new
-  pub begun : IfErr result (λ fault. fault ≡ faults.WriteFailed → IfSome (table_in sources table) (λ rows.
+  pub begun : IfErr result (λ fault. fault ≡ faults.WriteFailed → IfSome (named_in sources table) (λ rows.
       LeavesLine fault (structure_in sources file) rows rule (sources.files proof) old new))
   pub fault : IfErr result (λ fault. IsOfInput fault → IsOfTable sources table fault
-      ⊎ IfSome (table_in sources table) (λ rows.
+      ⊎ IfSome (named_in sources table) (λ rows.
       IsNoVerdict (structure_in sources file) rows (sources.files proof) fault))
-  pub lacking : LacksStructure sources file ⊎ LacksTable sources table ⊎ IsTrue (sources.missing proof)
+  pub lacking : LacksStructure sources file ⊎ LacksNamed sources table ⊎ IsTrue (sources.missing proof)
       → IsUnread result
 
 -- ---- requests
@@ -122,7 +149,7 @@ pub record AnswersCheck (sources : Sources) (file proof : List ℕ) (table : Opt
 -- a run of dark cells that ends with this status
 abbrev pub RunsDark : Sources → List ℕ → Option (List ℕ) → Rule → Option (List ℕ) → Option (List ℕ) → ℕ → Type 0
 RunsDark sources file table rule old new code = (result : Result (Unit {0}) RunFault)
-    × (code ≡ dark_status result) × AnswersDark sources file table rule old new result
+    × (code ≡ text_status result) × AnswersDark sources file table rule old new result
 
 -- a run of a plan that ends with this status
 abbrev pub RunsPlan : Sources → List ℕ → Option (List ℕ) → Option (List ℕ) → Rule → Allowance → Option (List ℕ)
@@ -136,6 +163,12 @@ abbrev pub RunsCheck : Sources → List ℕ → List ℕ → Option (List ℕ) �
 RunsCheck sources file proof table rule old new code = (result : Result Verdict RunFault)
     × (code ≡ check_status result) × AnswersCheck sources file proof table rule old new result
 
+-- a run of levels that ends with this status
+abbrev pub RunsLevels : Sources → List ℕ → Option (List ℕ) → Option (List ℕ) → Rule → Option (List ℕ)
+    → Option (List ℕ) → ℕ → Type 0
+RunsLevels sources file plan table rule old new code = (result : Result (Unit {0}) RunFault)
+    × (code ≡ text_status result) × AnswersLevels sources file plan table rule old new result
+
 -- what was asked for was done: the run of these files, by this table and rule, ended with this status, and left `kept`
 -- in the file for the proof; or that file may be one that is read, or the output, and nothing was done
 abbrev pub Does : Sources → Request → Option (List ℕ) → Option (List ℕ) → Option (List ℕ) → ℕ → Type 0
@@ -148,6 +181,8 @@ Does sources (Plan file table opts proof progress) old new kept code =
     (given opts.workers.number opts.turns) old new kept code)
 Does sources (Check file proof table rule) old new kept code =
     RunsCheck sources file.now proof.now (option_copied table) (rule_of rule) old new code
+Does sources (Levels file plan table rule progress) old new kept code =
+    RunsLevels sources file.now (option_copied plan) (option_copied table) (rule_of rule) old new code
 
 -- the words are well formed, and what they ask for was done; or nothing was, and they were explained
 abbrev pub Answers : Sources → List (List ℕ) → Option (List ℕ) → Option (List ℕ) → Option (List ℕ) → ℕ → Type 0

@@ -4,14 +4,16 @@ use Rattle.std.specs.Prelude.{bytes_eq, option_copied, if◌then◌else◌}
 use Rattle.cave_model.specs.RuleOf.{rule_of}
 use Rattle.cave_runs.specs.CheckRuns.{WritesVerdict}
 use Rattle.cave_runs.specs.PlanRuns.{Plans}
+use Rattle.cave_runs.specs.LevelsRuns.{IsLevelsTextOf}
 use Rattle.cave_runs.specs.Runs.{WritesDark}
+use Rattle.cave_runs.specs.TextRuns.{WritesText}
 use Rattle.cave_runs.specs.declared.plan.Outcome.{Outcome}
 use Rattle.command_words.specs.Mistakes.{AreWellFormed}
 use Rattle.command_words.specs.Requests.{IsAsked}
 use Rattle.command_words.specs.declared.request.Request.{Request}
-use Rattle.command_words.specs.declared.request.Request.TheVariants.{Dark, Plan, Check}
+use Rattle.command_words.specs.declared.request.Request.TheVariants.{Dark, Plan, Check, Levels}
 use Rattle.proof_check.specs.declared.verdict.Verdict.{Verdict}
-use Rattle.torch_plan.specs.Answers.{Answers, structure_in, table_in}
+use Rattle.torch_plan.specs.Answers.{Answers, structure_in, named_in}
 use Rattle.torch_plan.specs.Given.{given}
 use Rattle.run_system.specs.Sources.{Sources, made_in}
 use Rattle.run_system.specs.Status.{end_status, judged}
@@ -44,10 +46,10 @@ sources_of files input = record {
 pub record Reads (sources : Sources) (file : List ℕ) (table : Option (List ℕ)) (bytes : List ℕ)
     (rows : Option (List ℕ)) : Type 0 where
   pub structure : structure_in sources file ≡ Some bytes
-  pub user : table_in sources table ≡ Some rows
+  pub user : named_in sources table ≡ Some rows
 
 -- what a run of the request writes that ends with this status, of the bytes that it reads: the text of the dark cells;
--- that of the plan, and of its certificate; or the line of the verdict
+-- that of the plan, and of its certificate; the line of the verdict; or the text of the levels
 abbrev pub Writes : Sources → Request → ℕ → List ℕ → Option (List ℕ) → List ℕ → Option (List ℕ) → Type 0
 Writes sources (Dark file table rule progress) code output proof bytes rows =
     Reads sources file.now (option_copied table) bytes rows × (code ≡ 0)
@@ -60,6 +62,10 @@ Writes sources (Check file certificate table rule) code output proof bytes rows 
     Reads sources file.now (option_copied table) bytes rows × (text : List ℕ)
     × (sources.files certificate.now ≡ Some text) × (verdict : Verdict) × (code ≡ judged verdict)
     × WritesVerdict (Some bytes) rows (rule_of rule) (Some text) (Some []) (Some output) verdict
+Writes sources (Levels file plan table rule progress) code output proof bytes rows =
+    Reads sources file.now (option_copied table) bytes rows × (text : Option (List ℕ))
+    × (named_in sources (option_copied plan) ≡ Some text) × (code ≡ 0)
+    × WritesText (IsLevelsTextOf bytes rows (rule_of rule) text) (Some []) (Some output)
 
 -- a status with an answer: done, rejected, or stopped
 abbrev pub IsAnswered : ℕ → Type 0

@@ -4,11 +4,12 @@ ghost use Rattle.std.specs.Prelude.{◌≡◌, ◌⊎◌, IsFalse, IsTrue, map, 
 ghost use Rattle.clap.specs.Words.{kind_of};
 ghost use Rattle.run_system.specs.Sources.{MayOverwrite, MayStandApart};
 ghost use Rattle.run_system.specs.Status.{IsRefused, status};
-ghost use Rattle.torch_plan.specs.Answers.{Answers, check_status, dark_status, plan_status};
+ghost use Rattle.torch_plan.specs.Answers.{Answers, check_status, text_status, plan_status};
 ghost use Rattle.torch_plan.specs.Kept.{held_by};
 ghost use Rattle.torch_plan.specs.Usage.{explained_status};
 
 use crate::environment::Environment;
+use crate::levels::answer_levels;
 use crate::resources::Resources;
 use crate::runs::{answer_check, answer_dark, answer_plan};
 use cave_runs::{Outcome, RunFault, Verdict, Watcher};
@@ -31,9 +32,9 @@ fn refused<S: System>(system: &S, fault: &RunFault) -> u8
     status_of(fault)
 }
 
-/// The status of dark cells: 0, or that of the fault, whose line is printed.
-fn status_of_dark<S: System>(system: &S, ended: Result<(), RunFault>) -> u8
-    ensures { result ≡ dark_status ended }
+/// The status of a run that writes a text alone: 0, or that of the fault, whose line is printed.
+fn status_of_text<S: System>(system: &S, ended: Result<(), RunFault>) -> u8
+    ensures { result ≡ text_status ended }
 {
     match ended {
         Ok(()) => 0,
@@ -109,7 +110,7 @@ fn is_overwriting<S: System>(
 /// 4 a certificate that is rejected; 5 a plan whose turns were spent; 6 reading or writing failed; 7 memory or threads
 /// refused (this project's own). What is asked for is written to the output, help by the system. The file that was made
 /// for a proof, if one was, is handed back. The observer is told of a plan while it goes on, and where free cells lie
-/// at a side of the box, as of dark cells.
+/// at a side of the box, as of dark cells and levels.
 pub fn answer<X, O, S, W>(
     resources: &Resources<'_, X, O>,
     system: &S,
@@ -145,7 +146,7 @@ where
         } => {
             system.watch(progress);
             let ended = answer_dark(&environment, file, table, rule, output);
-            (status_of_dark(system, ended), None)
+            (status_of_text(system, ended), None)
         }
         Request::Plan {
             file,
@@ -170,6 +171,17 @@ where
         } => {
             let ended = answer_check(&environment, file, proof, table, rule, output);
             (status_of_check(system, ended), None)
+        }
+        Request::Levels {
+            file,
+            plan,
+            table,
+            rule,
+            progress,
+        } => {
+            system.watch(progress);
+            let ended = answer_levels(&environment, file, plan, table, rule, output);
+            (status_of_text(system, ended), None)
         }
     }
 }

@@ -5,6 +5,7 @@ mod answering;
 mod crew;
 mod crew_pieces;
 mod environment;
+mod levels;
 mod memory;
 mod planner;
 mod pool_answers;
@@ -15,7 +16,7 @@ pub use answering::answer;
 pub use cave_model::Rule;
 pub use cave_runs::{
     Input, Name, Observer, OpenSides, Outcome, RunFault, Unkept, Unobserved, Verdict, Watcher,
-    read_table, run_check, run_dark,
+    read_plan, read_table, run_check, run_dark, run_levels,
 };
 pub use command_words::{Request, request_of};
 pub use memory::{Ended, NamedFile, answer_in_memory};

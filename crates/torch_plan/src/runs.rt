@@ -3,12 +3,12 @@ ghost use Rattle.std.specs.Io.KnownBytes.{Keeps};
 ghost use Rattle.std.specs.Prelude.{◌≡◌, ◌≢◌, ◌<◌, ◌⊎◌, IfErr, IfOk, IfSome, option_copied, option_map};
 ghost use Rattle.cave_model.specs.RuleOf.{rule_of};
 ghost use Rattle.cave_runs.specs.PlanRuns.{BeginsPlan, IsNoPlanOfInput, Plans};
-ghost use Rattle.cave_runs.specs.Runs.{IsOfInput};
+ghost use Rattle.cave_runs.specs.TextRuns.{IsOfInput};
 ghost use Rattle.cave_runs.specs.declared.fault.Input.TheVariants.{TableInput};
 ghost use Rattle.cave_runs.specs.declared.fault.RunFault.{RunFault};
-ghost use Rattle.run_system.specs.Sources.{LacksTable, made_in};
+ghost use Rattle.run_system.specs.Sources.{LacksNamed, made_in};
 ghost use Rattle.torch_plan.specs.Answers.{AnswersCheck, AnswersDark, AnswersPlan, IsOfTable, LeavesMade};
-ghost use Rattle.torch_plan.specs.Answers.{LeavesOutput, table_in};
+ghost use Rattle.torch_plan.specs.Answers.{LeavesOutput, named_in};
 ghost use Rattle.torch_plan.specs.Given.{given};
 ghost use Rattle.torch_plan.specs.Kept.{held_by};
 
@@ -24,18 +24,18 @@ use std::sync::Wait;
 use std::thread::Threads;
 
 /// The bytes of the user's table, where one is named. It is read before the structure is opened.
-fn table_of<S: System>(
+pub(crate) fn table_of<S: System>(
     alloc: Global,
     system: &S,
     table: Option<&str>,
 ) -> Result<Option<Vec<u8>>, RunFault>
-    ensures known { IfOk result (λ read. IfSome (table_in (S.sources system.now) (option_copied table.entry))
+    ensures known { IfOk result (λ read. IfSome (named_in (S.sources system.now) (option_copied table.entry))
         (λ rows. option_map (λ v. v.items) read ≡ rows)) }
     ensures fault { IfErr result (λ e. (e ≡ RunFault.ReadFailed) ⊎ (e ≡ RunFault.TooLong TableInput)
         ⊎ (e ≡ RunFault.OutOfMemory)) }
     ensures long { IfErr result (λ e. IsOfInput e
         → IsOfTable (S.sources system.now) (option_copied table.entry) e) }
-    ensures there { IfOk result (λ _. ¬ LacksTable (S.sources system.now) (option_copied table.entry)) }
+    ensures there { IfOk result (λ _. ¬ LacksNamed (S.sources system.now) (option_copied table.entry)) }
 {
     let Some(path) = table else {
         return Ok(None);

@@ -3,6 +3,7 @@
 use super::planning::line_of;
 use block_rows::{RowFault, RowsFault};
 use nbt_core::NbtFault;
+use plan_reading::TorchesFault;
 use scan_core::{Field, ScanFault};
 use std::test::Fail;
 use torch_plan::{Advance, Input, OpenSides, RunFault, Verdict, status_of};
@@ -81,7 +82,20 @@ fn faults_have_their_words(rt: HostRuntime) -> Result<(), Fail> {
             "structure: file too long",
         ),
         (RunFault::TooLong(Input::TableInput), "table: file too long"),
+        (RunFault::TooLong(Input::PlanInput), "plan: file too long"),
         (RunFault::TooLong(Input::ProofInput), "proof: file too long"),
+        (
+            RunFault::Plan(TorchesFault::Syntax { line: u64::MAX }),
+            "plan: syntax line 18446744073709551615",
+        ),
+        (
+            RunFault::Plan(TorchesFault::Illegal {
+                x: 0,
+                y: 1,
+                z: u32::MAX,
+            }),
+            "plan: illegal torch 0 1 4294967295",
+        ),
         (RunFault::WriteFailed, "cannot write"),
         (
             RunFault::Table(RowsFault::BadRow {
@@ -125,6 +139,7 @@ fn faults_have_their_statuses(rt: HostRuntime) {
     let table = [
         (RunFault::TooLong(Input::StructureInput), 1),
         (RunFault::Scan(ScanFault::Palettes), 1),
+        (RunFault::Plan(TorchesFault::Syntax { line: 1 }), 1),
         (RunFault::Unlightable { x: 0, y: 0, z: 0 }, 3),
         (RunFault::ReadFailed, 6),
         (RunFault::WriteFailed, 6),

@@ -7,7 +7,7 @@ use Rattle.clap.specs.declared.error.kind.ErrorKind.TheVariants.{OutOfMemory}
 use Rattle.command_words.specs.Mistakes.{AreExplainedBy}
 use Rattle.run_system.specs.Status.{IsRefused}
 use Rattle.torch_plan.specs.Usage.{IsExplained, explained_status}
-use Rattle.torch_plan.proofs.StatusLemmas.{check_silent, dark_silent, plan_silent}
+use Rattle.torch_plan.proofs.StatusLemmas.{check_silent, text_silent, plan_silent}
 use Rattle.torch_plan.proofs.answering.answer.Goals as goal
 
 -- the status of words that were explained
@@ -31,13 +31,13 @@ returns-in-Dark-clause-does g c = inl (
   c.in-Ok.ensures.formed,
   c.in-Ok.request,
   c.in-Ok.ensures.asked,
-  rw c.in-Dark.is (c.answer_dark-ended.result, c.status_of_dark.ensures, c.answer_dark-ended.ensures),
+  rw c.in-Dark.is (c.answer_dark-ended.result, c.status_of_text.ensures, c.answer_dark-ended.ensures),
 )
 
 pub returns-in-Dark-clause-silent : goal.returns-in-Dark-clause-silent
-returns-in-Dark-clause-silent g c = λ refused. dark_silent (g.W.Write.contents c.args.output.now)
+returns-in-Dark-clause-silent g c = λ refused. text_silent (g.W.Write.contents c.args.output.now)
     (g.W.Write.contents c.answer_dark-ended.new.output) c.answer_dark-ended.result c.answer_dark-ended.ensures.left
-    (subst IsRefused c.status_of_dark.ensures refused)
+    (subst IsRefused c.status_of_text.ensures refused)
 
 pub returns-then-is_overwriting-clause-does : goal.returns-then-is_overwriting-clause-does
 returns-then-is_overwriting-clause-does g c = inl (
@@ -79,3 +79,16 @@ pub returns-in-Check-clause-silent : goal.returns-in-Check-clause-silent
 returns-in-Check-clause-silent g c = λ refused. check_silent (g.W.Write.contents c.args.output.now)
     (g.W.Write.contents c.answer_check-ended.new.output) c.answer_check-ended.result c.answer_check-ended.ensures.left
     (subst IsRefused c.status_of_check.ensures refused)
+
+pub returns-in-Levels-clause-does : goal.returns-in-Levels-clause-does
+returns-in-Levels-clause-does g c = inl (
+  c.in-Ok.ensures.formed,
+  c.in-Ok.request,
+  c.in-Ok.ensures.asked,
+  rw c.in-Levels.is (c.answer_levels-ended.result, c.status_of_text-in-Levels.ensures, c.answer_levels-ended.ensures),
+)
+
+pub returns-in-Levels-clause-silent : goal.returns-in-Levels-clause-silent
+returns-in-Levels-clause-silent g c = λ refused. text_silent (g.W.Write.contents c.args.output.now)
+    (g.W.Write.contents c.answer_levels-ended.new.output) c.answer_levels-ended.result
+    c.answer_levels-ended.ensures.left (subst IsRefused c.status_of_text-in-Levels.ensures refused)

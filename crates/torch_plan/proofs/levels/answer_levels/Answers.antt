@@ -1,0 +1,38 @@
+use Rattle.std.proofs.Common.{◌∙◌, sym}
+use Rattle.std.specs.Prelude.{option_copied}
+use Rattle.cave_model.specs.RuleOf.{rule_of}
+use Rattle.torch_plan.specs.Answers.{named_in}
+use Rattle.torch_plan.proofs.RunLemmas.{file_in, levels_answered, standard_in, there_at_file, there_at_standard}
+use Rattle.torch_plan.proofs.RunLemmas.{told_as}
+use Rattle.command_words.proofs.WordLemmas.{copied}
+use Rattle.torch_plan.proofs.levels.answer_levels.Goals as goal
+
+pub returns-then-eq : goal.returns-then-eq
+returns-then-eq g c =
+    let sources = g.S.System.sources c.args.environment.now.system.now in let file = c.args.file.now in
+    let rows = c.as_deref-table in let text = c.as_deref-plan in let run = c.run_levels in
+    let told = told_as (named_in sources (option_copied c.args.table)) (option_copied rows.result) _
+    (sym (copied rows.result) ∙ rows.ensures.value) c.in_ok-table.ensures.known in
+    let said = told_as (named_in sources (option_copied c.args.plan)) (option_copied text.result) _
+    (sym (copied text.result) ∙ text.ensures.value) c.in_ok-plan.ensures.known in
+    let same = c.standard-input.ensures ∙ sym (standard_in sources file (sym c.eq.ensures ∙ c.if-eq.true)) in
+    levels_answered sources file (option_copied c.args.plan) (option_copied c.args.table) (rule_of c.args.rule)
+    (g.W.Write.contents c.args.output.now) (g.W.Write.contents run.new.writer) _ (option_copied rows.result)
+    (option_copied text.result) run.result same told said run.ensures.done run.ensures.untouched run.ensures.begun
+    run.ensures.fault (there_at_standard sources file (option_copied c.args.table)
+    (sym c.eq.ensures ∙ c.if-eq.true) c.in_ok-table.ensures.there) c.in_ok-plan.ensures.there
+
+pub returns-in-Some : goal.returns-in-Some
+returns-in-Some g c =
+    let sources = g.S.System.sources c.args.environment.now.system.now in let file = c.args.file.now in
+    let rows = c.as_deref-table in let text = c.as_deref-plan in let run = c.run_levels-in-Some in
+    let told = told_as (named_in sources (option_copied c.args.table)) (option_copied rows.result) _
+    (sym (copied rows.result) ∙ rows.ensures.value) c.in_ok-table.ensures.known in
+    let said = told_as (named_in sources (option_copied c.args.plan)) (option_copied text.result) _
+    (sym (copied text.result) ∙ text.ensures.value) c.in_ok-plan.ensures.known in
+    let same = c.in-Some.ensures.bytes ∙ sym (file_in sources file (sym c.eq.ensures ∙ c.if-eq.false)) in
+    levels_answered sources file (option_copied c.args.plan) (option_copied c.args.table) (rule_of c.args.rule)
+    (g.W.Write.contents c.args.output.now) (g.W.Write.contents run.new.writer) _ (option_copied rows.result)
+    (option_copied text.result) run.result same told said run.ensures.done run.ensures.untouched run.ensures.begun
+    run.ensures.fault (there_at_file sources file (option_copied c.args.table) c.in-Some.ensures.there
+    c.in_ok-table.ensures.there) c.in_ok-plan.ensures.there
