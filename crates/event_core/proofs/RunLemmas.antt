@@ -15,7 +15,7 @@ use Rattle.proof_tree.specs.declared.branching.Branching.TheVariants.{Cell, Plac
 use Rattle.event_core.specs.State.{State, Part, Status, Way, waiting, held, opened, closed, HasPart, IsLeft, IsDone}
 use Rattle.event_core.specs.State.{Begins}
 use Rattle.event_core.specs.Laws.{IsReached, IsAnyCover}
-use Rattle.event_core.specs.Sound.{IsSoundState, IsLeftOver, IsLeftFor, HasKids, HasNoBars}
+use Rattle.event_core.specs.Sound.{IsSoundState, IsLeftOver, HasKids}
 use Rattle.event_core.specs.Events.{MayOpen, MayClose, IsEnabled, Does, Turns, Opens, smaller}
 use Rattle.event_core.specs.Plays.{Steps, Plays}
 use Rattle.event_core.specs.declared.event.Event.{Event}
@@ -57,16 +57,6 @@ look_sound old worker lt sound = record {
         no_more = l.no_more;
         covers = l.covers;
       });
-  exact = λ none places covers lt. (let l = sound.exact (λ m c b way h. none m c b way h) places covers lt in
-      record {
-        name = l.name;
-        chosen = l.chosen;
-        barred = l.barred;
-        status = l.status;
-        there = l.there;
-        left = l.left;
-        covers = l.covers;
-      });
   reached = sound.reached;
   proved = sound.proved;
   kids = λ m c b way h. (let k = sound.kids m c b way h in record {
@@ -96,17 +86,6 @@ better_sound old best le sound = record {
         left = l.left;
         cover = l.cover;
         no_more = l.no_more;
-        covers = l.covers;
-      });
-  exact = λ none places covers lt. (let l = sound.exact (λ m c b way h. none m c b way h) places covers
-      (omega arith) in
-      record {
-        name = l.name;
-        chosen = l.chosen;
-        barred = l.barred;
-        status = l.status;
-        there = l.there;
-        left = l.left;
         covers = l.covers;
       });
   reached = λ m c b floor tree h. le_trans le (sound.reached m c b floor tree h);
@@ -229,15 +208,6 @@ begin_sound region places workers state s = record {
     no_more = omega arith;
     covers = covers;
   };
-  exact = λ none cover covers lt. record {
-    name = [];
-    chosen = [];
-    barred = [];
-    status = waiting;
-    there = s.root;
-    left = tt;
-    covers = covers;
-  };
   reached = λ n c b floor tree h. waiting_not_closed floor tree (only n c b (closed floor tree) h).status;
   proved = λ n c b floor tree h. waiting_not_closed floor tree (only n c b (closed floor tree) h).status;
   kids = λ n c b way h. waiting_not_opened way (only n c b (opened way) h).status;
@@ -291,25 +261,12 @@ pub reached_region : (region : Instance) (events : List Event) (state : State) �
     → state.region ≡ region
 reached_region region events state r = plays_region r.start events state r.plays ∙ r.begins.of_it
 
--- a cover of the region is one of the state's
-any_cover : (region : Instance) (events : List Event) (state : State) (places : List ℕ)
-    → IsReached region events state → IsAnyCover region places → IsAnyCover state.region places
-any_cover region events state places r covers =
-    subst (λ (x : Instance). IsAnyCover x places) (sym (reached_region region events state r)) covers
-
 -- for a cover smaller than the best one of no more places is left over in some piece
 pub reached_left : (region : Instance) (events : List Event) (state : State) (places : List ℕ)
     → IsReached region events state → IsAnyCover region places → length places < length state.best
     → IsLeftOver state places
 reached_left region events state places r covers lt = (reached_sound region events state r).covered places
-    (any_cover region events state places r covers) lt
-
--- that very cover, where there are no bars
-pub reached_exact : (region : Instance) (events : List Event) (state : State) (places : List ℕ)
-    → IsReached region events state → HasNoBars state → IsAnyCover region places → length places < length state.best
-    → IsLeftFor state places
-reached_exact region events state places r none covers lt = (reached_sound region events state r).exact none places
-    (any_cover region events state places r covers) lt
+    (subst (λ (x : Instance). IsAnyCover x places) (sym (reached_region region events state r)) covers) lt
 
 -- where all is done no cover is smaller than the best
 pub reached_best : (region : Instance) (events : List Event) (state : State) (places : List ℕ)

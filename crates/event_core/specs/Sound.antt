@@ -20,21 +20,6 @@ pub record IsLeftOver (state : State) (places : List ℕ) : Type 0 where
   pub no_more : length cover ≤ length places
   pub covers : IsCoverOfPiece (of_instance state.region) state.region.cells chosen barred cover
 
--- these places cover a piece that waits or is held
-pub record IsLeftFor (state : State) (places : List ℕ) : Type 0 where
-  pub name : List ℕ
-  pub chosen : List ℕ
-  pub barred : List ℕ
-  pub status : Status
-  pub there : HasPart state name chosen barred status
-  pub left : IsLeft status
-  pub covers : IsCoverOfPiece (of_instance state.region) state.region.cells chosen barred places
-
--- no piece is opened below bars
-abbrev pub HasNoBars : State → Type 0
-HasNoBars state =
-    (name chosen barred : List ℕ) (way : Way) → HasPart state name chosen barred (opened way) → way.bars ≡ []
-
 -- the piece may be opened so, and there is a kid for each step, and no other
 pub record HasKids (state : State) (name chosen barred : List ℕ) (way : Way) : Type 0 where
   pub opens : MayBeOpened (piece_of state name chosen barred) way.bars way.on
@@ -47,8 +32,7 @@ pub record HasKids (state : State) (name chosen barred : List ℕ) (way : Way) :
       → state.part_at (name ++ number ∷ []) ≡ None
 
 -- what holds of each state: names lead from the root on, what is closed is proved at the best size or more, and for a
--- smaller cover of the region some piece that waits or is held has a cover of no more places: that very cover, where
--- there are no bars
+-- smaller cover of the region some piece that waits or is held has a cover of no more places
 pub record IsSoundState (state : State) : Type 0 where
   pub seen : (worker : ℕ) → worker < length state.seen → length state.best ≤ slice_index state.seen worker
   pub rooted : (status : Status) × HasPart state [] [] [] status
@@ -58,9 +42,6 @@ pub record IsSoundState (state : State) : Type 0 where
       → AreDistinct chosen
   pub covered : (places : List ℕ) → IsCoverOfPiece (of_instance state.region) state.region.cells [] [] places
       → length places < length state.best → IsLeftOver state places
-  pub exact : HasNoBars state → (places : List ℕ)
-      → IsCoverOfPiece (of_instance state.region) state.region.cells [] [] places
-      → length places < length state.best → IsLeftFor state places
   pub reached : (name chosen barred : List ℕ) (floor : ℕ) (tree : Tree)
       → HasPart state name chosen barred (closed floor tree) → length state.best ≤ floor
   pub proved : (name chosen barred : List ℕ) (floor : ℕ) (tree : Tree)

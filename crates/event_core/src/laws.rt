@@ -4,7 +4,7 @@ ghost use Rattle.event_core.specs.Assembled.{IsAssembled};
 ghost use Rattle.event_core.specs.Kept.{Kept, StepsTo, state_of};
 ghost use Rattle.event_core.specs.Laws.{IsAnyCover, IsReached};
 ghost use Rattle.event_core.specs.Plays.{Steps};
-ghost use Rattle.event_core.specs.Sound.{HasKids, HasNoBars, IsLeftFor, IsLeftOver};
+ghost use Rattle.event_core.specs.Sound.{HasKids, IsLeftOver};
 ghost use Rattle.event_core.specs.State.{State, HasPart, IsDone, Way, opened};
 ghost use Rattle.event_core.specs.declared.event.Event.{Event};
 ghost use Rattle.proof_rules.specs.Good.{Good};
@@ -17,13 +17,6 @@ pub fn smaller_covers_are_left()
     ensures { (region : Instance) (events : List Event) (state : State) (places : List ℕ)
         → IsReached region events state → IsAnyCover region places → length places < length state.best
         → IsLeftOver state places }
-{}
-
-/// Where no piece is opened below bars, each smaller cover itself covers a piece that waits or is held.
-pub fn smaller_covers_stay()
-    ensures { (region : Instance) (events : List Event) (state : State) (places : List ℕ)
-        → IsReached region events state → HasNoBars state → IsAnyCover region places
-        → length places < length state.best → IsLeftFor state places }
 {}
 
 /// An assembled tree is good at the best's size with nothing chosen or barred.
