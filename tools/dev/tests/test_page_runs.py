@@ -47,19 +47,18 @@ def readme(data):
 class Runs(unittest.TestCase):
     maxDiff = 2000
 
-    @classmethod
-    def setUpClass(cls):
-        cls.room = tempfile.TemporaryDirectory()
-        cls.addClassCleanup(cls.room.cleanup)
-        cls.program, cls.wasm = os.path.join(cls.room.name, "torchplan"), os.path.join(cls.room.name, "torchplan.wasm")
-        for path, data in ((cls.program, read(PROGRAM)), (cls.wasm, base64.b64decode(PACKED.search(read(PAGE))[1]))):
+    def setUp(self):
+        self.room = tempfile.TemporaryDirectory()
+        self.addCleanup(self.room.cleanup)
+        self.program, self.wasm = [os.path.join(self.room.name, name) for name in ("torchplan", "torchplan.wasm")]
+        for path, data in ((self.program, read(PROGRAM)), (self.wasm, base64.b64decode(PACKED.search(read(PAGE))[1]))):
             with open(path, "wb") as file:
                 file.write(gzip.decompress(data))
-        os.chmod(cls.program, 0o755)
-        if not runs_here(cls.program):
-            raise unittest.SkipTest("the program of dist/ doesn't run here")
-        version = subprocess.run([cls.program, "--version"], stdout=subprocess.PIPE, text=True).stdout
-        cls.version = version.split()[1]
+        os.chmod(self.program, 0o755)
+        if not runs_here(self.program):
+            self.skipTest("the program of dist/ doesn't run here")
+        version = subprocess.run([self.program, "--version"], stdout=subprocess.PIPE, text=True).stdout
+        self.version = version.split()[1]
 
     def by_light(self, *words):
         """The files that `light` makes, by their names."""
@@ -89,10 +88,16 @@ class Runs(unittest.TestCase):
             self.assertEqual(opened(name, seen[name]), opened(name, due[name]), f"{what}: {name}")
         self.assertEqual(readme(seen["README.txt"]), readme(due["README.txt"]), what)
 
-    def test_the_examples_under_both_rules(self):
+    def compare_examples(self, rule):
         names = ("corridor", "hall", "mine", "slab-floor", "slab-proofed", "two-levels")
         self.compare([(f"{name}.nbt", read(example(f"{name}.nbt")), {"rule": rule}, ["--rule", rule])
-                      for name in names for rule in ("1.18", "1.17")])
+                      for name in names])
+
+    def test_the_examples_under_the_rule_of_1_18(self):
+        self.compare_examples("1.18")
+
+    def test_the_examples_under_the_rule_before_1_18(self):
+        self.compare_examples("1.17")
 
     def test_packed_files_and_schematics(self):
         data = read(example("mine.nbt"))

@@ -179,7 +179,8 @@ class PlanningPage(unittest.TestCase):
                                        corner and "minecraft:overworld"))
         self.compare_files(asked)
 
-    def test_a_plan_of_more_commands_than_a_function_takes(self):
+    def compare_long_plan(self, corner):
+        """A plan of more commands than a function takes."""
         size = (128, 2, 128)
         lines = [f"T {x} 1 {z} floor" for z in range(128) for x in range(128)] * 2
         plan = "\n".join([f"torches {len(lines)}", "dark 0", *lines]) + "\n"
@@ -190,8 +191,13 @@ class PlanningPage(unittest.TestCase):
         out.compounds("blocks", 0)
         out.end()
         told = {"version": "1", "rule": "1.18", "headroom": "2", "table": "x"}
-        question = lambda corner: self.question(out.file(), "x", plan, "dark 0\n", "1.18", "accepted 1", told, corner)
-        self.compare_files([question(None), question([1, 2, 3])])
+        self.compare_files([self.question(out.file(), "x", plan, "dark 0\n", "1.18", "accepted 1", told, corner)])
+
+    def test_a_plan_of_more_commands_than_a_function_takes(self):
+        self.compare_long_plan(None)
+
+    def test_such_a_plan_by_the_worlds_coordinates(self):
+        self.compare_long_plan([1, 2, 3])
 
     def test_structures_are_read_and_written_alike(self):
         found = [read(example(f"{name}.nbt")) for name in ("corridor", "two-levels")]
