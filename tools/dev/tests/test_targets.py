@@ -131,6 +131,49 @@ class Numbers(unittest.TestCase):
             self.assertEqual(signed_leb(number)[-1] & 64, 0)
 
 
+HOST = """
+const bytes = (text) => new TextEncoder().encode(text), text = (part) => new TextDecoder().decode(part), told = [];
+const host = new Host(["torchplan", "plan"], { read: (name) => (name === "cave" ? bytes("abcdef") : null),
+  hear: (line) => told.push(line) });
+host.memory = { buffer: new ArrayBuffer(64) };
+const memory = () => new Uint8Array(host.memory.buffer), { open, read, write, argument, exit } = host.functions();
+memory().set(bytes("cave"));
+const file = open(0, 4, 0), parts = [read(file, 8, 4), text(memory().slice(8, 12)), read(file, 8, 4), read(file, 8, 4)];
+memory().set(bytes("out"));
+const made = open(0, 3, 1);
+memory().set(bytes("first"), 8);
+write(made, 8, 5);
+write(2, 8, 5);
+memory().set(bytes("other"), 8);
+write(made, 8, 5);
+host.memory.buffer = new ArrayBuffer(128);
+const words = [argument(1, 0, 4), argument(1, 0, 3), argument(2, 0, 9)];
+let status = null;
+try { exit(5); } catch (error) { status = error instanceof Ended ? error.status : error; }
+console.log(JSON.stringify([parts, text(host.made.get("out").all()), told, words, status, write(9, 0, 1), read(9, 0, 1)]));
+"""
+
+
+@unittest.skipIf(shutil.which("node") is None, "no node is here, so the page's host isn't run")
+class PageHost(unittest.TestCase):
+    def test_what_a_host_answers(self):
+        with open(os.path.join(TOOLS, "targets", "page", "host.js"), encoding="utf-8") as file:
+            script = file.read() + HOST
+        ran = subprocess.run(["node", "-"], input=script.encode(), stdout=subprocess.PIPE, check=True)
+        parts, made, told, words, status, *none = json.loads(ran.stdout)
+        self.assertEqual(parts, [4, "abcd", 2, 0])
+        self.assertEqual(made, "firstother", "what was written stays, whatever comes of the memory")
+        self.assertEqual((told, words, status, none), (["first"], [4, -2, -1], 5, [-1, -1]))
+
+
+@unittest.skipIf(any(shutil.which(name) is None for name in ("rt", "node")), "no rt or no node is here")
+class PageSystem(unittest.TestCase):
+    def test_what_a_page_gives_to_the_module(self):
+        words = [os.path.join(TOOLS, "dev", "try-system"), "--only", "torchplan.wasm"]
+        ran = subprocess.run(words, stdout=subprocess.PIPE, stderr=subprocess.STDOUT, text=True)
+        self.assertEqual(ran.stdout, "torchplan.wasm: ok\n1 system, 0 differ\n")
+
+
 LACKING = [name for name in ("rt", "node") if shutil.which(name) is None]
 
 
