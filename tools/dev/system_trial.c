@@ -1,6 +1,6 @@
 // Stands for the module, and calls what a file of tools/targets/system gives: `try-system` links it with each of them.
 // It writes a line for each thing that it saw. Its words are: a file that is there, another name of it, another file,
-// one to make, and a word of 300 letters.
+// one to make anew, and a word of 300 bytes.
 #include "system.h"
 
 #if TRIED_HAS_WIDE

@@ -132,20 +132,21 @@ class Runs(unittest.TestCase):
         self.assertIn("No table has 2 blocks of the cave: cave:a, cave:b.", answer["fault"])
         self.assertIn('name = "cave:b"', answer["more"])
 
-    def test_a_cell_that_no_torch_can_light_is_left_to_light(self):
+    def test_cells_that_no_torch_can_light_get_slabs(self):
         table = os.path.join(self.room.name, "felt.toml")
         with open(table, "w", encoding="utf-8") as file:
             file.write(FELT)
-        cave = caves.structure((5, 5, 5), lambda x, y, z: int(0 < x < 4 > z > 0 and 0 < y < 4))
-        told = {**TOLD, "table": {"name": "felt.toml", "text": FELT}}
-        ask = {"what": "plan", "file": "felt.nbt", "bytes": text_of_bytes(cave), "told": told}
-        answer, = asked_page([ask], self.wasm)
-        self.assertIn("No torch can light one of the dark cells.", answer["fault"])
-        self.assertEqual(answer["line"], "torchplan: unlightable 1 1 1")
-        path = os.path.join(self.room.name, "felt.nbt")
-        with open(path, "wb") as out:
-            out.write(cave)
-        self.assertIn("put a slab there", self.by_light(path, "--table", table)["README.txt"].decode())
+        felt = caves.structure((5, 5, 5), lambda x, y, z: int(0 < x < 4 > z > 0 and 0 < y < 4))
+        # torches hold on glass alone, beside part of the floor
+        state_of = lambda x, y, z: 2 if x == 0 else int(0 < x < 29 and 0 < z < 4 and 0 < y < 4)
+        part = caves.structure((30, 5, 5), state_of, ["minecraft:stone", "minecraft:air", "minecraft:glass"])
+        told = {"table": {"name": "felt.toml", "text": FELT}}
+        words = ["--table", table]
+        self.compare([("felt.nbt", felt, told, words), ("part.nbt", part, told, words),
+                      ("low.nbt", part, {**told, "rule": "1.17"}, [*words, "--rule", "1.17"])])
+        into = self.by_light(os.path.join(self.room.name, "part.nbt"), *words)
+        self.assertIn("put a slab there", into["README.txt"].decode())
+        self.assertNotIn("torches 0", into["plan.txt"].decode())
 
     def test_boxes_of_worlds(self):
         asked = [((2, 11, 3), (26, 17, 22), {}, "region", V1_21), ((9, 12, 9), (9, 13, 30), {}, "region", V1_16),

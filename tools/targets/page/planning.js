@@ -102,8 +102,7 @@ function refusalOf(status, line) {
   }
   const sentences = {
     1: "The program refuses this file.",
-    3: "No torch can light one of the dark cells. Put a slab there and save the cave anew, or use light on a" +
-      " computer, which plans the rest as if a slab lay there.",
+    3: "No torch can light one of the dark cells, and this page doesn't read the cave. Put a slab there.",
     4: "The check doesn't accept the proof, so nothing is shown. Please report this cave.",
     7: "The plan takes more memory than this browser gives a page. Save a smaller part, or use the program.",
   };
@@ -155,19 +154,23 @@ function demandRows(box, rows, own) {
   throw new Refused(`${listed}: ${names.join(", ")}. ${how}`, null, tableForUnknown(names, own).split("\n"));
 }
 
-/** What the program answers of a cave: its dark cells, its plan, and the verdict on the proof, from an instance of its
- * own (null where the search was stopped); and the files that hold these. */
-async function answersOf(planner, told, tell) {
+/** The cells that are dark, and what the program says of free cells at the box's edge, or null. */
+async function darknessOf(planner, tell) {
   tell({ step: "Looking for dark cells" });
-  const seen = await planner.run("dark", ["cave.nbt", "--progress"], [DONE]), dark = readDark(seen.text);
+  const seen = await planner.run("dark", ["cave.nbt", "--progress"], [DONE]);
   const edge = seen.lines.find((line) => line.startsWith(EDGE));
+  return { dark: readDark(seen.text), edge: edge ? edge.slice(EDGE.length) : null };
+}
+
+/** What the program answers of a cave with these dark cells: its plan, and the verdict on the proof, from an instance of
+ * its own (null where the search was stopped); and the files that hold these. */
+async function answersOf(planner, { dark, edge }, told, tell) {
   tell({ step: `Planning torches for ${grouped(dark.length)} dark cells` });
   const turns = told.isToTheEnd ? null : told.turns || turnsFor(dark.length);
   const words = ["cave.nbt", "--proof", "plan.proof", "--progress"];
   const { planned, limit } = await planDeep(planner, words, turns, tell);
   const { text, output, peak, memory } = planned, files = new Map([["plan.txt", output]]);
-  const answers = { dark, plan: readPlan(text), verdict: null, turns: limit, peak, memory, files };
-  answers.edge = edge ? edge.slice(EDGE.length) : null;
+  const answers = { dark, edge, plan: readPlan(text), verdict: null, turns: limit, peak, memory, files };
   if (planned.status === DONE) {
     tell({ step: "Checking the proof" });
     planner.files.set("plan.proof", planned.made.get("plan.proof"));
@@ -203,6 +206,29 @@ async function filesOf(cave, answers, table, how, levels, notes) {
   return new Map([...made, ...all, ...own]);
 }
 
+/** Has the program plan a cave. Cells that no torch can light get slabs, and the rest is planned: the cave as it is
+ * planned then, its answers, what has to be known of slabs, and the rows and the table's text. */
+async function planned(module, found, terms, told, tell) {
+  const { table, tableRows, rule } = terms, options = ["--table", "table.toml", "--rule", rule, "--headroom", told.headroom];
+  const lines = [];
+  for (let cave = laidOut(found, tableRows, told); ; ) {
+    const rows = tableRows && [...tableRows, ...cave.rows];
+    const text = cave.rows.length > 0 ? withRows(table.text, cave.rows) : table.text;
+    const files = new Map([["cave.nbt", cave.data], ["table.toml", utf8(text)]]);
+    const planner = new Planner(module, files, options, (line) => tell({ line: line.replace(/^torchplan: /, "") }));
+    const darkness = await darknessOf(planner, tell);
+    try {
+      return { cave, planner, rows, text, lines, answers: await answersOf(planner, darkness, told, tell) };
+    } catch (fault) {
+      const [, ...at] = UNLIGHTABLE.exec(fault.line || "") || [];
+      if (at.length === 0 || cave.box === null) throw fault;
+      const cells = cellsForSlabs(cave.read, rows, darkness.dark, NEEDED_LEVEL[rule], at.map(Number));
+      lines.push(...slabLines(cave.box, cells));
+      cave = withSlabs(cave, cells);
+    }
+  }
+}
+
 /** Plans a cave. `told`: rule (null: by the file's version), headroom, table (null, or its name and text), isSteady,
  * turns (null: as `light` has it), isToTheEnd. `tell` gets steps, notes and the program's lines. */
 async function planCave(module, found, told, tell) {
@@ -212,20 +238,15 @@ async function planCave(module, found, told, tell) {
     tell({ note: `The cave is of a later version than ${LATEST.name}: a block that is new is refused by its name.` });
   }
   if (found.box !== null && tableRows !== null) demandRows(found.box, tableRows, told.table && told.table.text);
-  const cave = laidOut(found, tableRows, told), { box, read, name } = cave;
-  const rows = tableRows && [...tableRows, ...cave.rows];
-  const text = cave.rows.length > 0 ? withRows(table.text, cave.rows) : table.text;
-  const files = new Map([["cave.nbt", cave.data], ["table.toml", utf8(text)]]);
-  const options = ["--table", "table.toml", "--rule", rule, "--headroom", told.headroom];
-  const planner = new Planner(module, files, options, (line) => tell({ line: line.replace(/^torchplan: /, "") }));
-  const answers = await answersOf(planner, told, tell);
+  const done = await planned(module, found, { table, tableRows, rule }, told, tell);
+  const { cave, planner, rows, text, answers } = done, { box, read, name } = cave;
   if (box === null) throw new Refused("The program reads this file, but this page doesn't.");
   if (rows !== null) tell({ step: "Moving torches to where they shine best" });
   const best = rows === null ? answers : await rearranged(planner, read, rows, NEEDED_LEVEL[rule], answers);
   const { dark, plan, verdict, edge, turns, peak, memory } = best;
   tell({ step: "Drawing the map" });
   const levels = levelsAfter(read, rows, dark, plan, rule);
-  const notes = cave.around === null ? edgeLines(edge, box, rows, dark) : cave.notes;
+  const notes = [...cave.notes, ...(cave.around === null ? edgeLines(edge, box, tableRows, dark) : []), ...done.lines];
   const how = { version: DATA.version, rule, headroom: told.headroom, table: table.name };
   const made = await filesOf(cave, best, text, how, levels, notes);
   const { atLeast, torches } = plan, counts = { dark: dark.length, torches: torches.length, atLeast };

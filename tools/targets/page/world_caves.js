@@ -50,9 +50,15 @@ async function caveOfWorld(files, dimension, corners, rule) {
   return caveOfExtent(world, extent);
 }
 
+/** A cave that the planner reads as another box, with the rows of made names. */
+function readAs(cave, read, rows) {
+  const { cells } = read;
+  cave.box.made = new Set([...cells.keys()].filter((number) => cells[number] !== cave.box.cells[number]));
+  return { ...cave, read, rows, data: boxFile(read), isMade: true };
+}
+
 /** The cave as the planner reads it: with its shell, and the shell's rows. */
 function withShell(cave, rows, headroom) {
-  const shell = shelled(cave.box, cave.around, rows, Number(headroom)), { cells } = shell.read;
-  cave.box.made = new Set([...cells.keys()].filter((number) => cells[number] !== cave.box.cells[number]));
-  return { ...cave, read: shell.read, rows: shell.rows, data: boxFile(shell.read), isMade: true };
+  const shell = shelled(cave.box, cave.around, rows, Number(headroom));
+  return readAs(cave, shell.read, shell.rows);
 }
