@@ -1,10 +1,20 @@
 // Stands for the module, and calls what a file of tools/targets/system gives: `try-system` links it with each of them.
 // It writes a line for each thing that it saw. Its words are: a file that is there, another name of it, another file,
-// one to make anew, and a word of 300 bytes.
+// one to make anew, and a word of 300 bytes. Or it was called as for a file that was dropped on it: then it writes its
+// words and the file, makes the proof, and ends by the status that is the file's first digit.
 #include "system.h"
 
+// Whether the system's compiler brings no arithmetic of 128 bits, and whether C gives pairs back as the module does.
 #if TRIED_HAS_WIDE
 typedef unsigned __int128 u128;
+#endif
+#if TRIED_HAS_PAIRS
+struct pair {
+    u64 is_given;
+    u8 *block;
+};
+struct pair system_rattle_alloc(u64 count, u64 align);
+struct pair system_rattle_realloc(u8 *old, u64 kept, u64 count, u64 align);
 #endif
 
 static char line[512];
@@ -45,8 +55,16 @@ static void told(const char *what, i64 value) {
 
 static char path[5][512];
 
+static i32 is_text(const char *one, const char *other) {
+    while (*one && *one == *other) one++, other++;
+    return *one == *other;
+}
+
 static void words(void) {
     u8 small[16];
+    i64 own = system_rattle_arg(0, (u8 *)path[0], sizeof path[0] - 1);
+    path[0][own < 0 ? 0 : own] = 0;
+    told("its own name is torchplan", is_text(path[0], "torchplan"));
     for (u64 at = 1; at <= 4; at++) {
         i64 count = system_rattle_arg(at, (u8 *)path[at], sizeof path[at] - 1);
         path[at][count < 0 ? 0 : count] = 0;
@@ -77,6 +95,32 @@ static void files(void) {
     told("another file is known", system_statx(-100, path[3], 0, STATX_ALL, other));
     told("another file has the number", *numbers[0] == *numbers[1]);
     told("a file that isn't there is known", system_statx(-100, "none/none", 0, STATX_ALL, other));
+    i32 is_known = system_statx(-100, "/dev/stdout", 0, STATX_ALL, other) == 0;
+    told("the output is a file", is_known && *(unsigned short *)(other + STATX_MODE) == MODE_FILE);
+}
+
+static i32 dropped(void) {
+    char word[512], bytes[64];
+    for (u64 at = 1;; at++) {
+        i64 count = system_rattle_arg(at, (u8 *)word, sizeof word);
+        if (count < 0) break;
+        if (at == 2) continue;  // where the file lies once it is unpacked
+        for (i64 each = 0; each < count; each++) line[used++] = word[each];
+        text(" ");
+    }
+    end();
+    i64 count = system_rattle_arg(2, (u8 *)word, sizeof word - 1);
+    word[count] = 0;
+    i32 file = system_open(word, OPEN_READ);
+    count = system_read(file, bytes, sizeof bytes);
+    system_close(file);
+    system_write(1, bytes, (u64)count);
+    i64 length = system_rattle_arg(4, (u8 *)word, sizeof word - 1);
+    word[length] = 0;
+    file = system_open(word, OPEN_WRITE | OPEN_CREATE | OPEN_EMPTY, 0666);
+    system_write(file, bytes, (u64)count);
+    system_close(file);
+    return bytes[0] - '0';
 }
 
 // Blocks of many sizes are taken, filled, made longer, shorter, and let go; each keeps its bytes.
@@ -99,6 +143,20 @@ static void memory(void) {
     told("bytes of blocks that changed", (i64)wrong);
     told("a block of a petabyte", system_malloc(1ull << 50) != 0);
 }
+
+#if TRIED_HAS_PAIRS
+static void pairs(void) {
+    struct pair one = system_rattle_alloc(100, 8), other = system_rattle_alloc(100, 8);
+    for (u64 at = 0; at < 100; at++) one.block[at] = (u8)at;
+    for (u64 at = 0; at < 100; at++) other.block[at] = 200;
+    one = system_rattle_realloc(one.block, 100, 1000, 8);
+    u64 wrong = 0;
+    for (u64 at = 0; at < 100; at++) wrong += one.block[at] != (u8)at;
+    told("blocks are given", one.is_given == 1 && other.is_given == 1 && system_rattle_alloc(0, 8).is_given == 1);
+    told("bytes of a block that changed", (i64)wrong);
+    told("a block that is refused is given", (i64)system_rattle_alloc(1ull << 50, 8).is_given);
+}
+#endif
 
 static u32 shared[128];
 static void *given;
@@ -157,9 +215,15 @@ static void wide(void) {
 #endif
 
 i32 torchplan_main(void) {
+    i64 count = system_rattle_arg(1, (u8 *)path[1], sizeof path[1] - 1);
+    path[1][count < 0 ? 0 : count] = 0;
+    if (is_text(path[1], "plan")) system__exit(dropped());
     words();
     files();
     memory();
+#if TRIED_HAS_PAIRS
+    pairs();
+#endif
     threads();
 #if TRIED_HAS_WIDE
     wide();
