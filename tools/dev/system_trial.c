@@ -77,6 +77,8 @@ static void words(void) {
 static void files(void) {
     char bytes[64];
     told("a file that isn't there", system_open("none/none", OPEN_READ));
+    system_rattle_set_errno(FAILED_READ);
+    told("a path that is no text", system_open("\xff", OPEN_READ));
     i32 file = system_open(path[1], OPEN_READ), made = system_open(path[4], OPEN_WRITE | OPEN_CREATE | OPEN_EMPTY, 0666);
     told("a file is opened", file >= 0 && made >= 0 && made != file);
     told("bytes of four that are read", system_read(file, bytes, 4));
