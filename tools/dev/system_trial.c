@@ -160,6 +160,15 @@ static void pairs(void) {
 }
 #endif
 
+#if TRIED_HAS_WIDE
+// A page's memory, to its end.
+static void whole_memory(void) {
+    u64 count = 0;
+    for (u8 *block = 0; (block = system_malloc(1 << 20)); count++) block[0] = block[(1 << 20) - 1] = 1;
+    told("more megabytes than 3,900 and fewer than 4,080 are given", count > 3900 && count < 4080);
+}
+#endif
+
 static u32 shared[128];
 static void *given;
 
@@ -229,6 +238,7 @@ i32 torchplan_main(void) {
     threads();
 #if TRIED_HAS_WIDE
     wide();
+    whole_memory();
 #endif
     system__exit(7);
 }
