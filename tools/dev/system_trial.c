@@ -80,6 +80,7 @@ static void files(void) {
     system_rattle_set_errno(FAILED_READ);
     told("a path that is no text", system_open("\xff", OPEN_READ));
     i32 file = system_open(path[1], OPEN_READ), made = system_open(path[4], OPEN_WRITE | OPEN_CREATE | OPEN_EMPTY, 0666);
+    told("a file that isn't there is made", system_open("anew", OPEN_WRITE | OPEN_CREATE, 0666) >= 0);
     told("a file is opened", file >= 0 && made >= 0 && made != file);
     told("bytes of four that are read", system_read(file, bytes, 4));
     told("bytes of the rest", system_read(file, bytes + 4, sizeof bytes - 4));
