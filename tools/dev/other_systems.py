@@ -28,7 +28,7 @@ def own_wine(names):
     """A folder of wine's for the runs within, which is gone with all that wine has started there; nothing where none of
     the programs needs wine. One of wine's own programs waits all the time: else wine's services would begin and end
     with each run, and write to its streams."""
-    if not any(WAYS[name][:1] == ["wine"] for name in names) or shutil.which("wine") is None:
+    if not any(WAYS.get(name) == ["wine"] for name in names) or shutil.which("wine") is None:
         yield
         return
     nowhere = {"stdout": subprocess.DEVNULL, "stderr": subprocess.DEVNULL}

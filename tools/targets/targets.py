@@ -10,7 +10,7 @@ from narrow import narrowed
 ALWAYS = ["-w", "-O3", "-mllvm", "-trap-unreachable", "-mllvm", "-no-trap-after-noreturn"]
 # Division of more than 64 bits is written out, so that no function of a library is called for it.
 WIDE = ["-mllvm", "-expand-div-rem-bits=64", "-mllvm", "-expand-fp-convert-bits=64"]
-OWN_C = ["-O2", "-Wall", "-Wextra", "-ffreestanding", "-fno-builtin", "-nostdinc"]
+OWN_C = ["-O2", "-Wall", "-Wextra", "-ffreestanding", "-fno-builtin", "-fno-stack-protector", "-nostdinc"]
 PAGE_STACK, PROGRAM_STACK = 16 << 20, 64 << 20
 
 

@@ -20,7 +20,7 @@ from refusals import Refusal
 from saved_worlds import V1_16, V1_17, V1_18, V1_21, Byte, Longs, Saved, chunk, nbt
 from structures import box_file
 from test_planning_page import NODE, asked_page
-from test_worlds import floor, many
+from test_worlds import floor
 
 STONE, AIR = ("minecraft:stone", {}), ("minecraft:air", {})
 OVERWORLD = dimensions.OVERWORLD

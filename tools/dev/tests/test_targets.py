@@ -167,11 +167,17 @@ class PageHost(unittest.TestCase):
 
 
 @unittest.skipIf(any(shutil.which(name) is None for name in ("rt", "node")), "no rt or no node is here")
-class PageSystem(unittest.TestCase):
+class Systems(unittest.TestCase):
+    def tried(self, *names):
+        words = [os.path.join(TOOLS, "dev", "try-system"), "--only", *names]
+        return subprocess.run(words, stdout=subprocess.PIPE, stderr=subprocess.STDOUT, text=True).stdout
+
     def test_what_a_page_gives_to_the_module(self):
-        words = [os.path.join(TOOLS, "dev", "try-system"), "--only", "torchplan.wasm"]
-        ran = subprocess.run(words, stdout=subprocess.PIPE, stderr=subprocess.STDOUT, text=True)
-        self.assertEqual(ran.stdout, "torchplan.wasm: ok\n1 system, 0 differ\n")
+        self.assertEqual(self.tried("torchplan.wasm"), "torchplan.wasm: ok\n1 system, 0 differ\n")
+
+    def test_what_macos_gives_is_linked(self):
+        names = ["torchplan-arm64-macos", "torchplan-x86_64-macos"]
+        self.assertRegex(self.tried(*names), "".join(f"{name}: linked, .*\n" for name in names))
 
 
 LACKING = [name for name in ("rt", "node") if shutil.which(name) is None]

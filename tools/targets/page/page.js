@@ -36,9 +36,11 @@ const program = unpacked(textIn("program")).then((bytes) => WebAssembly.compile(
 const tables = unpacked(textIn("tables")).then((bytes) => JSON.parse(new TextDecoder().decode(bytes)));
 const code = URL.createObjectURL(new Blob([byId("worker").textContent], { type: "text/javascript" }));
 
-// What is under way: the worker, the cave, the files of a world (else null), when it began, how many turns were told,
-// and notes for the end.
-const state = { worker: null, cave: null, files: null, began: 0, turn: 0, ticking: 0, links: [], notes: new Set() };
+// What is under way: the worker, whether it only looks into a world, the cave, the files of a world (else null), when it
+// began, how many turns were told, and notes for the end.
+const state = {
+  worker: null, isLooking: false, cave: null, files: null, began: 0, turn: 0, ticking: 0, links: [], notes: new Set(),
+};
 
 const counted = (count, one, many) => `${count.toLocaleString("en-GB")} ${count === 1 ? one : many}`;
 const seconds = () => `${Math.floor((performance.now() - state.began) / 1000)} s`;
@@ -69,7 +71,7 @@ const look = (dimension = null) => ask("Looking into the world", { look: { files
 /** Asks a new worker. */
 async function ask(step, asked) {
   stop();
-  Object.assign(state, { began: performance.now(), turn: 0, notes: new Set() });
+  Object.assign(state, { isLooking: "look" in asked, began: performance.now(), turn: 0, notes: new Set() });
   show({ work: true });
   byId("step").textContent = step;
   byId("line").textContent = byId("clock").textContent = "";
@@ -107,6 +109,7 @@ function stop() {
 
 function refuse({ sentence, line, more = [] }) {
   stop();
+  if (state.isLooking) state.files = null; // there is no box to offer
   show({ fault: true });
   byId("sentence").textContent = sentence;
   byId("said").hidden = !line;
@@ -127,7 +130,7 @@ function offer(seen) {
 function stopped() {
   const after = seconds(), turns = state.turn;
   refuse({ sentence: `Stopped after ${after}. ${byId("line").textContent}` });
-  byId("sofar").hidden = false;
+  byId("sofar").hidden = state.isLooking;
   const sofar = `Plan with the ${counted(turns, "turn", "turns")} so far`;
   byId("sofar").textContent = turns ? sofar : "Plan with one turn a region";
   byId("sofar").onclick = () => plan(turns || 1);

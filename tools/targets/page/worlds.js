@@ -117,8 +117,8 @@ async function extentAround(world, [x, y, z]) {
 /** The first and the last column and row of chunks about the chunk at home, grown by a side in turn for as long as all
  * chunks of a side are whole and have cells of the extent that is wanted. */
 async function grownChunks(world, home, wanted) {
-  const near = new Set(chunksOf(wanted).map(String)), run = (low, high) => Array.from({ length: high - low + 1 },
-    (_, at) => low + at);
+  const near = new Set(chunksOf(wanted).map(String));
+  const run = (low, high) => Array.from({ length: high - low + 1 }, (_, at) => low + at);
   let [west, north] = home, [east, south] = home;
   for (const sides = [0, 1, 2, 3]; sides.length > 0; ) {
     const side = sides.shift(), x = side === 0 ? west - 1 : east + 1, z = side === 2 ? north - 1 : south + 1;
