@@ -1,11 +1,10 @@
 -- The run of levels, from what its parts do.
-use Rattle.std.proofs.Common.{◌≡◌, ◌≢◌, ℕ, ◌≤◌, List, [], ◌∷◌, ◌++◌, length, slice_index, All, Option, Some, None, refl}
+use Rattle.std.proofs.Common.{◌≡◌, ◌≢◌, ℕ, ◌≤◌, List, length, slice_index, All, Option, Some, None, refl}
 use Rattle.std.proofs.Common.{sym, ap, subst, ◌∙◌, ◌⊎◌, inl, inr, arith}
 use Rattle.std.proofs.lemmas.Bool.{cases_lt}
 use Rattle.std.proofs.lemmas.List.{get_or_past}
 use Rattle.std.proofs.lemmas.List.Elements.{All-from_get_or, All-get_or}
-use Rattle.cave_base.specs.Box.{cell_count}
-use Rattle.cave_model.specs.Cave.{Cave, IsSound, class_at}
+use Rattle.cave_model.specs.Cave.{Cave, IsSound}
 use Rattle.cave_model.specs.Light.{Brings, IsLevelOf}
 use Rattle.cave_model.specs.Rule.{Rule}
 use Rattle.cave_reading.specs.Bytes.{IsCaveOfBytes}
@@ -13,7 +12,7 @@ use Rattle.light_flood.specs.Levels.{AreLevelsOf}
 use Rattle.plan_reading.specs.Placed.{IsPlanFault}
 use Rattle.plan_reading.specs.declared.fault.TorchesFault.{TorchesFault}
 use Rattle.plan_reading.specs.declared.fault.TorchesFault.TheVariants as torches
-use Rattle.cave_runs.specs.Faults.{of_torches, run_fault_of}
+use Rattle.cave_runs.specs.Faults.{of_torches}
 use Rattle.cave_runs.specs.LevelsRuns.{IsFaultOfLevels, IsFaultOfPlan}
 use Rattle.cave_runs.specs.Runs.{IsFaultOfBytes}
 use Rattle.cave_runs.specs.declared.fault.RunFault.{RunFault}

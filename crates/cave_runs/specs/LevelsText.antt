@@ -2,7 +2,6 @@
 -- hexadecimal digit for each cell. So the digits stand in the order of the cells' numbers. The text is this project's
 -- own.
 use Rattle.std.specs.Prelude.{◌≡◌, ◌+◌, ℕ, List, [], ◌∷◌, ◌++◌, codes, nat_lt, slice_index, if◌then◌else◌}
-use Rattle.std.specs.Fmt.{decimal}
 use Rattle.cave_base.specs.Box.{Point, number}
 use Rattle.cave_model.specs.Cave.{Cave}
 use Rattle.cave_plan.specs.PlanText.{up_to}

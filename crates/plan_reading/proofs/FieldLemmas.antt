@@ -1,6 +1,6 @@
 -- The parts of a line, told from what follows them.
 use Rattle.std.proofs.Common.{◌≡◌, ◌≢◌, ℕ, false, nat_eq, List, [], ◌∷◌, ◌++◌, length, slice_index, codes, refl, sym}
-use Rattle.std.proofs.Common.{ap, ◌∙◌, arith, rules, append_assoc, Option, Some, None, inl, inr}
+use Rattle.std.proofs.Common.{ap, ◌∙◌, arith, rules, append_assoc, Option, Some, None, inl}
 use Rattle.std.specs.Prelude.{decimal, IfSome}
 use Rattle.std.proofs.lemmas.List.{append-nil, append_cancel_left, length-append, nil_from_length}
 use Rattle.certificate_lines.specs.Cuts.{HasNoFeed}
@@ -11,7 +11,7 @@ use Rattle.certificate_lines.proofs.Feeds.{no_cut}
 use Rattle.cave_model.specs.declared.hang.Hang.{Hang}
 use Rattle.cave_model.specs.declared.hang.Hang.TheVariants.{Floor, North, East, South, West}
 use Rattle.cave_plan.specs.PlanText.{hang_word}
-use Rattle.plan_reading.specs.Fields.{BeginsWithHead, BeginsWithNumber, BeginsWithTorch, HasNoCorner, HasNoHang}
+use Rattle.plan_reading.specs.Fields.{BeginsWithHead, BeginsWithNumber, HasNoCorner, HasNoHang}
 use Rattle.plan_reading.specs.Fields.{HasNoHead, HasNoNumber, HasNoTorch, IsNoDigit}
 use Rattle.plan_reading.specs.PlanLines.{IsNear, dark_line, head_line, torch_line}
 use Rattle.plan_reading.specs.declared.torch.ToldTorch.{ToldTorch}

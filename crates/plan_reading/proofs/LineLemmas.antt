@@ -1,5 +1,5 @@
 -- The lines of plans that the same bytes begin with.
-use Rattle.std.proofs.Common.{◌≡◌, ℕ, suc, ◌+◌, ◌<◌, List, [], ◌∷◌, ◌++◌, length, map, All, refl, sym, ap, subst}
+use Rattle.std.proofs.Common.{◌≡◌, ℕ, ◌<◌, List, [], ◌∷◌, ◌++◌, length, map, All, refl, sym, ap}
 use Rattle.std.proofs.Common.{arith, ◌∙◌, append_assoc, Option, Some, None, codes}
 use Rattle.std.proofs.lemmas.List.{append_cancel_left, nil_from_length}
 use Rattle.std.specs.Prelude.{IfSome}
@@ -11,7 +11,7 @@ use Rattle.plan_reading.specs.PlanLines.{IsInRange, IsNear, TellsTorches, Told, 
 use Rattle.plan_reading.specs.PlanLines.{head_line, lines_of, torch_line}
 use Rattle.plan_reading.specs.Walked.{IsOpening, Opening, opening_lines}
 use Rattle.plan_reading.specs.declared.torch.ToldTorch.{ToldTorch}
-use Rattle.plan_reading.proofs.FieldLemmas.{apart, head_opens, one_dark, one_head, one_torch, torch_opens, counted}
+use Rattle.plan_reading.proofs.FieldLemmas.{apart, head_opens, one_dark, one_head, one_torch, counted}
 use Rattle.std.proofs.lemmas.Grind.{flat_map-append}
 
 -- lines, and then others

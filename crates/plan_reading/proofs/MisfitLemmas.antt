@@ -5,7 +5,7 @@ use Rattle.std.specs.Prelude.{IfSome, codes}
 use Rattle.std.proofs.lemmas.List.{append_cancel_left, length-append, length-map, length-replicate, map-append}
 use Rattle.std.proofs.lemmas.List.Elements.{All-append, All-head, All-nil, All-replicate, All-tail}
 use Rattle.proof_rules.specs.Text.{ended}
-use Rattle.certificate_lines.specs.Cuts.{AreClean, HasNoFeed}
+use Rattle.certificate_lines.specs.Cuts.{HasNoFeed}
 use Rattle.certificate_lines.specs.Numbers.{IsSmall}
 use Rattle.cave_model.specs.declared.hang.Hang.TheVariants.{Floor}
 use Rattle.plan_reading.specs.Fields.{BeginsWithHead, HasNoCorner, HasNoDark, HasNoHead, HasNoTorch}
@@ -13,10 +13,9 @@ use Rattle.plan_reading.specs.PlanLines.{AreFirstLines, IsFirstMisfit, IsInRange
 use Rattle.plan_reading.specs.PlanLines.{corner_line, corner_lines, dark_line, head_line, lines_of, torch_line}
 use Rattle.plan_reading.specs.Walked.{IsOpening, Opening, Walks, opening_lines}
 use Rattle.plan_reading.specs.declared.torch.ToldTorch.{ToldTorch}
-use Rattle.plan_reading.proofs.FieldLemmas.{apart, counted, head_opens, one_head}
+use Rattle.plan_reading.proofs.FieldLemmas.{counted, head_opens, one_head}
 use Rattle.plan_reading.proofs.LineLemmas.{Meets, NextTorch, corner_next, ended-append, ended_first, more_follow}
 use Rattle.plan_reading.proofs.LineLemmas.{opening_in_range, opening_of, openings_meet, told_parts, torch_is_no_corner}
-use Rattle.plan_reading.proofs.LineLemmas.{no_torch_is_corner}
 
 -- ---- plans that begin with some lines
 

@@ -1,19 +1,18 @@
 -- A plan's text, as `plan` prints it, tells its torches.
 use Rattle.std.proofs.Common.{◌≡◌, ℕ, ◌<◌, List, [], ◌∷◌, ◌++◌, length, map, All, refl, sym, ap, ap₂}
-use Rattle.std.proofs.Common.{subst, arith, ◌∙◌, append_assoc, Option, Some, None, codes, IsTrue}
+use Rattle.std.proofs.Common.{subst, arith, ◌∙◌, append_assoc, Option, Some, None, IsTrue}
 use Rattle.std.specs.List.{flat_map}
 use Rattle.std.specs.Prelude.{IfSome}
-use Rattle.std.proofs.lemmas.List.{append-nil, length-map}
+use Rattle.std.proofs.lemmas.List.{length-map}
 use Rattle.std.proofs.lemmas.List.Elements.{All-cons, All-head, All-nil, All-tail}
 use Rattle.proof_rules.specs.Text.{ended}
-use Rattle.cave_base.specs.Box.{Point, cell_count, coordinates, is_small}
+use Rattle.cave_base.specs.Box.{cell_count, is_small}
 use Rattle.cave_base.proofs.CellLemmas.{coordinates_within}
 use Rattle.cave_model.specs.Cave.{Cave}
 use Rattle.cave_plan.specs.PlanText as plans
 use Rattle.certificate_lines.specs.Numbers.{IsSmall}
 use Rattle.certificate_lines.proofs.Lift.{sides}
 use Rattle.plan_reading.specs.PlanLines.{IsNear, TellsTorches, Told, dark_line, head_line, told_at, torch_line}
-use Rattle.plan_reading.specs.declared.torch.ToldTorch.{ToldTorch}
 use Rattle.plan_reading.proofs.LineLemmas.{ended_first}
 
 -- the first two lines

@@ -1,22 +1,17 @@
 -- Torches put one after another.
-use Rattle.std.proofs.Common.{◌≡◌, ◌≢◌, ℕ, ◌+◌, ◌<◌, ◌≤◌, ◌⊎◌, inl, inr, Bool, true, false, ◌&&◌, IsTrue, List, [], ◌∷◌}
+use Rattle.std.proofs.Common.{◌≡◌, ◌≢◌, ℕ, ◌<◌, ◌≤◌, ◌⊎◌, inl, inr, Bool, true, false, ◌&&◌, IsTrue, List, [], ◌∷◌}
 use Rattle.std.proofs.Common.{◌++◌, length, map, set, take, get_or, Contains, refl, sym, ap, subst, arith, ◌∙◌}
-use Rattle.std.proofs.Common.{Result, Ok, Err, length-set, get_or-set_same, get_or-set_other, true≢false}
-use Rattle.std.specs.Prelude.{MatchResult}
+use Rattle.std.proofs.Common.{length-set, true≢false}
 use Rattle.std.proofs.lemmas.Bool.{cases_eq, cases_lt}
-use Rattle.std.proofs.lemmas.List.{get_or-map, get_or-take, get_or_append_left, get_or_push, get_or_default, length-map}
-use Rattle.std.proofs.lemmas.List.{length-take-le, length_push, map_push, set-set, set_comm, take_more}
-use Rattle.std.proofs.lemmas.List.Elements.{Contains-get_or}
-use Rattle.cave_base.specs.Answer.{IsRefusal}
+use Rattle.std.proofs.lemmas.List.{get_or-map, get_or-take, get_or_append_left, get_or_push, length-map}
+use Rattle.std.proofs.lemmas.List.{length-take-le, length_push, map_push, set_comm}
 use Rattle.cave_base.specs.Box.{Point, cell_count, is_small, is_within}
 use Rattle.cave_base.specs.Class.{IsSoundClass, new_torch, void}
 use Rattle.cave_base.specs.declared.class.Class.{Class}
 use Rattle.cave_model.specs.Cave.{Cave, IsSound, IsWorld, cave, class_at}
-use Rattle.cave_model.specs.Least.{IsLeast}
 use Rattle.cave_model.specs.Plan.{cave_with, classes_with}
 use Rattle.cave_model.specs.Rule.{IsRule, Rule}
-use Rattle.cave_model.specs.Torches.{can_hold, is_legal}
-use Rattle.cave_model.specs.declared.hang.Hang.TheVariants.{Floor}
+use Rattle.cave_model.specs.Torches.{is_legal}
 use Rattle.cave_model.proofs.TorchLemmas as with_torches
 use Rattle.plan_reading.specs.Placed.{AllMayStand, IsNoPlan, IsPlanFault, MayStand, NamesIllegal, StandsIllegally}
 use Rattle.plan_reading.specs.Placed.{cell_of, illegal, point_of, torch_at}

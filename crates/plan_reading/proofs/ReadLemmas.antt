@@ -1,7 +1,7 @@
 -- What reading the first lines of a plan answers, and that it answers nothing else.
 use Rattle.std.proofs.Common.{◌≡◌, ◌≢◌, ℕ, ◌+◌, ◌<◌, ◌⊎◌, inl, inr, List, [], ◌∷◌, ◌++◌, length, map, All, refl, sym}
 use Rattle.std.proofs.Common.{ap, subst, arith, ◌∙◌, append_assoc, Option, Some, None, Result, Ok, Err, codes}
-use Rattle.std.specs.Prelude.{IfErr, IfOk, IfSome, MatchResult, decimal}
+use Rattle.std.specs.Prelude.{IfErr, IfOk, IfSome, decimal}
 use Rattle.std.proofs.lemmas.List.{length_push, map_push}
 use Rattle.std.proofs.lemmas.List.Elements.{All-head, All-nil, All-push, All-tail}
 use Rattle.proof_rules.specs.Text.{ended}
@@ -18,7 +18,7 @@ use Rattle.plan_reading.specs.Fields.{BeginsWithDark, BeginsWithHead, BeginsWith
 use Rattle.plan_reading.specs.Placed.{IsNoPlan}
 use Rattle.plan_reading.specs.PlanLines.{AreFirstLines, IsFirstMisfit, IsInRange, IsNear, TellsTorches, Told}
 use Rattle.plan_reading.specs.PlanLines.{corner_line, corner_lines, dark_line, head_line, lines_of, torch_line}
-use Rattle.plan_reading.specs.Walked.{IsOpening, Opening, Opens, PassesCorner, Took, Walks, opening_lines}
+use Rattle.plan_reading.specs.Walked.{Opening, Opens, PassesCorner, Took, opening_lines}
 use Rattle.plan_reading.specs.declared.fault.TorchesFault.{TorchesFault}
 use Rattle.plan_reading.specs.declared.fault.TorchesFault.TheVariants as faults
 use Rattle.plan_reading.specs.declared.torch.ToldTorch.{ToldTorch}

@@ -1,5 +1,5 @@
 -- What the parts of a line are read as, from the front of a text.
-use Rattle.std.specs.Prelude.{◌≡◌, ◌<◌, ◌⊎◌, ℕ, List, ◌∷◌, ◌++◌, codes, decimal, Option, IfSome}
+use Rattle.std.specs.Prelude.{◌≡◌, ◌<◌, ◌⊎◌, ℕ, List, ◌∷◌, ◌++◌, decimal, Option, IfSome}
 use Rattle.certificate_lines.specs.Cuts.{HasNoFeed}
 use Rattle.certificate_lines.specs.Numbers.{IsSmall}
 use Rattle.cave_model.specs.declared.hang.Hang.{Hang}

@@ -1,5 +1,5 @@
 -- Torches put one after another among the classes of a cave's cells.
-use Rattle.std.specs.Prelude.{◌≡◌, ℕ, IsTrue, List, map, set, slice_index_or}
+use Rattle.std.specs.Prelude.{◌≡◌, IsTrue, List, map, set, slice_index_or}
 use Rattle.cave_base.specs.Box.{is_within}
 use Rattle.cave_base.specs.Class.{new_torch, void}
 use Rattle.cave_base.specs.declared.class.Class.{Class}

@@ -1,4 +1,4 @@
-use Rattle.std.proofs.Common.{◌≡◌, ℕ, ◌<◌, List, Option, Some, None, get_or, ap, sym, ◌∙◌}
+use Rattle.std.proofs.Common.{◌≡◌, ℕ, ◌<◌, List, Option, Some, None, get_or, ap, sym}
 use Rattle.std.specs.Prelude.{IfSome}
 use Rattle.cave_base.specs.Box.{Point, cell_count}
 use Rattle.cave_model.specs.Cells.{neighbours_of}

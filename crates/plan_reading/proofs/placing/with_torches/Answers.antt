@@ -1,6 +1,6 @@
-use Rattle.std.proofs.Common.{List, map, refl, subst, sym, ◌∙◌}
+use Rattle.std.proofs.Common.{map, refl, subst, sym, ◌∙◌}
 use Rattle.std.proofs.lemmas.Result.{err_from_is_err_and}
-use Rattle.cave_model.specs.Cave.{Cave, IsWorld}
+use Rattle.cave_model.specs.Cave.{IsWorld}
 use Rattle.cave_model.specs.Rule.{IsRule}
 use Rattle.plan_reading.specs.Placed.{cell_of}
 use Rattle.plan_reading.proofs.PutLemmas.{all_clean, illegal_refused, put_cave, put_world, unread_refused}

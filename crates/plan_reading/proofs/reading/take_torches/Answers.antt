@@ -1,4 +1,4 @@
-use Rattle.std.proofs.Common.{◌≡◌, ◌∙◌, ◌+◌, length, List, ℕ, subst, sym, ap, arith, refl}
+use Rattle.std.proofs.Common.{◌∙◌, ◌+◌, length, List, ℕ, subst, sym, ap, arith, refl}
 use Rattle.std.proofs.lemmas.List.{length_push}
 use Rattle.plan_reading.specs.Walked.{Took}
 use Rattle.plan_reading.specs.declared.torch.ToldTorch.{ToldTorch}
