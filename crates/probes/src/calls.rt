@@ -130,7 +130,7 @@ fn run_dark_is_wrong(alloc: Global, pillar: &[u8]) -> bool {
         &mut writer,
     );
     match ended {
-        Ok(()) => writer.taken() != b"dark 1\n0 1 0\n",
+        Ok(()) => writer.taken() != b"dark 1\n0 1 0\n".as_slice(),
         Err(RunFault::OutOfMemory) => !writer.taken().is_empty(),
         Err(_) => true,
     }
@@ -158,7 +158,7 @@ fn run_levels_is_wrong(alloc: Global, pillar: &[u8]) -> bool {
         &mut writer,
     );
     match ended {
-        Ok(()) => writer.taken() != b"levels 1 3 1\n0\ne\nd\n",
+        Ok(()) => writer.taken() != b"levels 1 3 1\n0\ne\nd\n".as_slice(),
         Err(RunFault::OutOfMemory) => !writer.taken().is_empty(),
         Err(_) => true,
     }
