@@ -1,9 +1,9 @@
-"""What the planner answers of a cave: its dark cells, its plan, and the verdict on the plan's proof."""
+"""What the planner answers of a cave: its dark cells, its levels, its plan, and the verdict on the plan's proof."""
 import os
 import sys
 from collections import namedtuple
 
-from plans import read_dark, read_plan
+from plans import read_dark, read_levels, read_plan
 from program import EDGE
 from refusals import Refusal, unwritable
 
@@ -44,6 +44,15 @@ def darkness(program, folder, name="plan.txt"):
     path = lambda name: os.path.join(folder, name)
     _, text, kept = answer(program, "dark", [path("cave.nbt"), "--progress"], path(name))
     return Darkness(read_dark(text), kept.get(EDGE))
+
+
+def levels(program, folder, *plan):
+    """Has it tell the level of each cell of that cave, by their numbers; with the torches of a plan where a file of the
+    folder is named that has one."""
+    path = lambda name: os.path.join(folder, name)
+    _, text, _ = answer(program, "levels", list(map(path, ["cave.nbt", *plan])), path("plan.levels"))
+    os.remove(path("plan.levels"))
+    return read_levels(text)
 
 
 def planned(program, folder, told, dark):

@@ -118,7 +118,6 @@ def say_notes(outcome):
 def filled(folder, cave, outcome, terms, version, is_reached):
     """Writes what is made of a plan into its folder; the torches to take away and to place."""
     told, box = terms.told, outcome.layout.box
-    levels = planning.levels_after(outcome, terms)
     said = {"command": told.command, "rule": terms.rule, "headroom": told.headroom, "table": terms.table.name}
     said.update(version=version, files={}, total=len(outcome.plan.torches))
     if terms.table.path is None or outcome.layout.rows:
@@ -136,7 +135,7 @@ def filled(folder, cave, outcome, terms, version, is_reached):
     plan = outcome.plan._replace(torches=walks.in_order(others) + walks.in_order(apart))
     said["apart"], said["away"] = len(apart), walks.in_order(away)
     notes = outcome.notes + [APART.format(counted(len(apart), "torch lights", "torches light"))] * bool(apart)
-    outputs.write(folder, box, plan, outcome.dark, levels, outcome.verdict, said, notes)
+    outputs.write(folder, box, plan, outcome.dark, outcome.levels, outcome.verdict, said, notes)
     return away, placed
 
 

@@ -2,7 +2,7 @@
 stand better, while all cells stay lit. Better is, in each region: the darkest cell brighter, else more light in all."""
 from collections import namedtuple
 
-from levels import Field
+from fields import Field
 from places import hangs_of
 from plans import Torch
 from windows import BRIGHT, REACH, Window, count_of
@@ -17,14 +17,14 @@ Lamp = namedtuple("Lamp", "at levels")
 class Region:
     """Dark cells that torches light together.
 
-    cells   their numbers
-    levels  for each the light that is there without new torches
-    lamps   the torches"""
+    cells  the number and the position of each
+    base   the level of each by its number, without new torches
+    lamps  the torches"""
 
     def __init__(self, box, field, base, cells, torches):
         self.box, self.field = box, field
         self.cells = [(number, *box.position(number)) for number in cells]
-        self.base = {number: base[field.place(number)] for number in cells}
+        self.base = {number: base[number] for number in cells}
         self.lamps = [self.lamp(torch) for torch in torches]
 
     def lamp(self, at):
@@ -140,11 +140,11 @@ def are_near(one, other):
     return max(abs(a - b) for a, b in zip(one, other)) <= 2 * REACH + STEPS
 
 
-def brightened(box, rows, regions, need):
-    """Where the torches of regions stand better: the new torch by the number of each that moves. A region is told by
-    the numbers of its dark cells and of its torches."""
+def brightened(box, rows, base, regions, need):
+    """Where the torches of regions stand better: the new torch by the number of each that moves. `base` has the
+    level of each cell without them; a region is told by the numbers of its dark cells and of its torches."""
     field, hangs = Field(box, rows), hangs_of(box, rows)
-    base, work, moved = field.spread(field.sources), WORK, {}
+    work, moved = WORK, {}
     for cells, torches in regions:
         region = Region(box, field, base, cells, [box.position(number) for number in torches])
         search = Search(region, hangs, need, work)

@@ -1,7 +1,7 @@
 """What doesn't matter to a plan: cells that may stay dark, and cells that may have no torch. A block under a cell that
 may stay dark is read as no ground, a cell without a torch as no place: by rows of made names, alike in all else."""
 from boxes import Box
-from levels import BRIGHTEST, Field
+from fields import OPAQUE, Field
 from rows import COLUMNS, Row, class_of
 from windows import REACH, Window
 
@@ -63,7 +63,7 @@ def alone(box, rows, seeds):
         y, z = divmod(start // wide, long)
         if 0 < y < tall - 1 and 0 < z < long - 1:
             line = field.costs[at : at + wide]
-            is_open.update((at + x, start + x) for x in range(1, wide - 1) if line[x] < BRIGHTEST)
+            is_open.update((at + x, start + x) for x in range(1, wide - 1) if line[x] < OPAQUE)
     waiting = [field.place(box.number(*own(at))) for at in seeds]
     for at in waiting:
         is_open.pop(at, None)

@@ -1,18 +1,13 @@
 """Where a torch may stand or hang, and what a map shows of a cell, by the rows of a table (docs/FORMATS.md)."""
-from levels import Field
-from rows import class_of
+from fields import Field
 
 PUT, TOP, SIDE = 1, 2, 4
 
 
 def hangs_of(box, rows):
     """How a torch hangs in each cell that can have one, by the cell's number: the first way that fits."""
-    field = Field(box, rows, is_lenient=True)
-    classes = [class_of(rows, state) for state in box.palette]
-    flags = [(row.put * PUT + row.top * TOP + row.side * SIDE) if row else 0 for row in classes] + [0]
-    told = bytearray(len(field.costs))
-    for start, at in field.rows_of_cells():
-        told[at : at + field.wide] = bytes([flags[cell] for cell in box.cells[start : start + field.wide]])
+    field = Field(box, rows)
+    told = field.told(lambda row: row.put * PUT + row.top * TOP + row.side * SIDE, 0)
     ways = [("floor", -field.layer, TOP), ("north", field.row, SIDE), ("east", -1, SIDE), ("south", -field.row, SIDE),
             ("west", 1, SIDE)]
     found = {}

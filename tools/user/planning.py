@@ -8,7 +8,6 @@ import slabs
 import structures
 import tables
 from folders import put
-from levels import light_levels
 from rearranging import rearranged
 from program import UNLIGHTABLE, Ended
 
@@ -23,9 +22,9 @@ Terms = namedtuple("Terms", "told table rows rule")
 # stand for others; the rows of those names; the structure file; and whether its outermost layers are a shell.
 Layout = namedtuple("Layout", "box read rows data has_shell")
 
-# A plan, the cells that were dark before, the verdict on the proof (None where the search was stopped), what the
-# planner read, and what has to be known, in lines.
-Outcome = namedtuple("Outcome", "plan dark verdict layout notes")
+# A plan, the cells that were dark before, the level of each cell with the torches, the verdict on the proof (None where
+# the search was stopped), what the planner read, and what has to be known, in lines.
+Outcome = namedtuple("Outcome", "plan dark levels verdict layout notes")
 
 
 def layout_of(box, read, rows, has_shell):
@@ -77,10 +76,11 @@ def planned(program, folder, terms, layout):
             if UNLIGHTABLE not in ended.kept or layout.box is None:
                 raise
             told = tuple(map(int, ended.kept[UNLIGHTABLE].split()))
-        cells = slabs.needed(layout.read, rows_for(terms, layout), dark.cells, NEEDS[terms.rule], told)
+        rows, need = rows_for(terms, layout), NEEDS[terms.rule]
+        cells = slabs.needed(program, folder, layout.read, rows, dark.cells, need, told)
         if terms.told.barred:
             lines.append(f"{LEFT}{len(cells):,}")
-            layout = without(layout, rows_for(terms, layout), cells)
+            layout = without(layout, rows, cells)
         else:
             lines += slabs.lines(layout.box, cells)
             layout = with_slabs(layout, cells)
@@ -89,14 +89,4 @@ def planned(program, folder, terms, layout):
         plan, verdict = rearranged(program, folder, layout.read, rows, dark.cells, need, plan, verdict)
     if layout.box is not None and not layout.has_shell:
         lines = edges.lines(dark.edge, layout.box, terms.rows, dark.cells) + lines
-    return Outcome(plan, dark.cells, verdict, layout, lines)
-
-
-def levels_after(outcome, terms):
-    """The light of each cell once the torches stand. None where Python can't read the table, or reads it otherwise than
-    the planner, so that a cell would seem dark."""
-    rows, box = rows_for(terms, outcome.layout), outcome.layout.read
-    levels = None if rows is None else light_levels(box, rows, outcome.plan.torches)
-    if levels is None or any(levels[box.number(*at)] < NEEDS[terms.rule] for at in outcome.dark):
-        return None
-    return levels
+    return Outcome(plan, dark.cells, answers.levels(program, folder, "plan.txt"), verdict, layout, lines)

@@ -1,4 +1,5 @@
-"""Reading plans, as `torchplan plan` prints them, and lists of dark cells, as `torchplan dark` prints them."""
+"""Reading what the program prints: plans, lists of dark cells, and levels."""
+import math
 from collections import namedtuple
 
 from refusals import Damaged
@@ -35,6 +36,8 @@ def read_plan(text):
             torches.append(Torch(int(x), int(y), int(z), hang))
     return Plan(torches, dark, at_least, layers)
 
+
+DIGITS = bytes.maketrans(b"0123456789abcdef", bytes(range(16)))
 
 SIGNS = {"floor": "T", "north": "^", "east": ">", "south": "v", "west": "<"}
 
@@ -73,3 +76,13 @@ def read_dark(text):
     if first[:1] != ["dark"]:
         raise Damaged("dark cells: their first line begins with 'dark'")
     return [tuple(map(int, words)) for words in rest]
+
+
+def read_levels(text):
+    """The level of each cell that a text tells, in the order of the cells' numbers."""
+    first, _, rest = text.partition("\n")
+    words, levels = first.split(), rest.encode().translate(DIGITS, b"\n")
+    is_whole = words[:1] == ["levels"] and len(levels) == math.prod(map(int, words[1:]))
+    if not is_whole or max(levels, default=0) > 15:
+        raise Damaged("levels: a line of their sides comes first, then a digit for each cell")
+    return levels

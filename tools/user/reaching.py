@@ -1,7 +1,6 @@
 """Where one gets to from a place by walking, jumping, climbing, swimming and falling, as far as blocks are known. It
 errs towards more: what isn't full lets one through, and a jump carries four blocks."""
-from levels import Field
-from rows import class_of
+from fields import Field
 
 THROUGH, HOLDS = 1, 2  # one can be in the cell; one can rise in it, as in water or on a ladder
 JUMP = 4
@@ -12,11 +11,8 @@ class Ground(Field):
     """A box, with what its cells are to somebody who walks, and about it what nobody enters."""
 
     def __init__(self, box, rows):
-        super().__init__(box, rows, is_lenient=True)
-        flags = [flags_of(class_of(rows, state)) for state in box.palette] + [0]
-        self.flags = bytearray(len(self.costs) + self.layer)
-        for start, at in self.rows_of_cells():
-            self.flags[at : at + self.wide] = bytes([flags[cell] for cell in box.cells[start : start + self.wide]])
+        super().__init__(box, rows)
+        self.flags = self.told(flags_of, 0) + bytes(self.layer)
 
     def has_room(self, at):
         """Whether somebody fits there, with the feet in this cell."""
@@ -63,7 +59,7 @@ class Ground(Field):
 
 def flags_of(row):
     """What a cell of that row is to somebody who walks."""
-    if row is None or row.stand or row.top or row.side:
+    if row.stand or row.top or row.side:
         return 0
     return THROUGH if row.free else THROUGH | HOLDS
 

@@ -24,13 +24,13 @@ def rearranged(program, folder, box, rows, dark, need, plan, verdict):
     was where Python draws it otherwise than the planner, or the planner doesn't accept what was moved."""
     signs = [sign_of(class_of(rows, state)) for state in box.palette]
     before = read(folder, "plan.txt")
-    if plans.text_of(plan, box, signs) != before:
+    if not plan.torches or plans.text_of(plan, box, signs) != before:
         return plan, verdict
     number = lambda at: box.number(*at[:3])
     proof = None if verdict is None else read(folder, "plan.proof")
     regions = [(list(map(number, dark)), list(map(number, plan.torches)))]
     regions = regions if proof is None else certificates.regions_of(proof)
-    moved = brightening.brightened(box, rows, regions, need)
+    moved = brightening.brightened(box, rows, answers.levels(program, folder), regions, need)
     if not moved:
         return plan, verdict
     torches = [moved.get(number(torch), torch) for torch in plan.torches]

@@ -2,11 +2,15 @@
 what a cell of it is to the box. Its light is that which arrives there in the world, as if the cell itself shone, so the
 light inside the box is the world's. Nothing is planned in the shell: it has no room and no place for a torch, but where
 a mob in the box's highest layer has its head."""
+import re
+
 from boxes import Box
-from levels import Field
+from fields import Field
 from rows import Row, class_of
 
 MARGIN = 16  # layers about a box that are read: light that comes from farther has faded
+BRIGHTEST = 15
+SHINES = re.compile(rb"[^\0]")
 
 
 def outer(size):
@@ -22,11 +26,31 @@ def outer(size):
                 yield start + wide - 1, is_high
 
 
+def light_of(field):
+    """The block light of each cell of a field (Minecraft Wiki, "Light"), by what shines in it: from the brightest down,
+    each round has the cells that reached its level."""
+    levels, rounds = field.told(lambda row: row.emission, 0), [[] for _ in range(BRIGHTEST + 1)]
+    for found in SHINES.finditer(bytes(levels)):
+        rounds[levels[found.start()]].append(found.start())
+    costs, steps = field.costs, (-1, 1, -field.row, field.row, -field.layer, field.layer)
+    for level in range(BRIGHTEST, 1, -1):
+        for at in rounds[level]:
+            if levels[at] != level:
+                continue
+            for step in steps:
+                other = at + step
+                brought = level - costs[other]
+                if brought > levels[other]:
+                    levels[other] = brought
+                    rounds[brought].append(other)
+    return levels
+
+
 def shelled(box, around, rows, headroom):
     """A box as the planner reads it, whose outermost layers are its shell, and the rows of the shell's states. `around`
     is a larger box of the same world, `rows` those of the table, `headroom` the free cells that a mob needs."""
-    field = Field(around, rows, is_lenient=True)
-    levels = field.spread(field.sources)
+    field = Field(around, rows)
+    levels = light_of(field)
     offset = [at - low for at, low in zip(box.corner, around.corner)]
     classes = [class_of(rows, state) for state in box.palette]
     found = Box(box.size, list(box.palette), box.cells[:], box.corner, box.dimension, box.data_version, box.name)

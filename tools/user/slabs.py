@@ -1,19 +1,24 @@
 """Cells in which a mob could spawn and that no torch can light. A slab in the lower half of such a cell keeps mobs
 away, so the rest is planned as if it were there: it counts as no room, and light doesn't pass it."""
+import answers
+import plans
 from boxes import Box
-from levels import levels_from
+from folders import put
 from places import hangs_of
-from rows import TORCH, Row
+from rows import Row
 
 SLAB = "torchplan:slab", {}
 ROW = Row(SLAB[0].encode(), {}, 15, 0, False, False, False, False, False)
 
 
-def needed(box, rows, dark, need, told):
-    """The dark cells that no torch can light, the one that the planner told among them."""
+def needed(program, folder, box, rows, dark, need, told):
+    """The dark cells that no torch can light, the one that the planner told among them: those that stay dark with a
+    torch at every place. The folder has the cave, and gets a plan of these torches."""
     if rows is None:
         return [told]
-    levels = levels_from(box, rows, {number: TORCH.emission for number in hangs_of(box, rows)})
+    torches = [plans.Torch(*box.position(number), hang) for number, hang in hangs_of(box, rows).items()]
+    put(folder, "plan.txt", plans.text_of_torches(plans.Plan(torches, len(dark), None, {})).encode())
+    levels = answers.levels(program, folder, "plan.txt")
     return sorted({told, *(at for at in dark if levels[box.number(*at)] < need)}, key=lambda at: box.number(*at))
 
 

@@ -1,5 +1,5 @@
 """A part of a box as bits, one for each cell, in which light spreads in all directions at once."""
-from levels import CLOSED
+from fields import CLOSED
 from rows import TORCH
 
 BRIGHT = TORCH.emission

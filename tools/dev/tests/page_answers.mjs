@@ -5,7 +5,7 @@ import path from "node:path";
 import vm from "node:vm";
 
 const names = `boxFile, brightened, filesOfPlan, caveOfFile, caveOfWorld, chosenTable, edgeLines, inWalkOrder,
-  levelsAfter, plainNameOfCave, planFile, planWorld, readDark, readPlan, readRows, rowsOfTable, rowText, seenOf, sha256,
+  plainNameOfCave, planFile, planWorld, readDark, readPlan, readRows, rowsOfTable, rowText, seenOf, sha256,
   tableForUnknown, textOf, withShell, DATA`;
 const page = vm.runInThisContext(`${fs.readFileSync(process.argv[2], "utf-8")}; ({ ${names} })`);
 const bytesOf = (text) => new Uint8Array(Buffer.from(text, "base64"));
@@ -58,8 +58,7 @@ const answers = {
   /** The files of a plan. */
   async files(asked) {
     const { box } = await caveOf(asked), plan = page.readPlan(asked.plan), dark = page.readDark(asked.dark);
-    const table = page.chosenTable(box.dataVersion, null, asked.isSteady);
-    const levels = page.levelsAfter(box, page.rowsOfTable(table.text), dark, plan, asked.rule);
+    const levels = bytesOf(asked.levels);
     return textsOf(await page.filesOfPlan(box, plan, dark, levels, asked.verdict, asked.told, asked.notes));
   },
 
@@ -89,7 +88,7 @@ const answers = {
   /** Where torches stand better. */
   async bright(asked) {
     const { box } = await caveOf(asked), rows = page.readRows(page.chosenTable(box.dataVersion).text);
-    const moved = page.brightened(box, rows, asked.regions, asked.need);
+    const moved = page.brightened(box, rows, bytesOf(asked.levels), asked.regions, asked.need);
     return [...moved].map(([number, { x, y, z, hang }]) => [number, [x, y, z, hang]]);
   },
 

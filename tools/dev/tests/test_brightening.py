@@ -6,7 +6,7 @@ import paths
 import brightening
 import certificates
 import random_caves
-from levels import Field
+from fields import Field
 from places import hangs_of, sign_of
 from plans import Plan, Torch, text_of
 from rows import Row, class_of
@@ -25,6 +25,11 @@ def room(wide, long, floor=STONE):
             cells[x, 0, z] = floor
             cells[x, 1, z] = cells[x, 2, z] = AIR
     return box_of((wide + 2, 4, long + 2), cells)
+
+
+def levels_of(box, cave):
+    """The level of each cell of a box by its number, as its meaning has it."""
+    return bytes(cave.levels.get(box.position(number), 0) for number in range(len(box.cells)))
 
 
 def darkest(cave, torches):
@@ -50,7 +55,8 @@ def cover(cave, rng):
 class Light(unittest.TestCase):
     def best(self, box, cave, torches, need=1):
         number = lambda at: box.number(*at)
-        moved = brightening.brightened(box, [], [(list(map(number, cave.dark)), list(map(number, torches)))], need)
+        regions = [(list(map(number, cave.dark)), list(map(number, torches)))]
+        moved = brightening.brightened(box, [], levels_of(box, cave), regions, need)
         found = [tuple(moved[number(at)][:3]) if number(at) in moved else at for at in torches]
         for torch in moved.values():
             self.assertEqual(torch.hang, cave.hangs[torch[:3]])
@@ -91,7 +97,7 @@ class Light(unittest.TestCase):
             self.assertGreaterEqual(darkest(cave, found), darkest(cave, torches))
         self.assertGreater(tried, 40)
 
-    def test_a_window_spreads_light_as_a_field_does(self):
+    def test_a_window_spreads_light_as_a_calculation_apart_does(self):
         for seed in range(30):
             rng, size = random.Random(seed), (11, 7, 11)
             cells, free = random_caves.rooms_of(rng, size)
@@ -100,17 +106,17 @@ class Light(unittest.TestCase):
                 states[at] = rng.choice([("minecraft:water", {}), AIR, ("cave:fog", {})])
             box = box_of(size, states)
             rows = [row for row in FOG if any(name == "cave:fog" for name, _ in box.palette)]
-            field = Field(box, rows)
+            field, cave = Field(box, rows), cave_of(box, rows, 2, 1)
             for at in rng.sample(sorted(hangs_of(box, rows)), min(5, len(hangs_of(box, rows)))):
                 at = box.position(at)
                 window = Window(field, at, 5)
                 spread = window.spread(window.bit(*at))
-                levels = field.spread({field.place(box.number(*at)): 14})
+                levels = cave.levels_from({at: 14})
                 for number in range(len(box.cells)):
                     place = box.position(number)
                     if sum(abs(a - b) for a, b in zip(place, at)) < 5:
                         level = max([level for level in range(1, 15) if spread[level] >> window.bit(*place) & 1], default=0)
-                        self.assertEqual(level, levels[field.place(number)])
+                        self.assertEqual(level, levels.get(place, 0))
 
     def test_hangs_are_those_of_the_rules(self):
         for seed in range(40):

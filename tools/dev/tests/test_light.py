@@ -19,11 +19,12 @@ import zipfile
 
 import paths
 import answers
+from packed_program import unpacked
 from program import lines_of
 from repository import EXAMPLES, TOOLS, TOP
 from saved_worlds import V1_16, V1_18, V1_21, Saved, chunk, nbt
 from small_nbt import read_packed
-from test_page import data_of
+from test_page import data_of, unrun
 from test_schematic_files import sponge
 
 SCRIPT = os.path.join(TOOLS, "user", "light")
@@ -33,13 +34,18 @@ LOADER.exec_module(LIGHT)
 PLAIN = ["README.txt", "index.html", "plan.check", "plan.proof", "plan.txt"]
 FILES = [*PLAIN, "room-torches.litematic", "room-torches.nbt", "room-torches.zip"]
 # Answers each command by the files beside it, the first time by others where there are such, and writes down the words
-# that it got, each with a mark behind it.
+# that it got, each with a mark behind it. Without a file of levels the program itself tells them, of the cave alone
+# where the torches of an answer can't stand there.
 PLANNER = """#!/bin/sh
 at='{folder}'
 for word; do printf '%s@' "$word"; done >>"$at/calls"
 echo >>"$at/calls"
 [ "$1" = --version ] || cp "$2" "$at/read.nbt"
 [ ! -e "$at/$1.first" ] || {{ mv "$at/$1.first" "$at/$1.begun"; . "$at/$1.begun"; }}
+if [ "$1" = levels ] && [ ! -e "$at/levels.out" ]; then
+    '{program}' "$@" 2>"$at/levels.err" || {{ cave=$2; shift 3; '{program}' levels "$cave" "$@"; }}
+    exit
+fi
 cat "$at/$1.err" >&2
 cat "$at/$1.out"
 . "$at/$1.more"
@@ -63,6 +69,12 @@ def structure(block=room, size=(5, 4, 3), **more):
 
 
 class Commands(unittest.TestCase):
+    @classmethod
+    def setUpClass(cls):
+        room = tempfile.TemporaryDirectory()
+        cls.addClassCleanup(room.cleanup)
+        cls.program = unpacked(room.name)
+
     def setUp(self):
         room = tempfile.TemporaryDirectory()
         self.addCleanup(room.cleanup)
@@ -76,7 +88,7 @@ class Commands(unittest.TestCase):
         planned.start()
         self.addCleanup(planned.stop)
         with open(self.planner, "w", encoding="utf-8") as file:
-            file.write(PLANNER.format(folder=self.tools))
+            file.write(PLANNER.format(folder=self.tools, program=self.program))
         os.chmod(self.planner, 0o755)
         self.answers = {"--version": {"out": "torchplan 9.8.7\n"}, "dark": {"out": DARK},
                         "plan": {"out": PLAN, "proof": "a proof\n"}, "check": {"out": "accepted 1\n"}}
@@ -173,18 +185,25 @@ class Structures(Commands):
     def test_the_words_that_the_planner_gets(self):
         self.run_light("room.nbt", "--rule", "1.17", "--headroom", "1", "--workers", "3", "--turns", "77", "--progress")
         rules = ["--table", os.path.join(EXAMPLES, "tables", "vanilla-1.21.toml"), "--rule", "1.17", "--headroom", "1"]
-        version, dark, plan, check = self.calls()
+        version, dark, plan, check, before, after = self.calls()
         self.assertEqual(dark[0::2][:1] + dark[2:], ["dark", "--progress", *rules])
         self.assertEqual(plan[2], "--proof")
         self.assertEqual(plan[4:], ["--turns", "77", "--workers", "3", "--progress", *rules])
         self.assertEqual(check[3:], rules)
         self.assertEqual(version, ["--version"])
+        self.assertEqual(before, ["levels", plan[1], *rules])
+        self.assertEqual(after, ["levels", plan[1], os.path.join(os.path.dirname(plan[1]), "plan.txt"), *rules])
 
     def test_turns_unless_it_is_to_the_end(self):
         self.run_light("room.nbt")
         self.assertIn("--turns", self.calls()[2])
         self.run_light("room.nbt", "--force", "--to-the-end")
         self.assertNotIn("--turns", self.calls()[2])
+
+    def slabs(self):
+        """The cells that were planned as slabs."""
+        with gzip.open(self.path("room-torches", "cave.nbt"), "rb") as file:
+            return {at for at, name in cells_of(file.read()).items() if name == "torchplan:slab"}
 
     def test_all_cells_that_no_torch_can_light_are_found_at_once(self):
         felt = ("cave:felt", {})
@@ -195,40 +214,44 @@ class Structures(Commands):
         self.answers["plan"] = {"first": "echo 'torchplan: unlightable 1 1 1' >&2; exit 3", "proof": "p",
                                 "out": "torches 0\ndark 0\n"}
         self.run_light("room.nbt", "--table", "mine.toml", "--headroom", "1")
-        with gzip.open(self.path("room-torches", "cave.nbt"), "rb") as file:
-            planned = cells_of(file.read())
         # above each of them a torch hangs on the wall, whose light reaches them from above
-        self.assertEqual({at for at, name in planned.items() if name == "torchplan:slab"}, {(1, 1, 1)})
-        self.answers["plan"]["first"] = "echo 'torchplan: unlightable 1 1 1' >&2; exit 3"
-        block = lambda x, y, z: felt if (x, y, z) in ((1, 1, 1), (3, 1, 1)) else STONE
-        self.put("room.nbt", structure(block))
+        self.assertEqual(self.slabs(), {(1, 1, 1)})
+        self.put("room.nbt", structure(lambda x, y, z: felt if (x, y, z) in ((1, 1, 1), (3, 1, 1)) else STONE))
         self.run_light("room.nbt", "--force", "--table", "mine.toml", "--headroom", "1")
-        with gzip.open(self.path("room-torches", "cave.nbt"), "rb") as file:
-            planned = cells_of(file.read())
-        self.assertEqual({at for at, name in planned.items() if name == "torchplan:slab"}, {(1, 1, 1), (3, 1, 1)})
+        self.assertEqual(self.slabs(), {(1, 1, 1), (3, 1, 1)})
+        # the planner has the last word on which light reaches a cell
+        self.put("room.nbt", structure(block))
+        self.answers["levels"] = {"out": "levels 5 4 3\n" + "00000\n" * 12}
+        self.run_light("room.nbt", "--force", "--table", "mine.toml", "--headroom", "1")
+        self.assertEqual(self.slabs(), {(1, 1, 1), (3, 1, 1)})
 
     def test_turns_are_fewer_for_many_dark_cells_and_never_without_bound(self):
         self.assertEqual([answers.turns_for(range(count)) for count in (0, 1, 4, 5, 88, 81_920)],
                          [1_000_000, 1_000_000, 1_000_000, 800_000, 45_454, 48])
 
-    def test_light_that_python_finds_too_faint_is_not_shown(self):
-        self.run_light("room.nbt")
-        self.assertIsNotNone(data_of(self.text("room-torches", "index.html"))["levels"])
-        # by the planner's answer a cell within the stone was dark and is lit, which Python doesn't find
-        self.answers["dark"]["out"] = "dark 4\n1 1 1\n2 1 1\n3 1 1\n4 3 2\n"
-        self.run_light("room.nbt", "--force")
-        self.assertIsNone(data_of(self.text("room-torches", "index.html"))["levels"])
+    def levels(self):
+        """The levels that the page shows, layer by layer."""
+        return unrun(data_of(self.text("room-torches", "index.html"))["levels"])
 
-    def test_light_has_to_be_enough_for_the_rule(self):
-        # at the far end of 12 cells a torch gives 3: enough by the rule of 1.18 and too little by that of 1.17
-        long = lambda x, y, z: AIR if 1 <= x <= 12 and y in (1, 2) and z == 1 else STONE
-        self.put("room.nbt", structure(long, (14, 4, 3)))
-        self.answers["dark"]["out"] = "dark 2\n1 1 1\n12 1 1\n"
-        self.answers["plan"]["out"] = "torches 1\ndark 2\nT 1 1 1 floor\n"
-        for rule, is_shown in (("1.18", True), ("1.17", False)):
-            self.run_light("room.nbt", "--force", "--rule", rule)
-            data = data_of(self.text("room-torches", "index.html"))
-            self.assertEqual(data["levels"] is not None, is_shown, rule)
+    def test_the_page_shows_the_levels_that_the_planner_tells_of_the_plan(self):
+        self.run_light("room.nbt")
+        self.assertEqual(self.levels(), [0] * 15 + [0] * 6 + [13, 14, 13] + [0] * 6 + [0] * 6 + [12, 13, 12] + [0] * 21)
+        told = [(7 * cell) % 16 for cell in range(60)]
+        rows = ["".join(f"{level:x}" for level in told[start : start + 5]) for start in range(0, 60, 5)]
+        self.answers["levels"] = {"out": "\n".join(["levels 5 4 3", *rows, ""])}
+        self.run_light("room.nbt", "--force")
+        self.assertEqual(self.levels(), told)
+
+    def test_levels_of_a_table_that_python_cannot_read(self):
+        self.put("mine.toml", b'row = [{ name = "minecraft:stone", opacity = 1_5, stand = true, top = true }]')
+        with unittest.mock.patch("toml_rows.tomllib", None):
+            self.run_light("room.nbt", "--table", "mine.toml")
+        self.assertEqual(self.levels()[21:24], [13, 14, 13])
+
+    def test_levels_that_are_none(self):
+        for text in ("", "levels 5 4 3\n00000\n", "torches 1\n"):
+            self.answers["levels"] = {"out": text}
+            self.assertIn("answers otherwise than torchplan: levels: ", self.refused("room.nbt", status=1))
 
     def test_a_stopped_plan(self):
         plan = PLAN.replace("torches 1", "torches 2 at-least 1").replace("T 2 1 1", "T 1 1 1 floor\nT 3 1 1")
@@ -237,7 +260,7 @@ class Structures(Commands):
         self.assertIn("room: 2 torches for 3 dark cells, safe; at least 1 is needed; more time may find fewer\n", out)
         left = set(FILES) - {"plan.proof", "plan.check"}
         self.assertEqual(set(os.listdir(self.path("room-torches"))), left)
-        self.assertEqual([call[0] for call in self.calls()], ["--version", "dark", "plan"])
+        self.assertEqual([call[0] for call in self.calls()], ["--version", "dark", "plan", "levels"])
 
     def test_no_cell_is_dark(self):
         self.answers.update({"dark": {"out": "dark 0\n"}, "plan": {"out": "torches 0\ndark 0\n", "proof": "p"},
@@ -311,10 +334,9 @@ class Structures(Commands):
         self.assertNotIn("unlightable", err)
         self.assertIn(f"\n{told}", self.text("room-torches", "README.txt"))
         self.assertIn(told, self.text("room-torches", "index.html"))
-        self.assertEqual([call[0] for call in self.calls()], ["--version", "dark", "plan", "dark", "plan", "check"])
-        with gzip.open(self.path("room-torches", "cave.nbt"), "rb") as file:
-            planned = cells_of(file.read())
-        self.assertEqual({at for at, name in planned.items() if name == "torchplan:slab"}, {(3, 1, 1)})
+        self.assertEqual([call[0] for call in self.calls()],
+                         ["--version", "dark", "plan", "levels", "dark", "plan", "check", "levels"])
+        self.assertEqual(self.slabs(), {(3, 1, 1)})
         self.assertIn('[[row]]\nname = "torchplan:slab"\nopacity = 15\n', self.text("room-torches", "table.toml"))
 
 
@@ -339,7 +361,12 @@ class Better(Commands):
         with zipfile.ZipFile("room-torches/room-torches.zip") as pack:
             placed = pack.read("data/torchplan/function/room/place.mcfunction")
         self.assertEqual(placed, b"setblock ~2 ~1 ~1 minecraft:torch\n")
-        self.assertEqual([call[0] for call in self.calls()][-2:], ["check", "check"])
+        self.assertEqual([call[0] for call in self.calls()][-4:], ["check", "levels", "check", "levels"])
+
+    def test_torches_stay_where_by_the_planner_s_levels_no_place_is_better(self):
+        self.answers["levels"] = {"out": "levels 5 4 3\n" + "fffff\n" * 12}
+        self.run_light("room.nbt")
+        self.assertEqual(self.text("room-torches", "plan.txt"), self.aside)
 
     def test_as_planned(self):
         self.run_light("room.nbt", "--as-planned")
@@ -756,7 +783,7 @@ class OfWorlds(Commands):
         self.assertEqual(sorted(os.listdir(self.folder)), [f"{place}.pieces", "room.nbt"])
         del self.answers["plan"]["first"]
         self.run_light(*words)
-        self.assertEqual([call[0] for call in self.calls()], ["--version", "dark", "plan", "check"])
+        self.assertEqual([call[0] for call in self.calls()], ["--version", "dark", "plan", "check", "levels"])
         self.assertEqual(sorted(os.listdir(self.folder)), [place, "room.nbt"])
 
     def test_ctrl_c_ends_all_pieces_and_leaves_no_trace_of_them_but_what_was_planned(self):

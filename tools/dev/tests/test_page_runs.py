@@ -12,6 +12,7 @@ import unittest
 
 import paths
 from made_schematics import litematic_file, sponge_file
+from packed_program import unpacked
 from saved_worlds import V1_16, V1_18, V1_21, Saved
 from test_planning_page import NODE, asked_page, example, opened, read, text_of_bytes
 
@@ -20,7 +21,6 @@ from repository import TOOLS, TOP
 from structure_files import read_structure
 
 PAGE = os.path.join(TOP, "dist", "torchplan.html")
-PROGRAM = os.path.join(TOP, "dist", "torchplan-x86_64-linux.gz")
 LIGHT = os.path.join(TOOLS, "user", "light")
 PACKED = re.compile(rb'<script id="program" type="text/plain">([^<]*)</script>')
 TOLD = {"rule": None, "headroom": "2", "table": None, "isSteady": False, "turns": None, "isToTheEnd": False}
@@ -28,14 +28,6 @@ OWN = '[[row]]\nname = "minecraft:stone"\nopacity = 15\nstand = true\nside = tru
 FELT = '[[row]]\nname = "minecraft:stone"\nopacity = 15\nstand = true\n'  # no torch holds on it
 MADE_BY = re.compile(r"\n\nMade by: .*\n")
 TABLE = re.compile(r"\ntable\.toml .*")
-
-
-def runs_here(program):
-    """Whether the system runs a program."""
-    try:
-        return subprocess.run([program, "--version"], stdout=subprocess.PIPE, stderr=subprocess.PIPE).returncode == 0
-    except OSError:
-        return False
 
 
 def readme(data):
@@ -50,13 +42,9 @@ class Runs(unittest.TestCase):
     def setUp(self):
         self.room = tempfile.TemporaryDirectory()
         self.addCleanup(self.room.cleanup)
-        self.program, self.wasm = [os.path.join(self.room.name, name) for name in ("torchplan", "torchplan.wasm")]
-        for path, data in ((self.program, read(PROGRAM)), (self.wasm, base64.b64decode(PACKED.search(read(PAGE))[1]))):
-            with open(path, "wb") as file:
-                file.write(gzip.decompress(data))
-        os.chmod(self.program, 0o755)
-        if not runs_here(self.program):
-            self.skipTest("the program of dist/ doesn't run here")
+        self.program, self.wasm = unpacked(self.room.name), os.path.join(self.room.name, "torchplan.wasm")
+        with open(self.wasm, "wb") as file:
+            file.write(gzip.decompress(base64.b64decode(PACKED.search(read(PAGE))[1])))
         version = subprocess.run([self.program, "--version"], stdout=subprocess.PIPE, text=True).stdout
         self.version = version.split()[1]
 

@@ -19,7 +19,9 @@ import paths
 import random_caves
 from made_schematics import litematic_file, places, some_states, sponge_file
 from saved_worlds import Longs, nbt
+from test_brightening import levels_of
 from test_schematic_files import STATES, litematic, region, sponge, vector
+from test_shells import cave_of
 
 import brightening
 import edges
@@ -32,7 +34,6 @@ import toml_rows
 import unknowns
 import walks
 from boxes import Box
-from levels import light_levels
 from nbt_reader import text_of
 from nbt_writer import Writer
 from refusals import Refusal
@@ -46,7 +47,6 @@ import pages
 
 NODE = shutil.which("node")
 HERE = os.path.dirname(os.path.abspath(__file__))
-NEEDS = {"1.18": 1, "1.17": 8}
 
 
 def read(path, mode="rb"):
@@ -86,13 +86,9 @@ def opened(name, data):
     return gzip.decompress(data) if data[:2] == b"\x1f\x8b" else data
 
 
-def files_by_light(box, plan_text, dark_text, rule, verdict, told, is_steady=False, notes=()):
+def files_by_light(box, plan_text, dark_text, levels, verdict, told, notes=()):
     """The files that `light` makes."""
     plan, dark = plans.read_plan(plan_text), plans.read_dark(dark_text)
-    rows = toml_rows.read_rows(tables.chosen(box.data_version, None, is_steady).data)
-    levels = light_levels(box, rows, plan.torches)
-    if levels is not None and any(levels[box.number(*at)] < NEEDS[rule] for at in dark):
-        levels = None
     with tempfile.TemporaryDirectory() as folder:
         outputs.write(folder, box, plan, dark, levels, verdict, told, notes)
         return {name: read(os.path.join(folder, name)) for name in os.listdir(folder)}
@@ -127,14 +123,15 @@ class PlanningPage(unittest.TestCase):
             for name in due:
                 self.assertEqual(opened(name, seen[name]), opened(name, due[name]), f"{ask['ask']['file']}: {name}")
 
-    def question(self, data, name, plan, dark, rule, verdict, told, corner=None, dimension=None, is_steady=False,
-                 notes=()):
-        box = read_structure(data, name)
+    def question(self, data, name, plan, dark, verdict, told, corner=None, dimension=None, notes=()):
+        """What the page is asked, of a cave with any levels, and what `light` gets of it."""
+        box, rng = read_structure(data, name), random.Random(name)
         box.corner, box.dimension = corner, dimension
+        levels = bytes(rng.randrange(16) for _ in box.cells)
         ask = {"what": "files", "file": "cave.nbt", "bytes": text_of_bytes(data), "name": name, "plan": plan,
-               "dark": dark, "rule": rule, "verdict": verdict, "told": told, "corner": corner, "dimension": dimension,
-               "isSteady": is_steady, "notes": list(notes)}
-        return {"ask": ask, "light": (box, plan, dark, rule, verdict, told, is_steady, notes)}
+               "dark": dark, "levels": text_of_bytes(levels), "verdict": verdict, "told": told, "corner": corner,
+               "dimension": dimension, "notes": list(notes)}
+        return {"ask": ask, "light": (box, plan, dark, levels, verdict, told, notes)}
 
     def test_files_of_the_examples(self):
         asked = []
@@ -142,11 +139,11 @@ class PlanningPage(unittest.TestCase):
         for name in ("corridor", "hall", "mine", "slab-floor", "slab-proofed", "two-levels"):
             plan, dark = read(example(f"{name}.nbt.stdout"), "r"), read(example(f"{name}.nbt.dark"), "r")
             data = read(example(f"{name}.nbt"))
-            asked.append(self.question(data, name, plan, dark, "1.18", "accepted 2", told))
+            asked.append(self.question(data, name, plan, dark, "accepted 2", told))
             more = {**told, "rule": "1.17", "files": {"table.toml": "the table of blocks that the plan goes by"}}
             corner = [-120, -41, 64]
-            asked.append(self.question(data, f"{name} ü </script>\U0001f525", plan, dark, "1.17", None, more, corner,
-                                       "minecraft:the_nether", True, ["a note of <b> & more", "one more"]))
+            asked.append(self.question(data, f"{name} ü </script>\U0001f525", plan, dark, None, more, corner,
+                                       "minecraft:the_nether", ["a note of <b> & more", "one more"]))
         self.compare_files(asked)
 
     def test_files_of_random_caves(self):
@@ -174,8 +171,8 @@ class PlanningPage(unittest.TestCase):
                 continue
             plan, dark = made_plan(rng, box, rng.randrange(0, 200))
             corner = [rng.randrange(-(10**6), 10**6) for _ in range(3)] if rng.random() < 0.5 else None
-            rule, verdict = rng.choice(["1.18", "1.17"]), rng.choice([None, "accepted 3"])
-            asked.append(self.question(out.file(), rng.choice(names), plan, dark, rule, verdict, told, corner,
+            verdict = rng.choice([None, "accepted 3"])
+            asked.append(self.question(out.file(), rng.choice(names), plan, dark, verdict, told, corner,
                                        corner and "minecraft:overworld"))
         self.compare_files(asked)
 
@@ -191,7 +188,7 @@ class PlanningPage(unittest.TestCase):
         out.compounds("blocks", 0)
         out.end()
         told = {"version": "1", "rule": "1.18", "headroom": "2", "table": "x"}
-        self.compare_files([self.question(out.file(), "x", plan, "dark 0\n", "1.18", "accepted 1", told, corner)])
+        self.compare_files([self.question(out.file(), "x", plan, "dark 0\n", "accepted 1", told, corner)])
 
     def test_a_plan_of_more_commands_than_a_function_takes(self):
         self.compare_long_plan(None)
@@ -350,11 +347,12 @@ class PlanningPage(unittest.TestCase):
             cells = [box.number(*at) for at in dark]
             regions = [(cells, [box.number(*torch[:3]) for torch in plan.torches])]
             rows = tables.rows_of(tables.chosen(box.data_version))
+            base = levels_of(box, cave_of(box, rows, 2, 1))
             for need in (1, 8):
-                moved = brightening.brightened(box, rows, regions, need)
+                moved = brightening.brightened(box, rows, base, regions, need)
                 due.append(sorted([number, list(torch)] for number, torch in moved.items()))
                 asked.append({"what": "bright", "file": "x.nbt", "bytes": text_of_bytes(data), "regions": regions,
-                              "need": need})
+                              "levels": text_of_bytes(base), "need": need})
         self.assertTrue(any(due))
         for moved, answer in zip(due, asked_page(asked)):
             self.assertEqual(sorted(answer["answer"]), moved)

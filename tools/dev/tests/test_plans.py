@@ -53,6 +53,14 @@ class Reading(unittest.TestCase):
             self.assertRaises(Damaged, plans.read_plan, text)
         self.assertRaises(Damaged, plans.read_dark, "torches 1\n")
 
+    def test_levels_are_read(self):
+        self.assertEqual(list(plans.read_levels("levels 3 1 2\n0e9\nf01\n")), [0, 14, 9, 15, 0, 1])
+        self.assertEqual(list(plans.read_levels("levels 0 4 4\n")), [])
+
+    def test_other_texts_are_no_levels(self):
+        for text in ("", "dark 0\n", "levels 3 1 1\n0e\n", "levels 1 1 1\n00\n", "levels 1 1 1\ng\n", "levels 1 1 1\n\x10\n"):
+            self.assertRaises(Damaged, plans.read_levels, text)
+
 
 class Commands(unittest.TestCase):
     def test_torches_are_set_relative_or_by_coordinates(self):

@@ -6,6 +6,7 @@ import paths
 import random_caves
 import shells
 from boxes import Box
+from fields import Field
 from meaning import Cave
 from rows import class_of
 from test_levels import box_of
@@ -17,11 +18,23 @@ def cave_of(box, rows, headroom, need):
     """The meaning of a box, calculated apart."""
     classes = {box.position(number): class_of(rows, box.palette[cell])
                for number, cell in enumerate(box.cells) if cell != Box.NO_ENTRY}
-    return Cave(box.size, classes, headroom, need)
+    return Cave(box.size, {at: row for at, row in classes.items() if row is not None}, headroom, need)
 
 
 def moved(cells, by):
     return {tuple(at + more for at, more in zip(cell, by)) for cell in cells}
+
+
+class Light(unittest.TestCase):
+    def test_light_of_random_caves_as_by_a_calculation_apart(self):
+        for seed in range(60):
+            rng = random.Random(seed)
+            size, states = random_caves.cave_of(rng, own=0.1)
+            box = box_of(size, states)
+            field, cave = Field(box, []), cave_of(box, [], 2, 1)
+            levels = shells.light_of(field)
+            for number in range(len(box.cells)):
+                self.assertEqual(levels[field.place(number)], cave.levels.get(box.position(number), 0))
 
 
 class Around(unittest.TestCase):

@@ -20,11 +20,11 @@ function isMore(one, other) {
 /** Dark cells that torches light together. A lamp is where a torch stands, and which level it brings to each of the
  * cells that it lights, by the cell's index. */
 class TorchRegion {
-  /** `base` has the light of the field's cells that is there without new torches. */
+  /** `base` has the level of each cell of the box without new torches. */
   constructor(field, base, cells, torches) {
     this.field = field;
     this.cells = cells.map((number) => field.box.position(number));
-    this.base = Uint8Array.from(cells, (number) => base[field.place(number)]);
+    this.base = Uint8Array.from(cells, (number) => base[number]);
     this.indices = new Map(cells.map((number, index) => [field.place(number), index]));
     this.levels = new Uint8Array(field.costs.length); // of one torch, while it spreads
     this.lamps = torches.map((at) => this.lamp(at));
@@ -170,10 +170,10 @@ class TorchSearch {
   }
 }
 
-/** Where the torches of regions stand better: the new torch by the number of each that moves. A region is told by the
- * numbers of its dark cells and of its torches. */
-function brightened(box, rows, regions, need) {
-  const field = new Field(box, rows), hangs = hangsOf(box, rows), base = field.spread(field.sources), moved = new Map();
+/** Where the torches of regions stand better: the new torch by the number of each that moves. `base` has the level of
+ * each cell without them; a region is told by the numbers of its dark cells and of its torches. */
+function brightened(box, rows, base, regions, need) {
+  const field = new Field(box, rows), hangs = hangsOf(box, rows), moved = new Map();
   let work = MOVES;
   for (const [cells, torches] of regions) {
     const region = new TorchRegion(field, base, cells, torches.map((number) => box.position(number)));

@@ -127,12 +127,12 @@ async function planDeep(planner, words, turns, tell) {
   throw new Refused("The search goes deeper than this browser's stack allows. Use the program for this cave.");
 }
 
-/** The light of each cell with the torches; null where the table isn't read here (so its rows are null), or a dark
- * cell would seem dark. */
-function levelsAfter(box, rows, dark, plan, rule) {
-  const levels = rows === null ? null : lightLevels(box, rows, plan.torches);
-  const isLow = levels === null || dark.some((place) => levels[box.number(...place)] < NEEDED_LEVEL[rule]);
-  return isLow ? null : levels;
+/** The level of each cell of the planner's cave, by the cells' numbers; with the torches of a plan's bytes where there
+ * are any. */
+async function levelsOf(planner, plan = null) {
+  if (plan !== null) planner.files.set("plan.txt", plan);
+  const seen = await planner.run("levels", plan === null ? ["cave.nbt"] : ["cave.nbt", "plan.txt"], [DONE]);
+  return readLevels(seen.text);
 }
 
 /** The cave of a file, or why it can't be read. */
@@ -222,7 +222,8 @@ async function planned(module, found, terms, told, tell) {
     } catch (fault) {
       const [, ...at] = UNLIGHTABLE.exec(fault.line || "") || [];
       if (at.length === 0 || cave.box === null) throw fault;
-      const cells = cellsForSlabs(cave.read, rows, darkness.dark, NEEDED_LEVEL[rule], at.map(Number));
+      const need = NEEDED_LEVEL[rule];
+      const cells = await cellsForSlabs(planner, cave.read, rows, darkness.dark, need, at.map(Number));
       lines.push(...slabLines(cave.box, cells));
       cave = withSlabs(cave, cells);
     }
@@ -245,7 +246,7 @@ async function planCave(module, found, told, tell) {
   const best = rows === null ? answers : await rearranged(planner, read, rows, NEEDED_LEVEL[rule], answers);
   const { dark, plan, verdict, edge, turns, peak, memory } = best;
   tell({ step: "Drawing the map" });
-  const levels = levelsAfter(read, rows, dark, plan, rule);
+  const levels = await levelsOf(planner, best.files.get("plan.txt"));
   const notes = [...cave.notes, ...(cave.around === null ? edgeLines(edge, box, tableRows, dark) : []), ...done.lines];
   const how = { version: DATA.version, rule, headroom: told.headroom, table: table.name };
   const made = await filesOf(cave, best, text, how, levels, notes);

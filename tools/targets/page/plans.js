@@ -1,7 +1,7 @@
 "use strict";
 
-// Plans as `torchplan plan` prints them, dark cells as `torchplan dark` does, and torches as blocks: as plans.py and
-// torches.py of ../../user have them.
+// What the program prints, read and written: plans, dark cells, levels; and torches as blocks: as plans.py and torches.py
+// of ../../user have them.
 
 const HANGS_OF_PLANS = ["floor", "north", "east", "south", "west"];
 const AIR = ["minecraft:air", new Map()];
@@ -28,13 +28,18 @@ function readPlan(text) {
 
 const HANG_SIGNS = { floor: "T", north: "^", east: ">", south: "v", west: "<" };
 
+/** The text of a plan without its layers. */
+function textOfTorches({ torches, dark, atLeast }) {
+  const lines = [`torches ${torches.length}${atLeast === null ? "" : ` at-least ${atLeast}`}`, `dark ${dark}`];
+  for (const { x, y, z, hang } of torches) lines.push(`T ${x} ${y} ${z} ${hang}`);
+  return lines.map((line) => `${line}\n`).join("");
+}
+
 /** The text of a plan in a box, as the program prints it. `signs` are those of the box's states. */
 function textOfPlan(plan, box, signs) {
-  const number = ({ x, y, z }) => box.number(x, y, z), least = plan.atLeast === null ? "" : ` at-least ${plan.atLeast}`;
+  const number = ({ x, y, z }) => box.number(x, y, z);
   const torches = [...plan.torches].sort((one, other) => number(one) - number(other)), [wide, , deep] = box.size;
-  const at = new Map(torches.map((torch) => [number(torch), HANG_SIGNS[torch.hang]]));
-  const lines = [`torches ${torches.length}${least}`, `dark ${plan.dark}`];
-  for (const { x, y, z, hang } of torches) lines.push(`T ${x} ${y} ${z} ${hang}`);
+  const at = new Map(torches.map((torch) => [number(torch), HANG_SIGNS[torch.hang]])), lines = [];
   const signAt = (cell) => at.get(cell) || (box.cells[cell] === NO_ENTRY ? "#" : signs[box.cells[cell]]);
   for (const y of [...new Set(torches.map((torch) => torch.y))].sort((one, other) => one - other)) {
     lines.push(`layer ${y}`);
@@ -42,7 +47,7 @@ function textOfPlan(plan, box, signs) {
       lines.push(Array.from({ length: wide }, (_, x) => signAt(box.number(x, y, z))).join(""));
     }
   }
-  return lines.map((line) => `${line}\n`).join("");
+  return textOfTorches({ ...plan, torches }) + lines.map((line) => `${line}\n`).join("");
 }
 
 /** The text of a plan with a line more, behind that of the dark cells: the world's coordinates of the corner. */
@@ -56,6 +61,16 @@ function readDark(text) {
   const [first, ...rest] = text.split("\n").filter((line) => line !== "");
   if (!/^dark /.test(first || "")) throw new Damaged("the program answers otherwise than torchplan");
   return rest.map((line) => line.split(" ").map(Number));
+}
+
+/** The level of each cell that a text tells, in the order of the cells' numbers. */
+function readLevels(text) {
+  const [first, ...rows] = text.split("\n"), [word, ...sides] = first.split(" "), digits = rows.join("");
+  const count = sides.reduce((product, side) => product * Number(side), 1);
+  if (word !== "levels" || digits.length !== count || !/^[0-9a-f]*$/.test(digits)) {
+    throw new Damaged("the program answers otherwise than torchplan");
+  }
+  return Uint8Array.from(digits, (digit) => parseInt(digit, 16));
 }
 
 const placeOfTorch = ({ x, y, z }) => [x, y, z];

@@ -11,7 +11,7 @@ async function rearranged(planner, box, rows, need, answers) {
   if (textOfPlan(plan, box, signs) !== plainText("plan.txt")) return answers;
   const number = ({ x, y, z }) => box.number(x, y, z), proof = verdict === null ? null : plainText("plan.proof");
   const whole = [[dark.map((place) => box.number(...place)), plan.torches.map(number)]];
-  const moved = brightened(box, rows, proof === null ? whole : regionsOf(proof), need);
+  const base = await levelsOf(planner), moved = brightened(box, rows, base, proof === null ? whole : regionsOf(proof), need);
   if (moved.size === 0) return answers;
   const torches = plan.torches.map((torch) => moved.get(number(torch)) || torch);
   const after = textOfPlan({ ...plan, torches }, box, signs), all = new Map(files).set("plan.txt", utf8(after));

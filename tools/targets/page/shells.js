@@ -4,6 +4,30 @@
 // what a cell of it is to the box, as ../../user/shells.py makes it.
 
 const MARGIN = DATA.worlds.margin; // layers about a box that are read: light that comes from farther has faded
+const BRIGHTEST = 15;
+
+/** The block light of each cell of a field (Minecraft Wiki, "Light"), by what shines in it: from the brightest down, each
+ * round has the cells that reached its level. */
+function lightOf(field) {
+  const { costs, steps } = field, levels = field.told((row) => row.emission, 0);
+  const rounds = Array.from({ length: BRIGHTEST + 1 }, () => []);
+  levels.forEach((level, at) => {
+    if (level > 0) rounds[level].push(at);
+  });
+  for (let level = BRIGHTEST; level > 1; level -= 1) {
+    for (const at of rounds[level]) {
+      if (levels[at] !== level) continue;
+      for (const step of steps) {
+        const other = at + step, brought = level - costs[other];
+        if (brought > levels[other]) {
+          levels[other] = brought;
+          rounds[brought].push(other);
+        }
+      }
+    }
+  }
+  return levels;
+}
 
 /** The numbers of the cells of the outermost layers of a box of these sides, ascending, and whether each is of the
  * highest. */
@@ -22,7 +46,7 @@ function outerCells([wide, tall, deep]) {
 /** A box as the planner reads it, whose outermost layers are its shell, and the rows of the shell's states. `around` is a
  * larger box of the same world, `rows` those of the table, `headroom` the free cells that a mob needs. */
 function shelled(box, around, rows, headroom) {
-  const field = new Field(around, rows, true), levels = field.spread(field.sources);
+  const field = new Field(around, rows), levels = lightOf(field);
   const offset = box.corner.map((at, axis) => at - around.corner[axis]);
   const classes = box.palette.map((state) => rowOf(rows, state)), shellRows = [], made = new Map();
   const [free, stand, top, side] = ["free", "stand", "top", "side"].map((column) => COLUMNS.indexOf(column));

@@ -6,13 +6,17 @@
 const SLAB = "torchplan:slab", UNLIGHTABLE = /^torchplan: unlightable (-?\d+) (-?\d+) (-?\d+)$/;
 const SLAB_ROW = { name: SLAB, when: new Map(), opacity: 15, emission: 0, columns: COLUMNS.map(() => false) };
 
-/** The dark cells that no torch can light, the one that the planner told among them. */
-function cellsForSlabs(box, rows, dark, need, told) {
+/** The dark cells that no torch can light, the one that the planner told among them: those that stay dark with a torch
+ * at every place. */
+async function cellsForSlabs(planner, box, rows, dark, need, told) {
   if (rows === null) return [told];
-  const field = new Field(box, rows), places = [...hangsOf(box, rows).keys()];
-  const levels = field.spread(new Map(places.map((number) => [field.place(number), TORCH_EMISSION])));
+  const torches = [...hangsOf(box, rows)].map(([number, hang]) => {
+    const [x, y, z] = box.position(number);
+    return { x, y, z, hang };
+  });
+  const levels = await levelsOf(planner, utf8(textOfTorches({ torches, dark: dark.length, atLeast: null })));
   const number = (at) => box.number(...at);
-  const low = dark.filter((at) => levels[field.place(number(at))] < need), found = new Map();
+  const low = dark.filter((at) => levels[number(at)] < need), found = new Map();
   for (const at of [told, ...low]) found.set(number(at), at);
   return [...found.keys()].sort((one, other) => one - other).map((at) => found.get(at));
 }
