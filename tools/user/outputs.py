@@ -14,7 +14,7 @@ def write(folder, box, plan, dark, levels, verdict, told, notes=()):
     """Writes a plan's files into an empty folder.
 
     dark     the cells that were dark before
-    levels   the level of light of each cell with the torches, or None where it isn't known
+    levels   the level of light of each cell with the torches
     verdict  what `check` printed of the proof, or None where the search was stopped
     told     each where it is known: "command", "rule", "headroom", "table", "version" (texts for README.txt), "files",
              what other files of the folder are by their names; "away", places whose torches are taken away, and

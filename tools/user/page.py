@@ -62,7 +62,7 @@ def data_of(box, plan, dark, levels, verdict, notes=(), away=(), total=None, apa
         "dimension": box.dimension,
         "palette": [[shown(state), kind, looks.colour_of(state[0])] for state, kind in states],
         "cells": runs(index + 1 for index in box.cells),
-        "levels": None if levels is None else runs(levels),
+        "levels": runs(levels),
         "dark": gaps(sorted(box.number(*at) for at in dark)),
         "torches": plan.torches,
         "atLeast": plan.at_least,

@@ -15,7 +15,7 @@ CORNER = {"corner": (-20, 11, 7), "dimension": "minecraft:the_nether"}
 def written(box, plan, verdict="accepted 1", told=None, notes=()):
     """The files that are written for a plan: their bytes by names."""
     with tempfile.TemporaryDirectory() as folder:
-        outputs.write(folder, box, plan, [], None, verdict, told or {}, notes)
+        outputs.write(folder, box, plan, [], bytes(len(box.cells)), verdict, told or {}, notes)
         found = {}
         for name in os.listdir(folder):
             with open(os.path.join(folder, name), "rb") as file:

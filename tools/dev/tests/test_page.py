@@ -40,7 +40,8 @@ class Elements(html.parser.HTMLParser):
 
 
 def made_page(box, plan, dark=(), levels=None, verdict=None):
-    return page.page(box, plan, list(dark), levels, verdict)
+    """The text of a page, without any light unless levels are told."""
+    return page.page(box, plan, list(dark), bytes(len(box.cells)) if levels is None else levels, verdict)
 
 
 def data_of(text):
@@ -95,8 +96,8 @@ class Data(unittest.TestCase):
         box = floor_box([AIR, AIR], name="x", corner=(-1, 2, -3), dimension="minecraft:the_end")
         data = data_of(made_page(box, plan_of(torches, 1), verdict=None))
         self.assertEqual(data["torches"], [list(torch) for torch in torches])
-        told = [data[name] for name in ("size", "corner", "dimension", "atLeast", "verdict", "levels")]
-        self.assertEqual(told, [[2, 2, 1], [-1, 2, -3], "minecraft:the_end", 1, None, None])
+        told = [data[name] for name in ("size", "corner", "dimension", "atLeast", "verdict")]
+        self.assertEqual(told, [[2, 2, 1], [-1, 2, -3], "minecraft:the_end", 1, None])
 
     def test_block_states_are_named_with_their_properties(self):
         box = floor_box([("minecraft:snow", {"layers": "1"}), ("cave:felt", {})])

@@ -221,7 +221,6 @@ class Scripts(unittest.TestCase):
         self.assertNotIn("water", plain)
         data["palette"] += [["water", "water", "#3d63c4"], ["lava", "lava", "#e8691b"], ["rail", "thing", "#7c7d80"]]
         self.assertEqual(self.run_page(data, signs), [*plain, "water", "lava", "another block, in its own colour"])
-        self.assertFalse([sign for sign in self.run_page({**data, "levels": None}, signs) if sign.startswith("room")])
 
     def test_no_light_and_the_faintest_differ_in_every_look(self):
         told = self.run_scripts(self.data([]), """

@@ -75,7 +75,7 @@ class Told(unittest.TestCase):
         self.assertEqual(lines[0], "Torches for x: 2 torches, and no fewer do (check: accepted 2).")
         self.assertIn("Take away 2 that stand there, place 1:", lines)
         self.assertIn("  take away 5 7 7", lines)
-        data = page.data_of(self.box, self.plan, [], None, None, away=self.away, total=2)
+        data = page.data_of(self.box, self.plan, [], bytes(len(self.box.cells)), None, away=self.away, total=2)
         self.assertEqual((data["away"], data["total"]), (self.away, 2))
 
 

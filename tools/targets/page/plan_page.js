@@ -87,7 +87,7 @@ function dataOfPage(box, plan, dark, levels, verdict, notes) {
     dimension: box.dimension,
     palette: box.palette.map((state, at) => [shownState(state), kinds[at], colourOf(state[0])]),
     cells: runsOf(box.cells.map((index) => index + 1)),
-    levels: levels === null ? null : runsOf(levels),
+    levels: runsOf(levels),
     dark: gapsOf(dark.map((place) => box.number(...place)).sort((one, other) => one - other)),
     torches: torchList(plan.torches),
     atLeast: plan.atLeast,

@@ -50,7 +50,7 @@ function caveOf(data) {
   const has = (x, y, z) => x >= 0 && y >= 0 && z >= 0 && x < wide && y < tall && z < deep;
   const states = data.palette.map(([name, kind, colour]) => ({ name, kind, colour: rgbOf(colour) }));
   const cells = unrun(data.cells, count);
-  const levels = data.levels === null ? null : unrun(data.levels, count);
+  const levels = unrun(data.levels, count);
   const dark = new Uint8Array(count);
   const darkCells = ungap(data.dark);
   darkCells.forEach((cell) => (dark[cell] = 1));

@@ -47,8 +47,8 @@ function colourAt(cave, x, y, z, shown, theme) {
     const open = under.kind === "room";
     colour = mix(colour, open ? theme.drop : under.colour, open ? 0.45 : 0.3);
   }
-  const number = cave.number(x, y, z), level = cave.levels === null || !shown.light ? null : cave.levels[number];
-  if (level !== null && state.kind !== "lava") colour = lit(colour, level, theme);
+  const number = cave.number(x, y, z);
+  if (shown.light && state.kind !== "lava") colour = lit(colour, cave.levels[number], theme);
   return shown.dark && cave.dark[number] ? mix(colour, theme.spawn, SPAWN) : colour;
 }
 

@@ -64,7 +64,7 @@ function legendOf(cave, theme) {
   const signs = [
     ...torchSigns((cave.away || []).length > 0),
     ["dark before: mobs could spawn there", spawnSign(theme)],
-    ...(cave.levels === null ? [] : roomSigns(theme)),
+    ...roomSigns(theme),
     ...blockSigns(cave, theme),
   ];
   return signs.map(([words, paint]) => {

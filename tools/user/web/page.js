@@ -90,7 +90,7 @@ function tell(cell) {
   const number = cave.number(at.x, at.y, at.z);
   const told = [block === null ? "nothing saved" : block.name];
   if (torch) told.unshift(`torch ${torch.index + 1} ${torch.words}`);
-  if (cave.levels !== null && block !== null) told.push(`light ${cave.levels[number]}`);
+  if (block !== null) told.push(`light ${cave.levels[number]}`);
   if (cave.dark[number]) told.push("dark before");
   const box = element("span", { className: "box", textContent: second && ` ${second}` });
   byId("cell").replaceChildren(element("b", { textContent: first }), box, ` · ${told.join(" · ")}`);
@@ -280,7 +280,6 @@ function listen() {
 }
 
 byId("layer").max = cave.tall - 1;
-byId("light").closest("label").hidden = cave.levels === null;
 byId("clear").hidden = byId("bar").hidden = cave.torches.length === 0;
 tellFacts();
 drawMarks();

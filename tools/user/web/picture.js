@@ -146,7 +146,7 @@ function drawLayer(context, cave, y, image, view, width, height, shown, theme, m
   context.imageSmoothingEnabled = false;
   context.drawImage(image, view.left, view.top, cave.wide * view.scale, cave.deep * view.scale);
   drawGrid(context, cave, view, part, theme);
-  const isNumbered = shown.light && cave.levels !== null && view.scale >= NUMBERS_FROM;
+  const isNumbered = shown.light && view.scale >= NUMBERS_FROM;
   if (shown.dark) drawDark(context, cave, y, view, part, theme, isNumbered);
   if (isNumbered) drawNumbers(context, cave, y, view, part, shown, theme);
   eachCell(part, (x, z) => {
