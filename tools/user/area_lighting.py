@@ -2,27 +2,24 @@
 import os
 import shutil
 import sys
-import tempfile
 import time
 
 import answers
 import area_outputs
 import area_runs
-import box_runs
 import extents
-import planning
-import slabs
+import piece_jobs
 import sources
 import torches
 import walks
-from area_runs import AreaRun, Result
+from area_runs import AreaRun
 from folders import new_folder
+from hosts import LOG, Hosts, require_parallel
+from piece_runs import dark_in, planned_piece
 from plans import Plan, Torch
-from program import MARK, Ended, Program
 from refusals import Refusal
 from saying import answer, counted, note
 from terms import refuse_unknown, terms_for
-from worlds import World
 
 ALONE = "an area of more than a box has no --move, --walk or --reachable: name a smaller one"
 
@@ -31,6 +28,8 @@ def light_area(told, world, extent, place, own, version, began):
     """A run over an area; the status."""
     if told.move or told.walk or told.reachable:
         raise Refusal(ALONE)
+    if told.hosts is not None:
+        require_parallel()
     terms = terms_for(told, world.data_version, own)
     if terms.rows is None:
         raise Refusal(f"light can't read {terms.table.name}: write its rows as tables [[row]], or use Python 3.11")
@@ -44,54 +43,21 @@ def light_area(told, world, extent, place, own, version, began):
            told.as_planned, told.only, told.barred, area_runs.files_key(world)]
     plan_piece = lambda *given: planned_piece(told, terms, version, *given)
     run = AreaRun(plan_piece, place + ".pieces", key, note, told.progress or sys.stderr.isatty())
-    results = run.run(pieces, told.jobs)
+    line_of = lambda name, piece: piece_jobs.line_of(name, told, terms, version, piece)
+    results = run.run(pieces, told.jobs, told.hosts and Hosts(told.hosts, told.jobs, line_of))
     if run.failed:
         raise Refusal(f"{counted(len(run.failed), 'piece', 'pieces')} of {len(pieces):,} failed; the others are kept in"
                       f" {run.work}: the same command goes on with what is missing")
     look_through(told, terms, pieces, results, run.work)
     whole = Whole(pieces, results)
     with new_folder(place, told.force) as folder:
-        write(folder, world, extent, whole, told, terms, version)
+        write(folder, world, extent, whole, told, terms, version, os.path.join(run.work, LOG))
     shutil.rmtree(run.work, ignore_errors=True)
     name = sources.name_of(world, extent)
     answer([f"{name}: {whole.told()}", f"carry {torches.load(len(whole.torches))}",
             f"in {place}: open index.html (README.txt says what is what)",
             f"took {time.monotonic() - began:,.1f} seconds"])
     return 0 if whole.at_least is None else answers.STOPPED
-
-
-def read_piece(told, extent, there):
-    """The cave of a piece, in which these torches stand already."""
-    world = World(told.world, told.dimension)
-    return sources.read_world(world, extent, sources.name_of(world, extent), there)
-
-
-def planned_piece(told, terms, version, piece, folder, of_whole, of_parts):
-    """Plans a piece into a folder, given the torches of whole caves and of other parts that stand already."""
-    cave = read_piece(told, piece.extent, of_whole + of_parts)
-    try:
-        outcome = box_runs.planned(Program(), folder, terms, cave, None, piece.seeds)
-    except Ended as ended:
-        raise Refusal("; ".join(f"{MARK}{begins}{rest}" for begins, rest in ended.kept.items())
-                      or f"torchplan {ended.command} ended by status {ended.status}") from None
-    box_runs.filled(folder, cave, outcome, terms, version, None)
-    box, found = cave.box, outcome.plan.torches
-    dark = [box.worldly(at) for at in outcome.dark]
-    if of_parts:  # what other parts light was dark too
-        with tempfile.TemporaryDirectory() as room:
-            dark = dark_in(told, terms, piece, room, of_whole)
-    return Result(
-        folder, [[*box.worldly(torch[:3]), torch.hang] for torch in found],
-        [torches.replaced(box, torch) for torch in found], dark,
-        outcome.plan.at_least, outcome.notes, [box.worldly(at) for at in slabs.cells_of(outcome.layout.read)],
-    )
-
-
-def dark_in(told, terms, piece, folder, there):
-    """The dark cells of a part, by the world's coordinates, where these torches stand."""
-    cave, program = read_piece(told, piece.extent, there), Program()
-    planning.laid_out(program, folder, terms, box_runs.layout_of(cave, terms, None))
-    return [cave.box.worldly(at) for at in answers.darkness(program, folder).cells]
 
 
 def look_through(told, terms, pieces, results, work):
@@ -143,12 +109,12 @@ def walked(parts):
     return [part for middle in walks.in_order(list(middles)) for part in middles[middle]]
 
 
-def write(folder, world, extent, whole, told, terms, version):
-    """Writes the area's folder."""
+def write(folder, world, extent, whole, told, terms, version, log):
+    """Writes the area's folder. `log` is the file that tells what other machines did, if they did anything."""
     own = lambda at: tuple(a - b for a, b in zip(at, extent.low))
     plan = Plan([Torch(*own(torch[:3]), torch[3]) for torch in whole.torches], whole.dark, whole.at_least, {})
     states = {own(at): (name, props) for at, (name, props) in whole.states.items()}
     area = area_outputs.Area(world, extent, sources.name_of(world, extent), states)
     said = {"command": told.command, "rule": terms.rule, "headroom": told.headroom, "table": terms.table.name,
-            "version": version}
+            "version": version, "log": log if os.path.exists(log) else None}
     area_outputs.write(folder, area, plan, said, whole.told(), whole.notes, whole.parts)

@@ -52,11 +52,14 @@ class Area:
 
 def write(folder, area, plan, told, summary, notes, pieces):
     """Writes an area's folder. `pieces` are the extent and the result of each that has torches, in the order of a walk;
-    `summary` is what is known of the whole, `told` what `outputs.how` tells of how it was made."""
+    `summary` is what is known of the whole, `told` what `outputs.how` tells of how it was made, and "log", the file that
+    tells what other machines did, or None."""
     os.mkdir(os.path.join(folder, "pieces"))
     for number, (_, result) in enumerate(pieces, 1):
         kept = shutil.ignore_patterns(DONE)
         shutil.copytree(result.folder, os.path.join(folder, "pieces", str(number)), ignore=kept)
+    if told["log"] is not None:
+        shutil.copyfile(told["log"], os.path.join(folder, "pieces", "log"))
     name = f"{names.plain(area.name)}-torches"
     text = plans.with_corner(plans.text_of_torches(plan), area.corner, area.dimension)
     put(folder, "plan.txt", text.encode())
@@ -84,6 +87,8 @@ def readme(area, name, summary, notes, told):
     yield "index.html  the pieces, each with a map and a list, for a browser; needs no network"
     yield "plan.txt    the torches of all pieces as text, told from the corner of the area"
     yield "pieces/     a folder for each piece, as for a box: page, schematics, plan, proof, cave and table"
+    if told["log"] is not None:
+        yield "pieces/log  which machine planned, when, and for how many seconds, a line for each piece"
     yield f"{name}.zip"
     yield "            a data pack for all torches (in SAVE/datapacks, then /reload). Near each cave:"
     yield f"            /function {function}/place sets the torches there"

@@ -10,11 +10,12 @@ from collections import namedtuple
 from multiprocessing.connection import wait
 
 import extents
+import parcels
 import worlds
 from areas import caves_of
 from folders import put
 from pieces import pieces_of
-from refusals import Refusal
+from refusals import Damaged, Refusal
 
 FAR = 27  # a torch lights two cells only where fewer steps lie between them
 DONE, FAILED = "piece.json", "piece.failed"
@@ -39,15 +40,17 @@ class AreaRun:
         self.plan_piece, self.work, self.key, self.note, self.tells = plan_piece, work, key, note, tells
         self.failed = []
 
-    def run(self, pieces, jobs):
-        """The results of all pieces. Those of whole caves are planned side by side, each by a process; a part of a cave
-        that is cut sees the torches of all that was planned before it."""
+    def run(self, pieces, jobs, hosts=None):
+        """The results of all pieces. Those of whole caves are planned side by side, each by a process, or on other
+        machines; a part of a cave that is cut sees the torches of all that was planned before it."""
         os.makedirs(self.work, exist_ok=True)
         for name in os.listdir(self.work):  # what failed before is tried again
             if os.path.exists(os.path.join(self.work, name, FAILED)):
                 shutil.rmtree(os.path.join(self.work, name))
         whole = [piece for piece in pieces if piece.seeds]
-        if jobs > 1:
+        if hosts is not None:
+            self.on_hosts(whole, hosts)
+        elif jobs > 1:
             self.side_by_side(whole, jobs)
         found = []
         for piece in whole:
@@ -68,7 +71,7 @@ class AreaRun:
     def side_by_side(self, pieces, jobs):
         """Plans pieces by so many processes, which keep what they find."""
         context, running = multiprocessing.get_context("fork"), {}
-        waiting = [piece for piece in pieces if not os.path.exists(os.path.join(self.folder_of(piece, [], []), DONE))]
+        waiting = self.left(pieces)
         try:
             while waiting or running:
                 while waiting and len(running) < jobs:
@@ -83,6 +86,39 @@ class AreaRun:
                 process.terminate()
             for process in running.values():
                 process.join()
+
+    def left(self, pieces):
+        """The whole caves that aren't planned yet and haven't failed."""
+        is_known = lambda folder: any(os.path.exists(os.path.join(folder, name)) for name in (DONE, FAILED))
+        return [piece for piece in pieces if not is_known(self.folder_of(piece, [], []))]
+
+    def on_hosts(self, pieces, hosts):
+        """Has pieces planned on other machines. One that doesn't come back failed."""
+        due = {os.path.basename(self.folder_of(piece, [], [])): piece for piece in self.left(pieces)}
+        for line in hosts.answers(due, self.work) if due else ():
+            self.take(line, due)
+        for piece in self.left(pieces):
+            self.fail(piece, self.folder_of(piece, [], []), "no host planned it")
+
+    def take(self, line, due):
+        """Keeps what a machine answers."""
+        try:
+            name, files = parcels.opened(line)
+        except Damaged as why:
+            return self.note(f"a host answers otherwise than plan-piece: {why}")
+        if FAILED in files or DONE not in files or name not in due:
+            piece, why = due.get(name), files.get(FAILED, b"it isn't whole").decode("utf-8", "replace")
+            return self.note(why) if piece is None else self.fail(piece, os.path.join(self.work, name), why)
+        shutil.rmtree(os.path.join(self.work, name), ignore_errors=True)
+        os.mkdir(os.path.join(self.work, name))
+        for file in sorted(files, key=lambda file: file == DONE):
+            put(os.path.join(self.work, name), file, files[file])
+
+    def fail(self, piece, folder, why):
+        """Names a piece that failed."""
+        self.note(f"{extents.told(piece.extent)}: {why}")
+        os.makedirs(folder, exist_ok=True)
+        put(folder, FAILED, b"")
 
     def aside(self, piece):
         """Plans a piece in a process of its own. Ctrl-C is for the process above, which ends this one."""
@@ -108,13 +144,17 @@ class AreaRun:
         os.mkdir(folder)
         try:
             result = self.plan_piece(piece, folder, of_whole, of_parts)
-            put(folder, DONE, json.dumps(result[1:]).encode())
+            keep(folder, result)
             return result._replace(folder=folder)
         except Refusal as why:
             self.failed.append(piece)
-            self.note(f"{extents.told(piece.extent)}: {why}")
-            put(folder, FAILED, b"")
+            self.fail(piece, folder, why)
             return None
+
+
+def keep(folder, result):
+    """Writes down what came of a piece that was planned into a folder."""
+    put(folder, DONE, json.dumps(result[1:]).encode())
 
 
 def near(piece, torches):

@@ -34,7 +34,7 @@ def world_of(told):
             raise Refusal(NO_PLAYER)
         told.around, where = world.level.player
         if told.dimension is None and where != world.dimension:
-            world = World(told.world, where)
+            told.dimension, world = where, World(told.world, where)
     if world.dimension != OVERWORLD and told.rule is None:
         raise Refusal(OTHER_DIMENSION, USAGE)
     if world.is_open:

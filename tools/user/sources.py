@@ -86,9 +86,15 @@ def read_world(world, extent, name, torches=()):
     around = extents.Extent((around.low[0], bottom, around.low[2]), (around.high[0], top, around.high[2]))
     larger = worlds.read_box(world, around)
     put_in(larger, torches)
-    box = larger.part([at - first for at, first in zip(shelled.low, around.low)], extents.size_of(shelled))
+    return cave_within(larger, extent, name, list(missing_lines(world, extent, around)))
+
+
+def cave_within(larger, extent, name, notes):
+    """The cave of an extent of a larger box of the world: its box has one layer more on each side."""
+    shelled = extents.grown(extent, 1)
+    box = larger.part([at - first for at, first in zip(shelled.low, larger.corner)], extents.size_of(shelled))
     box.name = name
-    return Cave(box, None, larger, list(missing_lines(world, extent, around)))
+    return Cave(box, None, larger, notes)
 
 
 def put_in(box, torches):

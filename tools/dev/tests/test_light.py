@@ -889,6 +889,26 @@ class Places(Commands):
         self.box("--rule", "1.18")
         self.assertTrue(any("_the_nether_" in name for name in os.listdir(self.folder)))
 
+    def test_pieces_of_an_area_about_the_player_are_read_where_the_player_is(self):
+        self.saved("DIM-1/region")
+        Saved(self.world, "region", V1_21, {"Pos": [3.0, 2.0, 5.0], "Dimension": "minecraft:the_nether"}).fill(
+            lambda x, y, z: ("mod:nowhere", {}), [-1, 0], [(-1, -1), (-1, 0), (0, -1), (0, 0)], V1_21)
+        self.answers["plan"]["out"] = "torches 1\ndark 3\nT 2 1 1 floor\n"
+        with unittest.mock.patch("extents.CELLS", 1_000):
+            self.box("--rule", "1.18", "--radius", "8", "--dimension", "nether")
+            due = self.pieces()
+            self.box("--rule", "1.18", "--radius", "8")
+        self.assertEqual(self.pieces(), due)
+
+    def pieces(self):
+        """The cave of each piece of the area."""
+        place, = [name for name in os.listdir(self.folder) if name.endswith("-torches")]
+        found = []
+        for name in sorted(os.listdir(self.path(place, "pieces"))):
+            with gzip.open(self.path(place, "pieces", name, "cave.nbt"), "rb") as file:
+                found.append(cells_of(file.read()))
+        return found
+
     def test_a_world_without_a_player(self):
         self.saved()
         self.assertEqual(self.refused("--world", self.world, status=1),
