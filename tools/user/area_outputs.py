@@ -4,12 +4,14 @@ import os
 import shutil
 
 import names
+import overviews
 import packs
 import plans
 import torches
 from area_runs import DONE
 from folders import put
 from outputs import how
+from saying import counted
 
 PAGE = """<!DOCTYPE html>
 <html lang="en-GB">
@@ -23,13 +25,19 @@ PAGE = """<!DOCTYPE html>
 <style>
 body {{ font: 16px/1.5 system-ui, sans-serif; max-width: 50em; margin: 1em auto; padding: 0 1em; }}
 li {{ margin: .3em 0; }}
-a {{ display: inline-block; min-height: 1.8em; }}
+li a {{ display: inline-block; min-height: 1.8em; }}
+svg {{ display: block; width: 100%; max-height: 90vh; font-family: inherit; }}
+rect {{ fill: currentColor; fill-opacity: .1; stroke: currentColor; stroke-width: 1; vector-effect: non-scaling-stroke; }}
+a:hover rect, a:focus rect {{ fill-opacity: .3; }}
+text {{ fill: currentColor; text-anchor: middle; dominant-baseline: central; }}
+path {{ pointer-events: none; }}
 </style>
 </head>
 <body>
 <h1>{title}</h1>
 <p>{told}</p>
 <ul>{notes}</ul>
+{overview}
 <h2>Pieces, in the order of a walk</h2>
 <ol>
 {pieces}
@@ -43,6 +51,7 @@ class Area:
     """An area to the writer of packs: a box whose states are known where torches are placed."""
 
     def __init__(self, world, extent, name, states):
+        self.extent = extent
         self.corner, self.dimension, self.data_version = extent.low, world.dimension, world.data_version
         self.name, self.states = name, states
 
@@ -52,8 +61,8 @@ class Area:
 
 def write(folder, area, plan, told, summary, notes, pieces):
     """Writes an area's folder. `pieces` are the extent and the result of each that has torches, in the order of a walk;
-    `summary` is what is known of the whole, `told` what `outputs.how` tells of how it was made, and "log", the file that
-    tells what other machines did, or None."""
+    `summary` is what is known of the whole, `told` what `outputs.how` tells of how it was made, with "log", the file
+    that tells what other machines did, or None."""
     os.mkdir(os.path.join(folder, "pieces"))
     for number, (_, result) in enumerate(pieces, 1):
         kept = shutil.ignore_patterns(DONE)
@@ -70,11 +79,20 @@ def write(folder, area, plan, told, summary, notes, pieces):
 
 def page(area, summary, notes, pieces):
     """The text of the page."""
-    line = '<li><a href="pieces/{}/index.html">{}</a>: {}</li>'
-    listed = [line.format(number, html.escape(" ".join(map(str, [*extent.low, "to", *extent.high]))),
-                          torches.load(len(result.torches))) for number, (extent, result) in enumerate(pieces, 1)]
+    found = [(extent, result.torches, f"pieces/{number}/index.html", counts(result))
+             for number, (extent, result) in enumerate(pieces, 1)]
+    line = '<li><a href="{}">{}</a>: {}</li>'
+    listed = [line.format(page, html.escape(" ".join(map(str, [*extent.low, "to", *extent.high]))), html.escape(told))
+              for extent, _, page, told in found]
     title, told = html.escape(f"Torches for {area.name}"), "".join(f"<li>{html.escape(note)}</li>" for note in notes)
-    return PAGE.format(title=title, told=html.escape(summary), pieces="\n".join(listed), notes=told)
+    return PAGE.format(title=title, told=html.escape(summary), pieces="\n".join(listed), notes=told,
+                       overview=overviews.svg(area.extent, found) if found else "")
+
+
+def counts(result):
+    """How many torches a piece has, and for how many dark cells."""
+    least = "" if result.at_least is None else f", at least {result.at_least:,} needed"
+    return f"{torches.load(len(result.torches))}, {counted(len(result.dark), 'dark cell', 'dark cells')}{least}"
 
 
 def readme(area, name, summary, notes, told):
@@ -84,7 +102,7 @@ def readme(area, name, summary, notes, told):
     yield f"The corner of the area is {' '.join(map(str, area.corner))} in {area.dimension}."
     yield from notes
     yield ""
-    yield "index.html  the pieces, each with a map and a list, for a browser; needs no network"
+    yield "index.html  a map of the pieces, each of which leads to its own map and list; for a browser; needs no network"
     yield "plan.txt    the torches of all pieces as text, told from the corner of the area"
     yield "pieces/     a folder for each piece, as for a box: page, schematics, plan, proof, cave and table"
     if told["log"] is not None:

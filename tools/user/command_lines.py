@@ -125,8 +125,8 @@ def parser():
     words.add_argument("--steady", action="store_true", help="count lights that go out while their block stays")
     jobs = "how many pieces of an area are planned at once (1)"
     words.add_argument("--jobs", type=number_in(1, 64), metavar="N", default=1, help=jobs)
-    words.add_argument("--hosts", metavar="ONE,TWO", help="other machines on which they are planned, by GNU parallel over"
-                       " ssh: each has a checkout torchplan in the home folder")
+    hosts = "other machines on which they are planned, by GNU parallel: each has a checkout torchplan in its home folder"
+    words.add_argument("--hosts", metavar="ONE,TWO", help=hosts)
     words.add_argument("--workers", type=number_in(1, 64), metavar="N", help="how many workers share a search (1)")
     ends = words.add_mutually_exclusive_group()
     ends.add_argument("--turns", type=number_in(1, 10**9), metavar="N", help="how many nodes of each region to search")

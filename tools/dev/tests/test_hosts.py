@@ -108,8 +108,10 @@ class OnHosts(Commands):
         self.assertEqual(sorted(os.listdir(self.folder)), [PLACE, "room.nbt"])
 
     def test_machines_that_answer_nothing_or_something_else(self):
-        for command, told in [("true", "--from 203 4 5 --to 205 5 5: no host planned it"),
-                              ("echo no such command", "a host answers otherwise than plan-piece: it is no line of files")]:
+        for command, told in [
+            ("true", "--from 203 4 5 --to 205 5 5: no host planned it"),
+            ("echo no such command", "a host answers otherwise than plan-piece: it is no line of files"),
+        ]:
             self.put_parallel(PARALLEL.format(folder=self.tools).replace('sh -c "$command"', command))
             out, err = self.run_light("--world", self.world, *WORDS, "--hosts", "one", status=1)
             self.assertIn(f"light: {told}\n", err)

@@ -766,7 +766,14 @@ class OfWorlds(Commands):
             placed = pack.read("data/torchplan/function/my_world_2_3_4_to_206_6_6/place.mcfunction").decode()
         self.assertEqual(placed.splitlines(), [f"execute in minecraft:overworld run setblock {x} 4 5 minecraft:torch"
                                                for x in (4, 204)])
-        self.assertIn('href="pieces/2/index.html"', self.text(place, "index.html"))
+        page = self.text(place, "index.html")
+        self.assertIn('<svg viewBox="0 0 205 3"', page)
+        for number, x in ((1, 3), (2, 203)):
+            told = "1 torch, 3 dark cells"
+            self.assertIn(f'<a href="pieces/{number}/index.html">{x} 4 5 to {x + 2} 5 5</a>: {told}</li>', page)
+            self.assertIn(f'<a href="pieces/{number}/index.html"><title>{told}</title>'
+                          f'<rect x="{x - 2}" y="1" width="3" height="1"/>', page)
+            self.assertIn(f"M{x - 1}.5 1.5h0", page)
         self.assertEqual(sorted(name for name in os.listdir(os.path.join(place, "pieces", "1")) if "torches" not in name),
                          sorted([*PLAIN, "cave.nbt", "table.toml"]))
 
