@@ -5,7 +5,7 @@ from collections import namedtuple
 import repository  # it makes the modules of ../user known
 from nbt_reader import root_of
 from nbt_writer import COMPOUND, INT, LIST, TEXT
-from refusals import Damaged as Fault
+from refusals import Refusal as Fault
 from rows import COLUMNS, Row, row_of
 
 SIDE, CELLS = 128, 262_144

@@ -15,7 +15,7 @@ import worlds
 from areas import caves_of
 from folders import put
 from pieces import pieces_of
-from refusals import Damaged, Refusal
+from refusals import Refusal
 
 FAR = 27  # a torch lights two cells only where fewer steps lie between them
 DONE, FAILED = "piece.json", "piece.failed"
@@ -104,7 +104,7 @@ class AreaRun:
         """Keeps what a machine answers."""
         try:
             name, files = parcels.opened(line)
-        except Damaged as why:
+        except Refusal as why:
             return self.note(f"a host answers otherwise than plan-piece: {why}")
         if FAILED in files or DONE not in files or name not in due:
             piece, why = due.get(name), files.get(FAILED, b"it isn't whole").decode("utf-8", "replace")

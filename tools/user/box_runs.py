@@ -14,13 +14,14 @@ import walks
 from dimensions import OVERWORLD
 from folders import put
 from reaching import reached_from
-from refusals import Damaged, Refusal
+from refusals import Refusal
 from saying import counted, note
 
 OTHER_LEVELS = (
     "in the Nether and the End mobs spawn at other levels than in the Overworld, some at any: by this rule torches"
     " don't keep all of them away"
 )
+OTHERWISE = "{} answers otherwise than torchplan"
 MANY = 10  # so many notes are said at the terminal
 APART = "{} only cells where nobody gets to on foot, last in the list: --reachable leaves them out"
 
@@ -99,8 +100,10 @@ def planned(program, folder, terms, cave, is_reached, seeds=()):
             alone = matters.alone(layout.read, planning.rows_for(terms, layout), seeds)
             layout = planning.with_read(layout, *alone)
         outcome = planning.planned(program, folder, terms, layout)
-    except (Damaged, ValueError, IndexError) as why:
-        raise Refusal(f"{program.path} answers otherwise than torchplan: {why}") from None
+    except Refusal as why:
+        raise why.at(OTHERWISE.format(program.path)) from None
+    except (ValueError, IndexError) as why:
+        raise Refusal(f"{OTHERWISE.format(program.path)}: {why}") from None
     if cave.box is None:
         raise Refusal(f"{terms.told.file}: torchplan reads this file, but light doesn't")
     notes = [OTHER_LEVELS] if cave.box.dimension not in (None, OVERWORLD) else []

@@ -3,7 +3,7 @@ import struct
 
 from nbt_reader import root_of, text_of
 from nbt_writer import BYTE, COMPOUND, INT, LIST, LONGS, TEXT
-from refusals import Damaged
+from refusals import damaged
 
 SIDE = 16  # of a chunk and of a section
 CELLS = SIDE ** 3
@@ -18,15 +18,11 @@ LEFT_OUT = frozenset(
 )
 
 
-class NotWhole(Damaged):
-    """A chunk that the game hasn't finished."""
-
-
 def held(entries, name, kind):
     """What the entry of that name holds, or None where there is none; one of another kind is a fault."""
     found = entries.get(name)
     if found is not None and found[0] != kind:
-        raise Damaged(f"its {name.decode()} has the wrong type")
+        raise damaged(f"its {name.decode()} has the wrong type")
     return found and found[1]
 
 
@@ -34,7 +30,7 @@ def needed(entries, name, kind):
     """What the entry of that name holds, which has to be there."""
     found = held(entries, name, kind)
     if found is None:
-        raise Damaged(f"it has no {name.decode()}")
+        raise damaged(f"it has no {name.decode()}")
     return found
 
 
@@ -42,7 +38,7 @@ def compounds(entries, name):
     """The compounds of a list; none where there is no such list."""
     kind, items = held(entries, name, LIST) or (COMPOUND, [])
     if items and kind != COMPOUND:
-        raise Damaged(f"its {name.decode()} has the wrong type")
+        raise damaged(f"its {name.decode()} has the wrong type")
     return items
 
 
@@ -61,39 +57,40 @@ def indices_of(longs, count):
     each = 64 // bits
     due = -(-CELLS // each)
     if len(longs) != 8 * due:
-        raise Damaged(f"a section has {len(longs) // 8} longs for a palette of {count}, not {due}")
+        raise damaged(f"a section has {len(longs) // 8} longs for a palette of {count}, not {due}")
     mask, shifts = (1 << bits) - 1, range(0, bits * each, bits)
     found = [long >> shift & mask for long in struct.unpack(f">{due}Q", longs) for shift in shifts][:CELLS]
     if max(found) >= count:
-        raise Damaged(f"a section has state {max(found)} of a palette of {count}")
+        raise damaged(f"a section has state {max(found)} of a palette of {count}")
     return found
 
 
 class Chunk:
-    """A chunk's blocks by sections of 16 x 16 x 16, each told by its height over 16.
+    """A chunk's blocks by sections of 16 x 16 x 16, each told by its height over 16; none before it is whole.
 
-    data_version  the version of the game's data that saved it"""
+    data_version  the version of the game's data that saved it
+    status        how far the game is with it
+    is_whole      whether the game has finished it"""
 
     def __init__(self, data, x, z):
         root = root_of(data, LEFT_OUT)
         self.data_version = held(root, b"DataVersion", INT) or 0
         if self.data_version < EARLIEST:
-            raise Damaged(f"data version {self.data_version} is older than 1.16's: have the game optimise the world")
+            raise damaged(f"data version {self.data_version} is older than 1.16's: have the game optimise the world")
         level = held(root, b"Level", COMPOUND) or root
         told = needed(level, b"xPos", INT), needed(level, b"zPos", INT)
         if told != (x, z):
-            raise Damaged(f"it says that it is chunk {told[0]} {told[1]}")
-        status = text_of(needed(level, b"Status", TEXT))
-        if status not in FULL:
-            raise NotWhole(f"the game hasn't finished it (Status {status}): walk there first")
-        sections = compounds(level, b"sections") or compounds(level, b"Sections")
+            raise damaged(f"it says that it is chunk {told[0]} {told[1]}")
+        self.status = text_of(needed(level, b"Status", TEXT))
+        self.is_whole = self.status in FULL
+        sections = (compounds(level, b"sections") or compounds(level, b"Sections")) if self.is_whole else []
         self.sections = {self.height_of(section): section for section in sections}
 
     @staticmethod
     def height_of(section):
         kind, height = section.get(b"Y", (None, None))
         if kind not in (BYTE, INT):
-            raise Damaged("a section has no Y")
+            raise damaged("a section has no Y")
         return height
 
     def section(self, height):
@@ -110,5 +107,5 @@ class Chunk:
         if len(palette) == 1:
             return palette, [0] * CELLS
         if palette or longs is not None or states is not section:
-            raise Damaged(f"a section has a palette of {len(palette)}, and {'no' if longs is None else 'some'} blocks")
+            raise damaged(f"a section has a palette of {len(palette)}, and {'no' if longs is None else 'some'} blocks")
         return None

@@ -6,7 +6,7 @@ from chunks import held
 from dimensions import NAME, OVERWORLD
 from nbt_reader import root_of, text_of
 from nbt_writer import COMPOUND, DOUBLE, INT, LIST, TEXT
-from refusals import Damaged, Refusal, unreadable
+from refusals import Refusal, unreadable
 from unpacking import plain, read_limited
 
 
@@ -27,8 +27,8 @@ class Level:
             pass
         except OSError as fault:
             raise unreadable(path, fault) from None
-        except Damaged as why:
-            raise Refusal(f"level.dat: {why}") from None
+        except Refusal as why:
+            raise why.at("level.dat") from None
 
 
 def player_of(entries):

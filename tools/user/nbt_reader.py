@@ -6,7 +6,7 @@ the words of the program's fault lines."""
 import struct
 
 from nbt_writer import BYTE, BYTES, COMPOUND, DOUBLE, END, FLOAT, INT, INTS, LIST, LONG, LONGS, SHORT, TEXT
-from refusals import Damaged
+from refusals import damaged
 
 DEEPEST = 512
 MOST = 2_000_000  # lists and compounds that are kept: no cave has so many, and each takes memory
@@ -38,7 +38,7 @@ class Reader:
         """Where the next bytes begin, so many of which are there."""
         at = self.at
         if self.size - at < count:
-            raise Damaged(f"nbt: truncated at {self.size}")
+            raise damaged(f"nbt: truncated at {self.size}")
         self.at = at + count
         return at
 
@@ -51,14 +51,14 @@ class Reader:
         at = self.take(1)
         kind = self.data[at]
         if kind > LONGS:
-            raise Damaged(f"nbt: bad tag {kind} at {at}")
+            raise damaged(f"nbt: bad tag {kind} at {at}")
         return kind
 
     def array(self, width):
         at = self.take(4)
         count = COUNT(self.data, at)[0]
         if count < 0:
-            raise Damaged(f"nbt: bad length at {at}")
+            raise damaged(f"nbt: bad length at {at}")
         at = self.take(count * width)
         return self.data[at : at + count * width]
 
@@ -76,17 +76,17 @@ class Reader:
     def opened(self, kind, depth, is_kept):
         """The list or compound that begins here."""
         if depth > DEEPEST:
-            raise Damaged(f"nbt: too deep at {self.at}")
+            raise damaged(f"nbt: too deep at {self.at}")
         self.kept += is_kept
         if self.kept > MOST:
-            raise Damaged(f"nbt: more than {MOST:,} lists and compounds")
+            raise damaged(f"nbt: more than {MOST:,} lists and compounds")
         if kind == COMPOUND:
             return Open({}, is_kept=is_kept)
         kind = self.kind()
         at = self.take(4)
         count = COUNT(self.data, at)[0]
         if kind == END and count > 0:
-            raise Damaged(f"nbt: bad length at {at}")
+            raise damaged(f"nbt: bad length at {at}")
         if count <= 0:
             return Open([], kind)
         if kind in WIDTHS:
@@ -148,10 +148,10 @@ class Reader:
 def root_of(data, left_out=frozenset()):
     """The entries of the root; what stands behind it isn't looked at."""
     if data[:2] == b"\x1f\x8b":
-        raise Damaged("nbt: compressed")
+        raise damaged("nbt: compressed")
     reader = Reader(data, left_out)
     if data[reader.take(1)] != COMPOUND:
-        raise Damaged("nbt: root is no compound")
+        raise damaged("nbt: root is no compound")
     reader.text()
     return reader.compound()
 

@@ -5,7 +5,7 @@ import os
 import zipfile
 import zlib
 
-from refusals import Damaged
+from refusals import damaged
 
 
 def packed(name, files):
@@ -24,7 +24,7 @@ def opened(line):
         with zipfile.ZipFile(io.BytesIO(base64.b64decode(data, validate=True))) as archive:
             files = {file: archive.read(file) for file in archive.namelist()}
     except (ValueError, EOFError, NotImplementedError, zlib.error, zipfile.BadZipFile):
-        raise Damaged("it is no line of files") from None
+        raise damaged("it is no line of files") from None
     if any(os.path.basename(file) != file for file in files):
-        raise Damaged("a file of it has a folder in its name")
+        raise damaged("a file of it has a folder in its name")
     return name.decode("ascii", "replace"), files

@@ -17,7 +17,7 @@ from extents import Extent
 from piece_runs import planned_cave, read_piece
 from pieces import Piece
 from program import Program
-from refusals import REFUSED, Damaged, Refusal
+from refusals import Refusal
 
 JOB = "job.json"
 HERE = os.path.dirname(os.path.abspath(__file__))
@@ -78,8 +78,6 @@ def answer(line, out):
             name, files = parcels.opened(line)
             planned(json.loads(files[JOB]), folder)
             files = files_of(folder)
-        except Damaged as why:
-            status, files = REFUSED, {area_runs.FAILED: str(why).encode()}
         except Refusal as why:
             status, files = why.status, {area_runs.FAILED: f"{platform.node()}: {why}".encode()}
     out.write(parcels.packed(name, files))

@@ -2,7 +2,7 @@
 import math
 from collections import namedtuple
 
-from refusals import Damaged
+from refusals import damaged
 
 # Torches in the order of the plan: the coordinates of each, and how it hangs (floor, or the way that it faces).
 Torch = namedtuple("Torch", "x y z hang")
@@ -19,7 +19,7 @@ def read_plan(text):
     lines = text.splitlines()
     words = [line.split() for line in lines[:2]]
     if not words or words[0][:1] != ["torches"]:
-        raise Damaged("its first line begins with 'torches'")
+        raise damaged("its first line begins with 'torches'")
     at_least = int(words[0][3]) if words[0][2:3] == ["at-least"] else None
     dark = int(words[1][1]) if len(words) > 1 and words[1][:1] == ["dark"] else 0
     torches, layers, height = [], {}, None
@@ -32,7 +32,7 @@ def read_plan(text):
         elif line.startswith("T "):
             _, x, y, z, hang = line.split()
             if hang not in HANGS:
-                raise Damaged(f"a torch hangs {hang!r}")
+                raise damaged(f"a torch hangs {hang!r}")
             torches.append(Torch(int(x), int(y), int(z), hang))
     return Plan(torches, dark, at_least, layers)
 
@@ -74,7 +74,7 @@ def read_dark(text):
     """The dark cells that a text names."""
     first, *rest = [line.split() for line in text.splitlines()] or [[]]
     if first[:1] != ["dark"]:
-        raise Damaged("dark cells: their first line begins with 'dark'")
+        raise damaged("dark cells: their first line begins with 'dark'")
     return [tuple(map(int, words)) for words in rest]
 
 
@@ -84,5 +84,5 @@ def read_levels(text):
     words, levels = first.split(), rest.encode().translate(DIGITS, b"\n")
     is_whole = words[:1] == ["levels"] and len(levels) == math.prod(map(int, words[1:]))
     if not is_whole or max(levels, default=0) > 15:
-        raise Damaged("levels: a line of their sides comes first, then a digit for each cell")
+        raise damaged("levels: a line of their sides comes first, then a digit for each cell")
     return levels

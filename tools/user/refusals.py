@@ -11,15 +11,22 @@ def printable(text):
 
 
 class Refusal(Exception):
-    """A line that says why there is no plan, and the status to end by."""
+    """A line that says why there is no plan, and the status to end by.
 
-    def __init__(self, line, status=REFUSED):
+    has_place  whether the line says where: of a damaged piece of a file it doesn't, until who reads the file adds it"""
+
+    def __init__(self, line, status=REFUSED, has_place=True):
         super().__init__(printable(line))
-        self.status = status
+        self.status, self.has_place = status, has_place
+
+    def at(self, place):
+        """The refusal with the place where it is, unless it has one."""
+        return self if self.has_place else Refusal(f"{place}: {self}", self.status)
 
 
-class Damaged(Exception):
-    """What is wrong with a piece of a file. Who reads the file says where."""
+def damaged(what):
+    """The refusal of a piece of a file, without its place."""
+    return Refusal(what, has_place=False)
 
 
 def unreadable(path, fault):

@@ -1,7 +1,7 @@
 """Region files, in which a saved world keeps its chunks, 32 x 32 a file (Minecraft Wiki, "Region file format")."""
 import os
 
-from refusals import Damaged, Refusal, unreadable
+from refusals import Refusal, damaged, unreadable
 from unpacking import GZIP, ZLIB, read_limited, unpacked
 
 SIDE = 32  # of a region, in chunks
@@ -43,15 +43,15 @@ class RegionFile:
             return None
         start = first * SECTOR
         if first < HEADER // SECTOR:
-            raise Damaged(f"its sector {first} is one of the header")
+            raise damaged(f"its sector {first} is one of the header")
         if start + 5 > size:
-            raise Damaged(f"its sector {first} lies behind the file's end")
+            raise damaged(f"its sector {first} lies behind the file's end")
         file.seek(start)
         length, packing = int.from_bytes(file.read(4), "big"), file.read(1)[0]
         if length == 0 or length + 4 > count * SECTOR:
-            raise Damaged(f"its length of {length:,} bytes doesn't fit its sectors, {count} of {SECTOR:,}")
+            raise damaged(f"its length of {length:,} bytes doesn't fit its sectors, {count} of {SECTOR:,}")
         if start + 4 + length > size:
-            raise Damaged(f"it is cut off: the file ends at {size:,}, the chunk at {start + 4 + length:,}")
+            raise damaged(f"it is cut off: the file ends at {size:,}, the chunk at {start + 4 + length:,}")
         if packing < OUTSIDE:
             return opened(file.read(length - 1), packing)
         return opened(self.outside(f"c.{x}.{z}.mcc"), packing - OUTSIDE)
@@ -61,15 +61,15 @@ class RegionFile:
         try:
             return read_limited(os.path.join(self.folder, name))
         except FileNotFoundError:
-            raise Damaged(f"its file {name} isn't there") from None
+            raise damaged(f"its file {name} isn't there") from None
 
 
 def opened(data, packing):
     """The bytes of a chunk's NBT."""
     if packing == LZ4:
-        raise Damaged(LZ4_TOLD)
+        raise damaged(LZ4_TOLD)
     if packing == 3:
         return data
     if packing not in (1, 2):
-        raise Damaged(f"its compression {packing} is none of 1 to 4")
+        raise damaged(f"its compression {packing} is none of 1 to 4")
     return unpacked(data, GZIP if packing == 1 else ZLIB)

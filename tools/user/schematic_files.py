@@ -7,7 +7,7 @@ from boxes import Box
 from chunks import compounds, held, needed, state_of
 from nbt_reader import text_of
 from nbt_writer import BYTES, COMPOUND, INT, LONGS, SHORT
-from refusals import Damaged
+from refusals import damaged
 
 # Entries that have no part in the blocks.
 LEFT_OUT = frozenset(
@@ -35,7 +35,7 @@ def is_numbered(root):
 def empty_box(size, palette, data_version, name):
     if max(size) > extents.SIDE or extents.count_of(size) > extents.CELLS:
         told = f"it has {' x '.join(map(str, size))} cells"
-        raise Damaged(f"{told}, more than {extents.SIDE} a side or {extents.CELLS:,} in all: save parts of it")
+        raise damaged(f"{told}, more than {extents.SIDE} a side or {extents.CELLS:,} in all: save parts of it")
     return Box(size, palette, [Box.NO_ENTRY] * extents.count_of(size), data_version=data_version, name=name)
 
 
@@ -47,7 +47,7 @@ def vector(entries, name):
 def unpacked_indices(data, bits, count):
     """So many numbers of so many bits in longs, the first in the lowest bits; one may lie across two longs."""
     if len(data) * 8 < bits * count:
-        raise Damaged("a region has fewer block states than cells")
+        raise damaged("a region has fewer block states than cells")
     longs = struct.unpack(f">{len(data) // 8}Q", data)
     mask, found = (1 << bits) - 1, []
     for start in range(0, bits * count, bits):
@@ -65,7 +65,7 @@ class Region:
     def __init__(self, entries):
         at, size = vector(entries, b"Position"), vector(entries, b"Size")
         if 0 in size:
-            raise Damaged("a region has no cells")
+            raise damaged("a region has no cells")
         # a side that is negative leads from the position downwards
         self.low = [place + min(0, side + 1) for place, side in zip(at, size)]
         self.size = [abs(side) for side in size]
@@ -76,7 +76,7 @@ class Region:
         bits = max(LEAST_BITS, (len(self.palette) - 1).bit_length())
         found = unpacked_indices(self.data, bits, extents.count_of(self.size))
         if max(found) >= len(self.palette):
-            raise Damaged(f"a region has state {max(found)} of a palette of {len(self.palette)}")
+            raise damaged(f"a region has state {max(found)} of a palette of {len(self.palette)}")
         return found
 
 
@@ -84,7 +84,7 @@ def read_litematic(root, name):
     """The box about all regions. Where two lie over each other the later counts; nothing is known between them."""
     regions = [Region(entries) for kind, entries in needed(root, b"Regions", COMPOUND).values() if kind == COMPOUND]
     if not regions:
-        raise Damaged("it has no region")
+        raise damaged("it has no region")
     low = [min(region.low[axis] for region in regions) for axis in range(3)]
     high = [max(region.low[axis] + region.size[axis] for region in regions) for axis in range(3)]
     size = tuple(last - first for first, last in zip(low, high))
@@ -110,7 +110,7 @@ def varints(data, count):
             found.append(number)
             number = shift = 0
     if len(found) != count or shift:
-        raise Damaged(f"it has {len(found):,} block states for {count:,} cells")
+        raise damaged(f"it has {len(found):,} block states for {count:,} cells")
     return found
 
 
@@ -119,7 +119,7 @@ def state_of_text(text):
     found = STATE.fullmatch(text)
     pairs = [pair.split("=", 1) for pair in (found and found[2] or "").split(",") if pair]
     if found is None or any(len(pair) != 2 for pair in pairs):
-        raise Damaged(f"its palette has {text!r}, which is no block state")
+        raise damaged(f"its palette has {text!r}, which is no block state")
     return found[1], dict(pairs)
 
 
@@ -127,7 +127,7 @@ def read_sponge(schematic, name):
     """The box of a schematic of Sponge."""
     version = held(schematic, b"Version", INT)
     if version not in (2, 3):
-        raise Damaged(f"it is a schematic of Sponge's version {version}; versions 2 and 3 are read")
+        raise damaged(f"it is a schematic of Sponge's version {version}; versions 2 and 3 are read")
     size = tuple(needed(schematic, side, SHORT) & 0xFFFF for side in (b"Width", b"Height", b"Length"))
     blocks = needed(schematic, b"Blocks", COMPOUND) if version == 3 else schematic
     told = needed(blocks, b"Palette", COMPOUND)
@@ -137,6 +137,6 @@ def read_sponge(schematic, name):
     box = empty_box(size, palette, held(schematic, b"DataVersion", INT), name)
     found = varints(needed(blocks, b"Data" if version == 3 else b"BlockData", BYTES), len(box.cells))
     if not set(found) <= set(places):
-        raise Damaged("a cell has a state that its palette hasn't")
+        raise damaged("a cell has a state that its palette hasn't")
     box.cells = [places[index] for index in found]
     return box

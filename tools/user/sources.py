@@ -10,7 +10,7 @@ import structure_files
 import worlds
 import wrong_files
 from nbt_reader import root_of
-from refusals import Damaged, Refusal, unreadable
+from refusals import Refusal, unreadable
 from torches import state_of
 from unpacking import plain, read_limited
 
@@ -39,13 +39,13 @@ def read_file(path, name):
         data = data if wrong else plain(data)
     except OSError as fault:
         raise unreadable(path, fault) from None
-    except Damaged as why:
-        raise Refusal(f"{path}: {why}") from None
+    except Refusal as why:
+        raise why.at(path) from None
     if wrong:
         raise Refusal(f"{path}: {wrong}")
     try:
         root = root_of(data, schematic_files.LEFT_OUT | structure_files.LEFT_OUT)
-    except Damaged:
+    except Refusal:
         return Cave(None, data, None, [])
     return read_root(path, name, data, root)
 
@@ -63,11 +63,11 @@ def read_root(path, name, data, root):
         schematic = schematic_files.sponge_of(root)
         if schematic is not None:
             return Cave(schematic_files.read_sponge(schematic, name), None, None, [])
-    except Damaged as why:
-        raise Refusal(f"{path}: {why}") from None
+    except Refusal as why:
+        raise why.at(path) from None
     try:
         return Cave(structure_files.structure_of(root, name), data, None, [])
-    except Damaged:
+    except Refusal:
         return Cave(None, data, None, [])
 
 

@@ -16,10 +16,6 @@ PIECE = re.compile(
 WORDS = {"true": True, "false": False}
 
 
-class Unread(ValueError):
-    """The text isn't in the part of TOML that is read here."""
-
-
 class Pieces:
     """The pieces of a text, to be taken from the front. A text stands with its quote before it."""
 
@@ -28,7 +24,7 @@ class Pieces:
         while at < len(text):
             found = PIECE.match(text, at)
             if not found:
-                raise Unread(f"at {at}")
+                raise ValueError(f"at {at}")
             at = found.end()
             if found.lastindex:
                 self.rest.append(found.group(found.lastindex))
@@ -47,7 +43,7 @@ class Pieces:
 
     def need(self, piece):
         if not self.has(piece):
-            raise Unread(f"{self.rest[-1]!r} stands for {piece!r}")
+            raise ValueError(f"{self.rest[-1]!r} stands for {piece!r}")
 
     def lines(self):
         """Takes the line feeds that stand here."""
@@ -60,7 +56,7 @@ def key_of(pieces):
     if piece[:1] in "\"'" and piece:
         return unquoted(piece)
     if not re.fullmatch(r"[\w-]+", piece, re.ASCII):
-        raise Unread(f"{piece!r} is no key")
+        raise ValueError(f"{piece!r} is no key")
     return piece
 
 
@@ -80,7 +76,7 @@ def value_of(pieces):
         return WORDS[piece]
     if re.fullmatch(r"0|[1-9][0-9]*", piece):
         return int(piece)
-    raise Unread(f"{piece!r} is no value")
+    raise ValueError(f"{piece!r} is no value")
 
 
 def array_of(pieces):
@@ -112,7 +108,7 @@ def put(entries, pieces):
     key = key_of(pieces)
     pieces.need("=")
     if key in entries:
-        raise Unread(f"{key} stands twice")
+        raise ValueError(f"{key} stands twice")
     entries[key] = value_of(pieces)
 
 
@@ -142,7 +138,7 @@ def read_rows(data):
     found = []
     for row in document(data.decode("utf-8-sig")).get("row", []):
         if not isinstance(row, dict) or "name" not in row or "opacity" not in row:
-            raise Unread("a row has no name or no opacity")
+            raise ValueError("a row has no name or no opacity")
         when = {key.encode(): value.encode() for key, value in row.get("when", {}).items()}
         flags = [row.get(column, False) for column in COLUMNS]
         found.append(Row(row["name"].encode(), when, row["opacity"], row.get("emission", 0), *flags))

@@ -1,7 +1,7 @@
 """Unpacking what the game packs, up to a limit: a file of a megabyte can hold a gigabyte of zeros."""
 import zlib
 
-from refusals import Damaged
+from refusals import damaged
 
 # The window bits of zlib that take each packing (Python's documentation of zlib.decompress).
 GZIP, ZLIB = 31, 15
@@ -17,11 +17,11 @@ def unpacked(data, packing):
         try:
             found += stream.decompress(data, MOST + 1 - len(found))
         except zlib.error:
-            raise Damaged("its packed data is damaged") from None
+            raise damaged("its packed data is damaged") from None
         if len(found) > MOST:
-            raise Damaged(f"it unpacks to more than {MOST:,} bytes")
+            raise damaged(f"it unpacks to more than {MOST:,} bytes")
         if not stream.eof:
-            raise Damaged("its packed data is cut off")
+            raise damaged("its packed data is cut off")
         data = stream.unused_data
         if packing != GZIP or data[:2] != MAGIC:
             return found
@@ -32,7 +32,7 @@ def read_limited(path):
     with open(path, "rb") as file:
         data = file.read(MOST + 1)
     if len(data) > MOST:
-        raise Damaged(f"it has more than {MOST:,} bytes")
+        raise damaged(f"it has more than {MOST:,} bytes")
     return data
 
 

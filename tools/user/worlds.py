@@ -5,9 +5,9 @@ import os
 import dimensions
 import extents
 from boxes import Box
-from chunks import SIDE, Chunk, NotWhole
+from chunks import SIDE, Chunk
 from level_files import Level
-from refusals import Damaged, Refusal
+from refusals import Refusal
 from region_files import RegionFile
 from session_locks import is_held
 from wrong_files import of_world
@@ -55,20 +55,16 @@ class World:
         try:
             data = file.chunk(x, z)
             found = None if data is None else Chunk(data, x, z)
-        except NotWhole as why:
-            raise NotWhole(f"region file {file.name}: chunk {x} {z}: {why}") from None
-        except Damaged as why:
-            raise Refusal(f"region file {file.name}: chunk {x} {z}: {why}") from None
-        if found and self.level.data_version is None:
+        except Refusal as why:
+            raise why.at(f"region file {file.name}: chunk {x} {z}") from None
+        if found and found.is_whole and self.level.data_version is None:
             self.data_version = max(self.data_version, found.data_version)
         return found
 
     def whole(self, x, z):
         """A chunk that the game has made and finished, or None."""
-        try:
-            return self.chunk(x, z)
-        except NotWhole:
-            return None
+        found = self.chunk(x, z)
+        return found if found and found.is_whole else None
 
     def heights(self):
         """The lowest and the highest layer in which blocks can be."""
@@ -136,12 +132,11 @@ def require_chunks(world, places):
     """Refuses places none of whose chunks is there and finished."""
     if any(world.whole(*at) for at in places):
         return
-    try:
-        world.chunk(*places[0])
-    except NotWhole as why:
-        raise Refusal(str(why)) from None
     x, z = places[0]
-    region, more = RegionFile(world.folder, x, z).name, len(places) - 1
+    found, region, more = world.chunk(x, z), RegionFile(world.folder, x, z).name, len(places) - 1
+    if found:
+        raise Refusal(f"region file {region}: chunk {x} {z}: the game hasn't finished it (Status {found.status}): walk"
+                      " there first")
     also = f", nor are {more} more of the box" if more else ""
     raise Refusal(f"region file {region}: chunk {x} {z} isn't there{also}: walk there in the game first")
 
@@ -156,8 +151,8 @@ def read_box(world, extent):
         try:
             if world.whole(x, z):
                 fill(box, states, world, x, z)
-        except Damaged as why:
-            raise Refusal(f"region file {RegionFile(world.folder, x, z).name}: chunk {x} {z}: {why}") from None
+        except Refusal as why:
+            raise why.at(f"region file {RegionFile(world.folder, x, z).name}: chunk {x} {z}") from None
     box.data_version = world.data_version
     return box
 

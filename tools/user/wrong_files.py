@@ -3,7 +3,7 @@ import os
 
 from chunks import held
 from nbt_writer import COMPOUND
-from refusals import Damaged
+from refusals import Refusal
 
 MCA = (".mca", ".mcr", ".mcc")
 BEDROCK = (".mcworld", ".mcstructure", ".mctemplate")
@@ -26,7 +26,7 @@ def of_root(root):
     """What a file of NBT is by its root where it is no cave, or None."""
     try:
         inner = held(root, b"Data", COMPOUND) or {}
-    except Damaged:
+    except Refusal:
         inner = {}
     if b"LevelName" in inner or b"Player" in inner or b"WorldGenSettings" in inner:
         return "a world's file: use --world FOLDER"

@@ -9,7 +9,7 @@ import zipfile
 
 import paths
 import parcels
-from refusals import Damaged
+from refusals import Refusal
 from repository import TOP
 from saved_worlds import V1_21, Saved
 from test_light import Commands, room
@@ -41,7 +41,7 @@ class Parcels(unittest.TestCase):
             archive.writestr("../x", "y")
         folder = b"a " + base64.b64encode(whole.getvalue())
         for other in (b"", b"a\n", b"a b\n", line[:-9] + b"\n", line[2:], folder):
-            self.assertRaises(Damaged, parcels.opened, other)
+            self.assertRaises(Refusal, parcels.opened, other)
 
 
 class OnHosts(Commands):

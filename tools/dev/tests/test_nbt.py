@@ -4,7 +4,7 @@ import unittest.mock
 
 import paths
 from nbt_reader import root_of, text_of
-from refusals import Damaged
+from refusals import Refusal
 from saved_worlds import Byte, Longs, nbt
 
 COMPOUND, LIST, INT, TEXT, LONGS, BYTE = 10, 9, 3, 8, 12, 1
@@ -13,7 +13,7 @@ ROOT = b"\x0a\0\0"
 
 class Reading(unittest.TestCase):
     def fault(self, data):
-        with self.assertRaises(Damaged) as seen:
+        with self.assertRaises(Refusal) as seen:
             root_of(data)
         return str(seen.exception)
 
@@ -45,7 +45,7 @@ class Reading(unittest.TestCase):
     def test_what_is_left_out_is_read_over(self):
         data = nbt({"a": {"x": [{"y": 1}, {"z": [[1]]}]}, "b": {"a": 1, "c": 2}})
         self.assertEqual(root_of(data, frozenset([b"a"])), {b"b": (COMPOUND, {b"c": (INT, 2)})})
-        with self.assertRaises(Damaged):
+        with self.assertRaises(Refusal):
             root_of(ROOT + b"\x0a\0\1a\x0d\0\0", frozenset([b"a"]))
 
     def test_bytes_behind_the_root_are_ignored(self):

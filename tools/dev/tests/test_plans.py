@@ -9,7 +9,7 @@ import made  # it makes the modules of tools/user known
 from repository import EXAMPLES, TOOLS
 
 import plans
-from refusals import Damaged
+from refusals import Refusal
 
 MAKE_FUNCTION = os.path.join(TOOLS, "user", "make-function")
 PLAN = """torches 2 at-least 1
@@ -50,8 +50,8 @@ class Reading(unittest.TestCase):
 
     def test_other_texts_are_no_plans(self):
         for text in ("", "dark 5\n", "torches 1\ndark 1\nT 0 0 0 ceiling\n"):
-            self.assertRaises(Damaged, plans.read_plan, text)
-        self.assertRaises(Damaged, plans.read_dark, "torches 1\n")
+            self.assertRaises(Refusal, plans.read_plan, text)
+        self.assertRaises(Refusal, plans.read_dark, "torches 1\n")
 
     def test_levels_are_read(self):
         self.assertEqual(list(plans.read_levels("levels 3 1 2\n0e9\nf01\n")), [0, 14, 9, 15, 0, 1])
@@ -59,7 +59,7 @@ class Reading(unittest.TestCase):
 
     def test_other_texts_are_no_levels(self):
         for text in ("", "dark 0\n", "levels 3 1 1\n0e\n", "levels 1 1 1\n00\n", "levels 1 1 1\ng\n", "levels 1 1 1\n\x10\n"):
-            self.assertRaises(Damaged, plans.read_levels, text)
+            self.assertRaises(Refusal, plans.read_levels, text)
 
 
 class Commands(unittest.TestCase):

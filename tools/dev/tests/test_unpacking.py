@@ -6,7 +6,7 @@ import zlib
 import paths
 import nbt_writer
 import unpacking
-from refusals import Damaged
+from refusals import Refusal
 
 
 class Members(unittest.TestCase):
@@ -17,14 +17,14 @@ class Members(unittest.TestCase):
 
     def test_a_second_member_that_is_cut_off_or_damaged(self):
         data = gzip.compress(b"one ") + gzip.compress(b"two" * 99)
-        with self.assertRaisesRegex(Damaged, "cut off"):
+        with self.assertRaisesRegex(Refusal, "cut off"):
             unpacking.plain(data[:-9])
-        with self.assertRaisesRegex(Damaged, "damaged"):
+        with self.assertRaisesRegex(Refusal, "damaged"):
             unpacking.plain(data[:-6] + b"\0\0" + data[-4:])
 
     def test_members_have_one_limit_together(self):
         half = gzip.compress(bytes(unpacking.MOST // 2 + 1), 1)
-        with self.assertRaisesRegex(Damaged, "unpacks to more than 67,108,864 bytes"):
+        with self.assertRaisesRegex(Refusal, "unpacks to more than 67,108,864 bytes"):
             unpacking.plain(half + half)
 
 
