@@ -1,6 +1,7 @@
 """Other machines, which GNU parallel reaches by ssh. In the home folder of each lies a checkout named torchplan."""
 import os
 import subprocess
+from contextlib import suppress
 
 from refusals import FAILED, Refusal
 
@@ -47,8 +48,10 @@ class Hosts:
         try:
             yield from child.stdout
         except BaseException:
-            for _ in range(2):  # after the first it would wait for what runs
-                child.terminate()
+            child.terminate()  # after the first it waits for what runs
+            with suppress(subprocess.TimeoutExpired):
+                child.wait(0.5)
+            child.terminate()
             raise
         finally:
             child.stdout.close()

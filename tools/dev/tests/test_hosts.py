@@ -3,6 +3,10 @@ it would have them do; tools/dev/try-hosts has real ones."""
 import base64
 import io
 import os
+import signal
+import subprocess
+import sys
+import time
 import unittest
 import unittest.mock
 import zipfile
@@ -12,7 +16,7 @@ import parcels
 from refusals import Refusal
 from repository import TOP
 from saved_worlds import V1_21, Saved
-from test_light import Commands, room
+from test_light import SCRIPT, Commands, room
 
 # Writes down its words, and runs the last for each line.
 PARALLEL = """#!/bin/sh
@@ -122,6 +126,23 @@ class OnHosts(Commands):
             with unittest.mock.patch(what, lambda *_: "another"):
                 out, err = self.run_light("--world", self.world, *WORDS, "--hosts", "one", status=1)
             self.assertEqual(err.count("torchplan is another than where the area is planned: take the same commit"), 2)
+
+    def test_ctrl_c_ends_parallel(self):
+        waits = f"echo $$ >'{self.tools}/begun'; exec sleep 99; while"
+        self.put_parallel(PARALLEL.format(folder=self.tools).replace("while", waits))
+        self.prepare()
+        words = [sys.executable, SCRIPT, "--world", self.world, *WORDS, "--hosts", "one"]
+        child = subprocess.Popen(words, stdout=subprocess.PIPE, stderr=subprocess.PIPE, text=True,
+                                 preexec_fn=lambda: signal.signal(signal.SIGINT, signal.SIG_DFL))
+        begun = os.path.join(self.tools, "begun")
+        while not os.path.exists(begun) or not os.path.getsize(begun):
+            self.assertIsNone(child.poll())
+            time.sleep(0.05)
+        child.send_signal(signal.SIGINT)
+        out, err = child.communicate(timeout=30)
+        self.assertEqual((child.returncode, out, err.splitlines()[-1]), (130, "", "light: stopped"))
+        with open(begun, encoding="utf-8") as file:
+            self.assertRaises(ProcessLookupError, os.kill, int(file.read()), 0)
 
     def test_without_gnu_parallel(self):
         told = "light: --hosts takes GNU parallel, which isn't installed here"
