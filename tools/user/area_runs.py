@@ -95,8 +95,10 @@ class AreaRun:
     def on_hosts(self, pieces, hosts):
         """Has pieces planned on other machines. One that doesn't come back failed."""
         due = {os.path.basename(self.folder_of(piece, [], [])): piece for piece in self.left(pieces)}
-        for line in hosts.answers(due, self.work) if due else ():
+        lines = hosts.answers(due, self.work) if due else ()
+        for count, line in enumerate(lines, len(pieces) - len(due) + 1):
             self.take(line, due)
+            self.tell(count, pieces)
         for piece in self.left(pieces):
             self.fail(piece, self.folder_of(piece, [], []), "no host planned it")
 

@@ -1,13 +1,15 @@
 """The program that lies packed in dist/, for tests that run it: nothing is built."""
 import gzip
 import os
+import platform
 import subprocess
 import unittest
 
 import paths  # it makes the modules of tools/dev known
 from repository import TOP
 
-PACKED = os.path.join(TOP, "dist", "torchplan-x86_64-linux.gz")
+MACHINE = "aarch64" if platform.machine() == "aarch64" else "x86_64"
+PACKED = os.path.join(TOP, "dist", f"torchplan-{MACHINE}-linux.gz")
 
 
 def runs_here(program):

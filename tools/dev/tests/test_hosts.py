@@ -93,6 +93,10 @@ class OnHosts(Commands):
         words, = self.words()
         self.assertIn("--sshlogin one,me@two --jobs 3 --joblog +", words)
 
+    def test_how_far_the_run_is_is_told(self):
+        out, err = self.run_light("--world", self.world, *WORDS, "--hosts", "one", "--progress")
+        self.assertEqual(err.splitlines()[1:3], ["light: 1 of 2 pieces", "light: 2 of 2 pieces"])
+
     def test_the_log_is_kept(self):
         text = PARALLEL.replace("echo \"$*\"", "echo a log >\"${{6#+}}\"; echo \"$*\"")
         self.put_parallel(text.format(folder=self.tools))
