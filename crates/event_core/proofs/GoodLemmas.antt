@@ -15,7 +15,7 @@ use Rattle.proof_tree.specs.declared.bars.Bar.{Bar}
 use Rattle.proof_tree.specs.declared.branching.Branching.{Branching}
 use Rattle.proof_tree.specs.declared.branching.Branching.TheVariants.{Cell, Place}
 use Rattle.proof_tree.proofs.KidLemmas.{length-steps_from, step_from}
-use Rattle.event_core.specs.State.{State, Part, Status, Way, opened, closed, HasPart, piece_of}
+use Rattle.event_core.specs.State.{State, Part, Status, Way, opened, closed, HasPart, goal_of, piece_of}
 use Rattle.event_core.specs.Sound.{IsSoundState, HasKids}
 use Rattle.event_core.specs.Assembled.{IsAssembled, AreAssembled, IsBelow, IsClosedBy, IsOpenedOn}
 use Rattle.event_core.proofs.StateLemmas.{not_none, same_parts}
@@ -56,14 +56,14 @@ there state name (pick place with without) (inr o) = opened_there state name [] 
 
 module _ (state : State) (sound : IsSoundState state) where
   abbrev GoodHere : List ℕ → List ℕ → Tree → Type 0
-  GoodHere c b tree = Good (of_instance state.region) state.region.cells c b (length state.best) tree
+  GoodHere c b tree = Good (of_instance state.region) state.region.cells c b (goal_of state) tree
 
   closed_good : (name c b : List ℕ) (status : Status) (tree : Tree) → HasPart state name c b status
       → IsClosedBy state name tree → GoodHere c b tree
   closed_good name c b status tree h k =
       let same = same_parts state name k.0 k.1 c b (closed k.2 tree) status k.3 h in
       let good = good_at_less (of_instance state.region) state.region.cells k.0 k.1 tree
-      (length state.best) k.2 (sound.reached name k.0 k.1 k.2 tree k.3) (sound.proved name k.0 k.1 k.2 tree k.3) in
+      (goal_of state) k.2 (sound.reached name k.0 k.1 k.2 tree k.3) (sound.proved name k.0 k.1 k.2 tree k.3) in
       subst (λ (x : List ℕ). GoodHere x b tree)
       same.chosen (subst (λ (x : List ℕ). GoodHere k.0 x tree) same.barred good)
 
@@ -102,7 +102,7 @@ module _ (state : State) (sound : IsSoundState state) where
   -- a branch on the cell is good where its kids are
   good_branch : (name c b low : List ℕ) (cell : ℕ) (kids : Forest) → low ≡ b
       → MayBranch (piece_of state name c low) (Cell cell) → (k : Kids name c low (Cell cell))
-      → AreGood (of_instance state.region) state.region.cells c (low ++ []) (length state.best) k.places kids
+      → AreGood (of_instance state.region) state.region.cells c (low ++ []) (goal_of state) k.places kids
       → GoodHere c b (branch cell kids)
   good_branch name c b low cell kids e may k g =
       subst (λ (x : List ℕ). GoodHere c x (branch cell kids)) e (
@@ -110,7 +110,7 @@ module _ (state : State) (sound : IsSoundState state) where
         k.places,
         k.all,
         subst (λ (x : List ℕ). AreGood (of_instance state.region) state.region.cells c x
-            (length state.best) k.places kids)
+            (goal_of state) k.places kids)
             (append-nil low) g,
       )
 
@@ -126,7 +126,7 @@ module _ (state : State) (sound : IsSoundState state) where
       )
 
   mutual
-    -- the tree of a piece proves that no cover of it is smaller than the best
+    -- the tree of a piece proves that no cover of it is below the goal
     pub good : (tree : Tree) (name c b : List ℕ) (status : Status) → HasPart state name c b status
         → IsAssembled state name tree → GoodHere c b tree
     good (leaf cells) name c b status h a = closed_good name c b status (leaf cells) h a
@@ -188,7 +188,7 @@ module _ (state : State) (sound : IsSoundState state) where
     -- and so do the trees of the kids on a cell, from any of them on
     pub all_good : (kids : Forest) (name c low : List ℕ) (cell : ℕ) (k : Kids name c low (Cell cell)) (i : ℕ)
         → AreAssembled state name i kids
-        → AreGood (of_instance state.region) state.region.cells c (low ++ take i k.places) (length state.best)
+        → AreGood (of_instance state.region) state.region.cells c (low ++ take i k.places) (goal_of state)
         (drop i k.places) kids
     all_good none name c low cell k i a = elim (cases_lt i (length k.places)) [
       | inl lt ↦ (let t = on_cell name c low cell k i lt in
@@ -198,7 +198,7 @@ module _ (state : State) (sound : IsSoundState state) where
             status = t.0;
           }) (sym a ∙ t.1))
       | inr le ↦ subst (λ (x : List ℕ). AreGood (of_instance state.region) state.region.cells c (low ++ take i k.places)
-          (length state.best) x none) (sym (drop_past k.places i le)) tt
+          (goal_of state) x none) (sym (drop_past k.places i le)) tt
     ]
     all_good (more tree trees) name c low cell k i a = elim (cases_lt i (length k.places)) [
       | inl lt ↦ (let t = on_cell name c low cell k i lt in let place = slice_index k.places i in
@@ -208,21 +208,21 @@ module _ (state : State) (sound : IsSoundState state) where
           ap (λ (x : List ℕ). low ++ x) (take_more k.places i 0 lt)
           ∙ sym (append_assoc low (take i k.places) (place ∷ [])) in
           subst (λ (x : List ℕ). AreGood (of_instance state.region) state.region.cells c (low ++ take i k.places)
-          (length state.best) x (more tree trees)) (sym (drop_more k.places i 0 lt)) (
+          (goal_of state) x (more tree trees)) (sym (drop_more k.places i 0 lt)) (
             first,
-            subst (λ (x : List ℕ). AreGood (of_instance state.region) state.region.cells c x (length state.best)
+            subst (λ (x : List ℕ). AreGood (of_instance state.region) state.region.cells c x (goal_of state)
                 (drop (i + 1) k.places) trees) barred rest,
           ))
       | inr le ↦ (let t = there state (name ++ i ∷ []) tree a.0 in
           not_none t.0 (sym (k.no_more i (omega (arith, le, length-steps_from [] k.places))) ∙ t.1))
     ]
 
--- the tree of the root proves that no cover is smaller than the best
+-- the tree of the root proves that no cover is below the goal
 pub reached_good : (region : Instance) (events : List Event) (state : State) (tree : Tree)
     → IsReached region events state → IsAssembled state [] tree
-    → Good (of_instance region) region.cells [] [] (length state.best) tree
+    → Good (of_instance region) region.cells [] [] (goal_of state) tree
 reached_good region events state tree r a =
     let sound = reached_sound region events state r in
-    subst (λ (x : Instance). Good (of_instance x) x.cells [] [] (length state.best) tree)
+    subst (λ (x : Instance). Good (of_instance x) x.cells [] [] (goal_of state) tree)
     (reached_region region events state r)
     (good state sound tree [] [] [] sound.rooted.0 sound.rooted.1 a)

@@ -4,7 +4,7 @@ use Rattle.std.proofs.Common.{sym, ap, ◌∙◌, subst}
 use Rattle.std.specs.Prelude.{IsTrue}
 use Rattle.instance_regions.specs.Cover.{Covering, IsCoverOfRegion}
 use Rattle.proof_rules.specs.Tree.{Tree}
-use Rattle.event_core.specs.State.{IsDone}
+use Rattle.event_core.specs.State.{IsDone, goal_of}
 use Rattle.event_core.specs.Plays.{Steps}
 use Rattle.event_core.specs.declared.event.Event.{Event}
 use Rattle.event_core.specs.Sound.{IsSoundState}
@@ -19,7 +19,7 @@ use Rattle.event_core.proofs.ShapeLemmas.{put_whole}
 
 -- what is kept stays so after a look
 pub seen_kept : (kept : Kept) (worker : ℕ) → worker < length kept.seen → IsKept kept
-    → IsKept (record kept { seen = set kept.seen worker (length kept.best) })
+    → IsKept (record kept { seen = set kept.seen worker (goal_of (state_of kept)) })
 seen_kept kept worker lt k = record {
   whole = k.whole;
   cover = k.cover;

@@ -1,14 +1,15 @@
 -- What holds after any events still holds where a piece is opened.
 use Rattle.std.proofs.Common.{◌≡◌, ◌≢◌, ◌⊎◌, inl, inr, ℕ, ◌<◌, ◌≤◌, List, [], ◌∷◌, ◌++◌, length, Option, Some, None}
-use Rattle.std.proofs.Common.{sym, ap, ◌∙◌, subst, arith, le_trans}
+use Rattle.std.proofs.Common.{sym, ap, ◌∙◌, subst, arith, append-nil, le_trans}
 use Rattle.cave_model.specs.Plan.{AreDistinct}
 use Rattle.set_cover.specs.Instance.{of_instance}
 use Rattle.proof_rules.specs.Good.{IsCoverOfPiece}
 use Rattle.proof_tree.specs.Bars.{places_of}
 use Rattle.proof_tree.specs.Opened.{ArePlacesOn, MayBeOpened, Step, below_bars, step_at, steps_on}
 use Rattle.proof_tree.specs.Piece.{Subproblem}
+use Rattle.proof_tree.specs.declared.bars.Bar.{Bar}
 use Rattle.event_core.specs.State.{State, Part, Status, Way, waiting, opened, closed, HasPart, IsLeft, piece_of}
-use Rattle.event_core.specs.Sound.{IsSoundState, IsLeftOver, HasKids}
+use Rattle.event_core.specs.Sound.{IsSoundState, IsLeftOver, IsLeftFor, HasKids, HasNoBars}
 use Rattle.event_core.specs.Events.{IsParted}
 use Rattle.event_core.proofs.KidLemmas.{below_covers, kid_distinct, to_kid}
 use Rattle.event_core.proofs.NameLemmas.{same_or_not, kid_or_not, same_kid, kid_other}
@@ -137,6 +138,46 @@ module _ (old : State) (f : List ℕ → Option Part) (n c b : List ℕ) (was : 
     }
   ]
 
+  -- a cover of the piece covers one of its kids, where there are no bars
+  for_kids : (given : List ℕ) → way.bars ≡ [] → IsCoverOfPiece (of_instance old.region) old.region.cells c b given
+      → IsLeftFor new given
+  for_kids given none covers =
+      let same : b ≡ low.barred = sym (append-nil b) ∙ ap (λ (l : List Bar). b ++ places_of l) (sym none) in
+      let below = subst (λ (x : List ℕ). IsCoverOfPiece (of_instance old.region) old.region.cells c x given) same
+      covers in
+      let k = to_kid low way.on places given may.may all below in
+      record {
+        name = n ++ k.0 ∷ [];
+        chosen = c ++ (step_at steps k.0).chosen;
+        barred = low.barred ++ (step_at steps k.0).barred;
+        status = waiting;
+        there = p.kids k.0 k.1;
+        left = tt;
+        covers = k.2;
+      }
+
+  left_for : (given : List ℕ) → way.bars ≡ [] → IsLeftFor old given → IsLeftFor new given
+  left_for given none l = elim (same_or_not l.name n) [
+    | inl e ↦ (let same = same_parts old n l.chosen l.barred c b l.status was (ap old.part_at (sym e) ∙ l.there) is in
+        for_kids given none
+        (subst (λ (x : List ℕ). IsCoverOfPiece (of_instance old.region) old.region.cells x b given) same.chosen
+        (subst (λ (x : List ℕ). IsCoverOfPiece (of_instance old.region) old.region.cells l.chosen x given)
+        same.barred l.covers)))
+    | inr ne ↦ record {
+      name = l.name;
+      chosen = l.chosen;
+      barred = l.barred;
+      status = l.status;
+      there = stays l.name l.chosen l.barred l.status ne l.there;
+      left = l.left;
+      covers = l.covers;
+    }
+  ]
+
+  -- where there are no bars now, there were none
+  no_bars_before : HasNoBars new → HasNoBars old
+  no_bars_before none m c2 b2 at h = none m c2 b2 at (opened_stays m c2 b2 at h)
+
   new_kids : HasKids new n c b way
   new_kids = record {
     opens = record { dominated = may.dominated; may = may.may };
@@ -188,6 +229,8 @@ module _ (old : State) (f : List ℕ → Option Part) (n c b : List ℕ) (was : 
       ]
     ];
     covered = λ cover covers lt. left_over cover (sound.covered cover covers lt);
+    exact = λ none cover covers lt. left_for cover (none n c b way p.here)
+        (sound.exact (no_bars_before none) cover covers lt);
     reached = λ m c2 b2 floor tree h. elim (back m c2 b2 (closed floor tree) h) [
       | inl e ↦ opened_not_closed way floor tree e.1.status
       | inr o ↦ elim o [

@@ -1,6 +1,7 @@
 -- What holds after each event, and so after any events.
 use Rattle.std.proofs.Common.{◌≡◌, ◌≢◌, inl, inr, ℕ, ◌<◌, ◌≤◌, Bool, true, false, List, [], ◌∷◌, ◌++◌, length, get_or}
-use Rattle.std.proofs.Common.{set, Some, sym, ap, ◌∙◌, subst, arith, le_trans}
+use Rattle.std.proofs.Common.{min, set, Some, sym, ap, ◌∙◌, subst, arith}
+use Rattle.std.specs.Prelude.{slice_index}
 use Rattle.std.proofs.lemmas.Bool.{cases_eq, cases_lt}
 use Rattle.std.proofs.lemmas.Bool.Decides.{nat_tests}
 use Rattle.std.proofs.lemmas.List.{get_or-set_same, get_or-set_other, length-replicate, get_or-replicate, length-set}
@@ -13,9 +14,9 @@ use Rattle.proof_rules.proofs.ListLemmas.{distinct_nil}
 use Rattle.proof_tree.specs.Piece.{Fathomed}
 use Rattle.proof_tree.specs.declared.branching.Branching.TheVariants.{Cell, Place}
 use Rattle.event_core.specs.State.{State, Part, Status, Way, waiting, held, opened, closed, HasPart, IsLeft, IsDone}
-use Rattle.event_core.specs.State.{Begins}
+use Rattle.event_core.specs.State.{Begins, goal_of}
 use Rattle.event_core.specs.Laws.{IsReached, IsAnyCover}
-use Rattle.event_core.specs.Sound.{IsSoundState, IsLeftOver, HasKids}
+use Rattle.event_core.specs.Sound.{IsSoundState, IsLeftOver, IsLeftFor, HasKids, HasNoBars}
 use Rattle.event_core.specs.Events.{MayOpen, MayClose, IsEnabled, Does, Turns, Opens, smaller}
 use Rattle.event_core.specs.Plays.{Steps, Plays}
 use Rattle.event_core.specs.declared.event.Event.{Event}
@@ -30,74 +31,79 @@ cov state = λ c b places. IsCoverOfPiece (of_instance state.region) state.regio
 
 -- ---- looks and offers
 
--- a look keeps the state sound
-pub look_sound : (old : State) (worker : ℕ) → worker < length old.seen → IsSoundState old
-    → IsSoundState (record old { seen = set old.seen worker (length old.best) })
-look_sound old worker lt sound = record {
-  seen = λ other inside. elim (cases_eq other worker) [
-    | inl e ↦ (let at = get_or-set_same old.seen worker (length old.best) 0 lt in
-        subst (λ (v : ℕ). length old.best ≤ get_or (set old.seen worker (length old.best)) v 0) (sym e)
-        (omega (arith, at)))
-    | inr ne ↦ (let at = get_or-set_other old.seen worker other (length old.best) 0 ne in
-        let was = sound.seen other (omega (arith, inside, length-set old.seen worker (length old.best))) in
-        omega (arith, at))
-  ];
-  rooted = sound.rooted;
-  parents = sound.parents;
-  distinct = sound.distinct;
-  covered = λ places covers lt. (let l = sound.covered places covers lt in
-      record {
-        name = l.name;
-        chosen = l.chosen;
-        barred = l.barred;
-        status = l.status;
-        there = l.there;
-        left = l.left;
-        cover = l.cover;
-        no_more = l.no_more;
-        covers = l.covers;
-      });
-  reached = sound.reached;
-  proved = sound.proved;
-  kids = λ m c b way h. (let k = sound.kids m c b way h in record {
+module _ (old : State) (best seen : List ℕ) where
+  -- the pieces stay
+  abbrev but_pieces : State
+  but_pieces = record old { best = best; seen = seen }
+
+  over_stays : (places : List ℕ) → IsLeftOver old places → IsLeftOver but_pieces places
+  over_stays places l = record {
+    name = l.name;
+    chosen = l.chosen;
+    barred = l.barred;
+    status = l.status;
+    there = l.there;
+    left = l.left;
+    cover = l.cover;
+    no_more = l.no_more;
+    covers = l.covers;
+  }
+
+  for_stays : (places : List ℕ) → IsLeftFor old places → IsLeftFor but_pieces places
+  for_stays places l = record {
+    name = l.name;
+    chosen = l.chosen;
+    barred = l.barred;
+    status = l.status;
+    there = l.there;
+    left = l.left;
+    covers = l.covers;
+  }
+
+  kids_stay : (m c b : List ℕ) (way : Way) → HasKids old m c b way → HasKids but_pieces m c b way
+  kids_stay m c b way k = record {
     opens = record { dominated = k.opens.dominated; may = k.opens.may };
     places = k.places;
     all = k.all;
     there = k.there;
     no_more = k.no_more;
-  });
-}
+  }
+
+  -- where the goal grows no larger, and each worker saw no less, the state stays sound
+  still_sound : goal_of but_pieces ≤ goal_of old
+      → ((worker : ℕ) → worker < length seen → goal_of but_pieces ≤ slice_index seen worker)
+      → IsSoundState old → IsSoundState but_pieces
+  still_sound le saw sound = record {
+    seen = saw;
+    rooted = sound.rooted;
+    parents = sound.parents;
+    distinct = sound.distinct;
+    covered = λ places covers lt. over_stays places (sound.covered places covers (omega (arith, le, lt)));
+    exact = λ none places covers lt. for_stays places
+        (sound.exact (λ m c b way h. none m c b way h) places covers (omega (arith, le, lt)));
+    reached = λ m c b floor tree h. omega (arith, le, sound.reached m c b floor tree h);
+    proved = sound.proved;
+    kids = λ m c b way h. kids_stay m c b way (sound.kids m c b way h);
+  }
+
+-- a look keeps the state sound
+pub look_sound : (old : State) (worker : ℕ) → worker < length old.seen → IsSoundState old
+    → IsSoundState (record old { seen = set old.seen worker (goal_of old) })
+look_sound old worker lt sound = still_sound old old.best (set old.seen worker (goal_of old)) (omega arith)
+    (λ other inside. elim (cases_eq other worker) [
+      | inl e ↦ (let at = get_or-set_same old.seen worker (goal_of old) 0 lt in
+          subst (λ (v : ℕ). goal_of old ≤ get_or (set old.seen worker (goal_of old)) v 0) (sym e)
+          (omega (arith, at)))
+      | inr ne ↦ (let at = get_or-set_other old.seen worker other (goal_of old) 0 ne in
+          let was = sound.seen other (omega (arith, inside, length-set old.seen worker (goal_of old))) in
+          omega (arith, at))
+    ]) sound
 
 -- so does a cover that is no larger than the best
 pub better_sound : (old : State) (best : List ℕ) → length best ≤ length old.best → IsSoundState old
     → IsSoundState (record old { best = best })
-better_sound old best le sound = record {
-  seen = λ worker inside. le_trans le (sound.seen worker inside);
-  rooted = sound.rooted;
-  parents = sound.parents;
-  distinct = sound.distinct;
-  covered = λ places covers lt. (let l = sound.covered places covers (omega arith) in
-      record {
-        name = l.name;
-        chosen = l.chosen;
-        barred = l.barred;
-        status = l.status;
-        there = l.there;
-        left = l.left;
-        cover = l.cover;
-        no_more = l.no_more;
-        covers = l.covers;
-      });
-  reached = λ m c b floor tree h. le_trans le (sound.reached m c b floor tree h);
-  proved = sound.proved;
-  kids = λ m c b way h. (let k = sound.kids m c b way h in record {
-    opens = record { dominated = k.opens.dominated; may = k.opens.may };
-    places = k.places;
-    all = k.all;
-    there = k.there;
-    no_more = k.no_more;
-  });
-}
+better_sound old best le sound = still_sound old best old.seen (omega (arith, le))
+    (λ worker inside. omega (arith, le, sound.seen worker inside)) sound
 
 -- the smaller of two covers is no larger than the best
 pub not_larger : (new old : List ℕ) → length (smaller new old) ≤ length old
@@ -109,8 +115,8 @@ not_larger new old = grind (arith, nat_tests)
 turn_sound : (old : State) (n : List ℕ) (status : Status) (new : State) (c b : List ℕ) (was : Status) → IsSoundState old
     → Turns old n status new → HasPart old n c b was → IsLeft was
     → ((way : Way) → status ≢ opened way)
-    → ((places : List ℕ) → length places < length old.best → cov old c b places → IsLeft status)
-    → ((floor : ℕ) (tree : Tree) → status ≡ closed floor tree → length old.best ≤ floor)
+    → ((places : List ℕ) → length places < goal_of old → cov old c b places → IsLeft status)
+    → ((floor : ℕ) (tree : Tree) → status ≡ closed floor tree → goal_of old ≤ floor)
     → ((floor : ℕ) (tree : Tree) → status ≡ closed floor tree
     → Good (of_instance old.region) old.region.cells c b floor tree) → IsSoundState new
 turn_sound old n status new c b was sound t is left no_way still reach prove =
@@ -187,13 +193,13 @@ step_sound old event false new sound s = subst IsSoundState (sym s.1) sound
 -- ---- from the start
 
 -- the first state is sound
-pub begin_sound : (region : Instance) (places : List ℕ) (workers : ℕ) (state : State)
-    → Begins region places workers state → IsSoundState state
-begin_sound region places workers state s = record {
+pub begin_sound : (region : Instance) (places : List ℕ) (aim workers : ℕ) (state : State)
+    → Begins region places aim workers state → IsSoundState state
+begin_sound region places aim workers state s = record {
   seen = λ worker inside. (let e = ap (λ (xs : List ℕ). get_or xs worker 0) s.seen in let l = ap length s.seen in
-      let m = length-replicate workers (length places) in
-      let v = get_or-replicate workers worker (length places) 0 (omega arith) in let b = ap length s.best in
-      omega arith);
+      let m = length-replicate workers (min aim (length places)) in
+      let v = get_or-replicate workers worker (min aim (length places)) 0 (omega arith) in let b = ap length s.best in
+      let a = s.aimed in omega arith);
   rooted = (waiting, s.root);
   parents = λ n i p h. no_kid n i p h;
   distinct = λ n c b st h. subst AreDistinct (only n c b st h).chosen distinct_nil;
@@ -206,6 +212,15 @@ begin_sound region places workers state s = record {
     left = tt;
     cover = cover;
     no_more = omega arith;
+    covers = covers;
+  };
+  exact = λ none cover covers lt. record {
+    name = [];
+    chosen = [];
+    barred = [];
+    status = waiting;
+    there = s.root;
+    left = tt;
     covers = covers;
   };
   reached = λ n c b floor tree h. waiting_not_closed floor tree (only n c b (closed floor tree) h).status;
@@ -254,28 +269,48 @@ plays_region old (event ∷ events) new p = plays_region p.1 events new p.3 ∙ 
 pub reached_sound : (region : Instance) (events : List Event) (state : State) → IsReached region events state
     → IsSoundState state
 reached_sound region events state r = plays_sound r.start events state
-    (begin_sound region r.first r.workers r.start r.begins) r.plays
+    (begin_sound region r.first r.aim r.workers r.start r.begins) r.plays
 
 -- and is of the region
 pub reached_region : (region : Instance) (events : List Event) (state : State) → IsReached region events state
     → state.region ≡ region
 reached_region region events state r = plays_region r.start events state r.plays ∙ r.begins.of_it
 
--- for a cover smaller than the best one of no more places is left over in some piece
+-- a cover of the region is one of the state's
+any_cover : (region : Instance) (events : List Event) (state : State) (places : List ℕ)
+    → IsReached region events state → IsAnyCover region places → IsAnyCover state.region places
+any_cover region events state places r covers =
+    subst (λ (x : Instance). IsAnyCover x places) (sym (reached_region region events state r)) covers
+
+-- for a cover below the goal one of no more places is left over in some piece
 pub reached_left : (region : Instance) (events : List Event) (state : State) (places : List ℕ)
-    → IsReached region events state → IsAnyCover region places → length places < length state.best
+    → IsReached region events state → IsAnyCover region places → length places < goal_of state
     → IsLeftOver state places
 reached_left region events state places r covers lt = (reached_sound region events state r).covered places
-    (subst (λ (x : Instance). IsAnyCover x places) (sym (reached_region region events state r)) covers) lt
+    (any_cover region events state places r covers) lt
 
--- where all is done no cover is smaller than the best
-pub reached_best : (region : Instance) (events : List Event) (state : State) (places : List ℕ)
-    → IsReached region events state → IsDone state → IsAnyCover region places → length state.best ≤ length places
-reached_best region events state places r done covers = elim (cases_lt (length places) (length state.best)) [
+-- that very cover, where there are no bars
+pub reached_exact : (region : Instance) (events : List Event) (state : State) (places : List ℕ)
+    → IsReached region events state → HasNoBars state → IsAnyCover region places → length places < goal_of state
+    → IsLeftFor state places
+reached_exact region events state places r none covers lt = (reached_sound region events state r).exact none places
+    (any_cover region events state places r covers) lt
+
+-- where all is done no cover is below the goal
+pub reached_goal : (region : Instance) (events : List Event) (state : State) (places : List ℕ)
+    → IsReached region events state → IsDone state → IsAnyCover region places → goal_of state ≤ length places
+reached_goal region events state places r done covers = elim (cases_lt (length places) (goal_of state)) [
   | inl lt ↦ (let l = reached_left region events state places r covers lt in
       absurd (done l.name l.chosen l.barred l.status l.there l.left))
   | inr le ↦ le
 ]
+
+-- nor smaller than the best, where that is no larger than the aim
+pub reached_best : (region : Instance) (events : List Event) (state : State) (places : List ℕ)
+    → IsReached region events state → IsDone state → length state.best ≤ state.aim → IsAnyCover region places
+    → length state.best ≤ length places
+reached_best region events state places r done within covers =
+    omega (arith, within, reached_goal region events state places r done covers)
 
 -- an opened piece has a kid for each place that may light its cell
 pub reached_kids : (region : Instance) (events : List Event) (state : State) (name chosen barred : List ℕ) (way : Way)

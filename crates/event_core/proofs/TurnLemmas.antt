@@ -5,10 +5,10 @@ use Rattle.cave_model.specs.Plan.{AreDistinct}
 use Rattle.set_cover.specs.Instance.{of_instance}
 use Rattle.proof_rules.specs.Tree.{Tree}
 use Rattle.proof_rules.specs.Good.{Good, IsCoverOfPiece}
-use Rattle.event_core.specs.State.{State, Part, Status, Way, opened, closed, HasPart, IsLeft}
+use Rattle.event_core.specs.State.{State, Part, Status, Way, opened, closed, HasPart, IsLeft, goal_of}
 use Rattle.proof_tree.specs.Bars.{places_of}
 use Rattle.proof_tree.specs.Opened.{step_at, steps_on}
-use Rattle.event_core.specs.Sound.{IsSoundState, IsLeftOver, HasKids}
+use Rattle.event_core.specs.Sound.{IsSoundState, IsLeftOver, IsLeftFor, HasKids, HasNoBars}
 use Rattle.event_core.proofs.NameLemmas.{same_or_not}
 use Rattle.event_core.proofs.StateLemmas.{not_none, AreSame, same_parts, left_not_opened}
 
@@ -104,12 +104,45 @@ module _ (old : State) (f : List ℕ → Option Part) (n c b : List ℕ) (was st
     }
   ]
 
+  left_for : (places : List ℕ) → (IsCoverOfPiece (of_instance old.region) old.region.cells c b places → IsLeft status)
+      → IsLeftFor old places → IsLeftFor new places
+  left_for places still l = elim (same_or_not l.name n) [
+    | inl e ↦ (let same = same_parts old n l.chosen l.barred c b l.status was (ap old.part_at (sym e) ∙ l.there) is in
+        let covers = subst (λ (x : List ℕ). IsCoverOfPiece (of_instance old.region) old.region.cells x b places)
+        same.chosen
+        (subst (λ (x : List ℕ). IsCoverOfPiece (of_instance old.region) old.region.cells l.chosen x places)
+        same.barred l.covers) in
+        record {
+          name = n;
+          chosen = c;
+          barred = b;
+          status = status;
+          there = here;
+          left = still covers;
+          covers = covers;
+        })
+    | inr ne ↦ record {
+      name = l.name;
+      chosen = l.chosen;
+      barred = l.barred;
+      status = l.status;
+      there = others l.name ne
+          ∙ l.there;
+      left = l.left;
+      covers = l.covers;
+    }
+  ]
+
+  -- where there are no bars now, there were none
+  no_bars_before : HasNoBars new → HasNoBars old
+  no_bars_before none m c2 b2 way h = none m c2 b2 way (stays m c2 b2 way h)
+
   -- the new status is no opened one; it is left where the piece has a smaller cover; and where a tree closes it, the
   -- tree is good
   pub turned_sound : ((way : Way) → status ≢ opened way)
-      → ((places : List ℕ) → length places < length old.best
+      → ((places : List ℕ) → length places < goal_of old
       → IsCoverOfPiece (of_instance old.region) old.region.cells c b places → IsLeft status)
-      → ((floor : ℕ) (tree : Tree) → status ≡ closed floor tree → length old.best ≤ floor)
+      → ((floor : ℕ) (tree : Tree) → status ≡ closed floor tree → goal_of old ≤ floor)
       → ((floor : ℕ) (tree : Tree) → status ≡ closed floor tree
       → Good (of_instance old.region) old.region.cells c b floor tree)
       → IsSoundState new
@@ -124,6 +157,8 @@ module _ (old : State) (f : List ℕ → Option Part) (n c b : List ℕ) (was st
     ];
     covered = λ places covers lt. left_over places
         (λ cover le. still cover (omega (arith, le, lt))) (sound.covered places covers lt);
+    exact = λ none places covers lt. left_for places (still places lt)
+        (sound.exact (no_bars_before none) places covers lt);
     reached = λ m c2 b2 floor tree h. elim (back m c2 b2 (closed floor tree) h) [
       | inl e ↦ reach floor tree e.1.status
       | inr o ↦ sound.reached m c2 b2 floor tree o.1

@@ -8,7 +8,8 @@ use Rattle.proof_tree.specs.Piece.{Fathomed, IsClosed}
 use Rattle.proof_tree.specs.declared.bars.Bar.{Bar}
 use Rattle.proof_tree.specs.declared.branching.Branching.{Branching}
 use Rattle.proof_tree.specs.declared.branching.Branching.TheVariants.{Cell, Place}
-use Rattle.event_core.specs.State.{State, Status, Way, waiting, held, opened, closed, HasPart, IsLeft, piece_of}
+use Rattle.event_core.specs.State.{State, Status, Way, waiting, held, opened, closed, HasPart, IsLeft, goal_of}
+use Rattle.event_core.specs.State.{piece_of}
 use Rattle.event_core.specs.declared.event.Event.{Event}
 use Rattle.event_core.specs.declared.event.Event.TheVariants.{Look, Offer, Take, Open, Pick, Close, Leave}
 
@@ -105,7 +106,7 @@ pub record Opens (old : State) (name : List ℕ) (way : Way) (new : State) : Typ
 
 -- the event makes the new state of the old: it changes what a worker saw, the best cover, or what became of a piece
 abbrev pub Does : State → Event → State → Type 0
-Does old (Look worker) new = new ≡ record old { seen = set old.seen worker (length old.best) }
+Does old (Look worker) new = new ≡ record old { seen = set old.seen worker (goal_of old) }
 Does old (Offer worker cover) new = new ≡ record old { best = smaller cover.places old.best }
 Does old (Take worker name) new = Turns old name (held worker) new
 Does old (Open name bars cell) new = Opens old name (record { bars = bars; on = Cell cell }) new

@@ -1,5 +1,5 @@
 -- A core as the code keeps it, and the state that it stands for.
-use Rattle.std.specs.Prelude.{◌≡◌, ℕ, Bool, true, false, List, [], length, refl}
+use Rattle.std.specs.Prelude.{◌≡◌, ℕ, Bool, true, false, List, [], length, min, refl}
 use Rattle.std.specs.Coded.{Coded, code_by, coded×, coded_ℕ, coded_list}
 use Rattle.set_cover.specs.Instance.{Instance, instance_coded, of_instance}
 use Rattle.instance_regions.specs.Cover.{Covering, IsCoverOfRegion}
@@ -14,24 +14,31 @@ use Rattle.event_core.specs.Finished.{IsWhole}
 use Rattle.event_core.specs.Codes.{shape_coded}
 use Rattle.event_core.specs.declared.event.Event.{Event}
 
--- a region, its smallest cover so far, the size that each worker saw last, and the pieces from the root on
+-- a region, its smallest cover so far, the aim, the size that each worker saw last, and the pieces from the root on
 pub record Kept : Type 0 where
   pub region : Instance
   pub best : List ℕ
+  pub aim : ℕ
   pub seen : List ℕ
   pub root : Shape
 
 -- the code by which such cores are told apart, made of those of their parts
 abbrev pub kept_coded : Coded Kept
-kept_coded = code_by (Instance × (List ℕ × (List ℕ × Shape)))
-    (coded× instance_coded (coded× (coded_list coded_ℕ) (coded× (coded_list coded_ℕ) shape_coded)))
-    (λ k. (k.region, (k.best, (k.seen, k.root))))
-    (λ p. record { region = p.0; best = p.1.0; seen = p.1.1.0; root = p.1.1.1 })
+kept_coded = code_by (Instance × (List ℕ × (ℕ × (List ℕ × Shape))))
+    (coded× instance_coded (coded× (coded_list coded_ℕ) (coded× coded_ℕ (coded× (coded_list coded_ℕ) shape_coded))))
+    (λ k. (k.region, (k.best, (k.aim, (k.seen, k.root)))))
+    (λ p. record { region = p.0; best = p.1.0; aim = p.1.1.0; seen = p.1.1.1.0; root = p.1.1.1.1 })
     (λ _. refl)
 
 -- a name leads from the root, in which nothing is chosen or barred, to its piece
 abbrev pub state_of : Kept → State
-state_of kept = record { region = kept.region; best = kept.best; seen = kept.seen; part_at = part_in [] [] kept.root }
+state_of kept = record {
+  region = kept.region;
+  best = kept.best;
+  aim = kept.aim;
+  seen = kept.seen;
+  part_at = part_in [] [] kept.root;
+}
 
 -- what every core keeps
 pub record IsKept (kept : Kept) : Type 0 where
@@ -48,8 +55,9 @@ abbrev pub StepsTo : Kept → Event → Kept → Bool → Type 0
 StepsTo old event new true = IsEnabled (state_of old) event × Does (state_of old) event (state_of new)
 StepsTo old event new false = (¬ IsEnabled (state_of old) event) × (new ≡ old)
 
--- the best cover, and the tree of what was opened and closed, which proves that no cover is smaller
+-- the best cover, and the tree of what was opened and closed, which proves that no cover is smaller, or none below the
+-- aim where that is smaller still
 pub record IsAssembly (kept : Kept) (cover : Covering) (tree : Tree) : Type 0 where
   pub best : cover ≡ record { region = kept.region; places = kept.best }
   pub assembled : IsAssembled (state_of kept) [] tree
-  pub good : Good (of_instance kept.region) kept.region.cells [] [] (length kept.best) tree
+  pub good : Good (of_instance kept.region) kept.region.cells [] [] (min kept.aim (length kept.best)) tree

@@ -6,12 +6,13 @@ use Rattle.event_core.specs.State.{State, Begins}
 use Rattle.event_core.specs.Plays.{Plays}
 use Rattle.event_core.specs.declared.event.Event.{Event}
 
--- the state after these events, for any number of workers and any cover that was handed in
+-- the state after these events, for any number of workers, any aim, and any cover that was handed in
 pub record IsReached (region : Instance) (events : List Event) (state : State) : Type 0 where
   pub first : List ℕ
+  pub aim : ℕ
   pub workers : ℕ
   pub start : State
-  pub begins : Begins region first workers start
+  pub begins : Begins region first aim workers start
   pub plays : Plays start events state
 
 -- distinct legal places that light each of its cells

@@ -1,5 +1,5 @@
 -- What is known of a region while workers close its pieces, as plain data. This is this project's own.
-use Rattle.std.specs.Prelude.{◌≡◌, ℕ, List, [], ◌∷◌, length, replicate, Option, Some, None}
+use Rattle.std.specs.Prelude.{◌≡◌, ℕ, List, [], ◌∷◌, length, min, replicate, Option, Some, None}
 use Rattle.set_cover.specs.Instance.{Instance}
 use Rattle.proof_rules.specs.Tree.{Tree}
 use Rattle.proof_tree.specs.Piece.{Subproblem}
@@ -27,15 +27,21 @@ pub record Part : Type 0 where
   pub barred : List ℕ
   pub status : Status
 
--- a region, its smallest cover so far, the size that each worker saw last, and the pieces by their names
+-- a region, its smallest cover so far, the aim, the size that each worker saw last, and the pieces by their names
 pub record State : Type 0 where
   pub region : Instance
   -- the places of the smallest cover so far
   pub best : List ℕ
+  -- no piece has to be closed at a greater size than this
+  pub aim : ℕ
   -- for each worker the size that it saw last
   pub seen : List ℕ
   -- the piece of each name, if there is one
   pub part_at : List ℕ → Option Part
+
+-- the size at which pieces are to be closed: that of the best cover, or the aim where that is smaller
+abbrev pub goal_of : State → ℕ
+goal_of state = min state.aim (length state.best)
 
 -- the piece of this name is so
 abbrev pub HasPart : State → List ℕ → List ℕ → List ℕ → Status → Type 0
@@ -54,11 +60,12 @@ IsLeft (held worker) = Unit {0}
 IsLeft (opened way) = ⊥
 IsLeft (closed floor tree) = ⊥
 
--- at first the root waits alone, and each worker has seen the size of the cover handed in
-pub record Begins (region : Instance) (places : List ℕ) (workers : ℕ) (state : State) : Type 0 where
+-- at first the root waits alone, and each worker has seen the size at which pieces are to be closed
+pub record Begins (region : Instance) (places : List ℕ) (aim workers : ℕ) (state : State) : Type 0 where
   pub of_it : state.region ≡ region
   pub best : state.best ≡ places
-  pub seen : state.seen ≡ replicate workers (length places)
+  pub aimed : state.aim ≡ aim
+  pub seen : state.seen ≡ replicate workers (min aim (length places))
   pub root : HasPart state [] [] [] waiting
   pub alone : (number : ℕ) (rest : List ℕ) → state.part_at (number ∷ rest) ≡ None
 

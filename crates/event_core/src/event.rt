@@ -6,7 +6,7 @@ use proof_tree::{Bar, Closed, Name};
 /// What may happen in a core. Workers are numbers below the count handed in.
 #[derive(Drop)]
 pub enum Event {
-    /// A worker sees the size of the best cover.
+    /// A worker sees the size at which pieces are to be closed.
     Look(u32),
     /// A worker offers a cover, which is the best from then on if it is smaller.
     Offer(u32, Cover),

@@ -6,7 +6,7 @@ ghost use Rattle.event_core.specs.Finished.{IsWhole};
 ghost use Rattle.event_core.specs.Kept.{IsKept, IsAssembly, put_kept, state_of};
 ghost use Rattle.event_core.specs.NodeShape.{shape_of};
 ghost use Rattle.event_core.specs.Sound.{IsSoundState};
-ghost use Rattle.event_core.specs.State.{Begins, IsDone};
+ghost use Rattle.event_core.specs.State.{Begins, IsDone, goal_of};
 ghost use Rattle.event_core.specs.Tracing.{IsTraced};
 ghost use Rattle.instance_regions.specs.Cover.{IsCover};
 ghost use Rattle.proof_tree.specs.Shape.{tree_of};
@@ -22,13 +22,15 @@ use std::marker::Model;
 use std::mem;
 use std::sync::Arc;
 
-/// What is known of a region while workers close its pieces: the best cover, the size that each worker saw last, and
-/// what became of each piece.
+/// What is known of a region while workers close its pieces: the best cover, the aim, the size that each worker saw
+/// last, and what became of each piece.
 #[derive(Drop)]
 pub struct Core {
     alloc: Global,
     region: Arc<Region>,
     best: Cover,
+    /// No piece has to be closed at a greater size than this.
+    aim: u64,
     seen: Vec<u64>,
     root: PieceNode,
 }
@@ -46,6 +48,7 @@ impl Model for Core {
     ghost view = { λ c. record {
       region = arc_value c.region;
       best = c.best.places;
+      aim = c.aim;
       seen = c.seen.items;
       root = shape_of c.root;
     } };
@@ -53,28 +56,32 @@ impl Model for Core {
     ghost invariant = { λ c. (c.best.region ≡ arc_value c.region) × IsKept (record {
       region = arc_value c.region;
       best = c.best.places;
+      aim = c.aim;
       seen = c.seen.items;
       root = shape_of c.root;
     }) };
 }
 
 impl Core {
-    /// A core in which the root waits, and each of so many workers has seen the size of this cover of the region.
+    /// A core in which the root waits. Each of so many workers has seen the aim, or the size of this cover of the
+    /// region where that is smaller.
     pub fn new(
         alloc: Global,
         region: Arc<Region>,
         best: Cover,
+        aim: u64,
         workers: u32,
     ) -> Result<Core, AllocError>
         requires of_it { best.region ≡ arc_value region }
-        ensures { IfOk result (λ core. Begins (arc_value region) best.places workers (state_of core)) }
+        ensures { IfOk result (λ core. Begins (arc_value region) best.places aim workers (state_of core)) }
     {
-        let size = best.size();
-        let seen = vec![in alloc; size; workers as usize]?;
+        let goal = aim.min(best.size());
+        let seen = vec![in alloc; goal; workers as usize]?;
         Ok(Core {
             alloc,
             region,
             best,
+            aim,
             seen,
             root: PieceNode::Waiting,
         })
@@ -95,8 +102,8 @@ impl Core {
         is_done(&self.root)
     }
 
-    /// The best cover, and the tree which proves that none is smaller. The core comes back where a piece waits or is
-    /// held. It takes no memory.
+    /// The best cover, and the tree which proves that none is smaller, or none below the aim where that is smaller
+    /// still. The core comes back where a piece waits or is held. It takes no memory.
     pub fn assemble(self) -> Result<(Cover, Proof), Core>
         ensures exactly { IsTrue (is_ok result) ↔ IsDone (state_of self) }
         ensures done { IfOk result (λ r. IsAssembly self r.0 (tree_of r.1)) }
@@ -107,6 +114,13 @@ impl Core {
         }
         let Core { best, root, .. } = self;
         Ok((best, assemble(root)))
+    }
+
+    /// The size at which pieces are to be closed: that of the best cover, or the aim where that is smaller.
+    fn goal(&self) -> u64
+        ensures { result ≡ goal_of (state_of self.now) }
+    {
+        self.aim.min(self.best.size())
     }
 
     pub(crate) fn alloc(&self) -> Global {
@@ -157,13 +171,13 @@ impl Core {
         Ok(traced)
     }
 
-    /// The worker sees the best's size.
+    /// The worker sees the size at which pieces are to be closed.
     pub(crate) fn see(&mut self, worker: u32)
         requires { worker < length self.old.seen }
-        ensures { self.new ≡ record self.old { seen = set self.old.seen worker (length self.old.best) } }
+        ensures { self.new ≡ record self.old { seen = set self.old.seen worker (goal_of (state_of self.old)) } }
     {
-        let size = self.best.size();
-        self.seen[worker as usize] = size;
+        let goal = self.goal();
+        self.seen[worker as usize] = goal;
     }
 
     /// The cover is the best if it is smaller.

@@ -6,7 +6,7 @@ use crate::event_state::Core;
 use instance_regions::Cover;
 
 impl Core {
-    /// A worker sees the size of the best cover.
+    /// A worker sees the size at which pieces are to be closed.
     pub(crate) fn look(&mut self, worker: u32) -> bool
         ensures { StepsTo self.old (Look worker) self.new result }
     {

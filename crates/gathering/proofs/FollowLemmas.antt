@@ -14,11 +14,11 @@ use Rattle.event_core.proofs.MoveLemmas.{opening_does}
 use Rattle.event_core.proofs.StateLemmas.{same_parts, held_not_opened, held_not_closed, waiting_not_closed}
 use Rattle.schedule_law.specs.Worked.{Worked}
 use Rattle.schedule_law.specs.Joined.{all_closed}
-use Rattle.schedule_law.specs.Listing.{opening_of, opens_as_long, opens, opens_to, offer_of, offers, looks, closes_of}
-use Rattle.schedule_law.specs.Listing.{closes, AllEnabled}
+use Rattle.schedule_law.specs.Listing.{opening_of, opens_as_long, opens, opens_below, offer_of, offers, looks}
+use Rattle.schedule_law.specs.Listing.{closes, closes_of, AllEnabled}
 use Rattle.schedule_law.proofs.LongLemmas.{as_long, all_as_long, in_turn}
 use Rattle.schedule_law.proofs.TurnLemmas.{way_of}
-use Rattle.gathering.specs.Playing.{tries_open, tries_as_long, tries, tries_to, one_if, TriesClose, TriesCloses}
+use Rattle.gathering.specs.Playing.{tries_open, tries_as_long, tries, tries_below, one_if, TriesClose, TriesCloses}
 use Rattle.gathering.specs.Playing.{TriesAllCloses}
 use Rattle.gathering.specs.Gathered.{GleansOne, Gleans}
 use Rattle.gathering.proofs.PlayLemmas.{plays_split}
@@ -147,20 +147,20 @@ follow_tries size w (x ∷ xs) rest old new e p =
     }
 
 -- and trying those with longer and longer names
-pub follow_tries_to : (size : ℕ) (works : List Worked) (rest : List Event) (old new : State)
-    → AllEnabled old (opens_to size works ++ rest) → Plays old (tries_to size works) new
+pub follow_tries_below : (size : ℕ) (works : List Worked) (rest : List Event) (old new : State)
+    → AllEnabled old (opens_below size works ++ rest) → Plays old (tries_below size works) new
     → IsOpenedTo old (in_turn size works) new rest
-follow_tries_to zero works rest old new e p = record {
+follow_tries_below zero works rest old new e p = record {
   opened_all = p;
   enabled = subst (λ (x : State). AllEnabled x rest) (sym p) e;
 }
-follow_tries_to (suc size) works rest old new e p =
-    let parts = plays_split old (tries_to size works) (tries (suc size) 0 works) new p in
-    let low = follow_tries_to size works (opens (suc size) 0 works ++ rest) old parts.0
-    (subst (AllEnabled old) (append_assoc (opens_to size works) (opens (suc size) 0 works) rest) e) parts.1.0 in
-    let last = follow_tries (suc size) 0 works rest parts.0 new low.enabled parts.1.1 in
+follow_tries_below (suc size) works rest old new e p =
+    let parts = plays_split old (tries_below size works) (tries size 0 works) new p in
+    let low = follow_tries_below size works (opens size 0 works ++ rest) old parts.0
+    (subst (AllEnabled old) (append_assoc (opens_below size works) (opens size 0 works) rest) e) parts.1.0 in
+    let last = follow_tries size 0 works rest parts.0 new low.enabled parts.1.1 in
     record {
-      opened_all = all_opened-append old (in_turn size works) (all_as_long (suc size) works) parts.0 new
+      opened_all = all_opened-append old (in_turn size works) (all_as_long size works) parts.0 new
           low.opened_all last.opened_all;
       enabled = last.enabled;
     }

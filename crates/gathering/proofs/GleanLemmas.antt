@@ -1,13 +1,13 @@
 -- Pieces that the caller's thread closes, one after another.
 use Rattle.std.proofs.Common.{◌≡◌, ◌≢◌, inl, inr, ℕ, zero, suc, ◌≤◌, Bool, true, false, List, [], ◌∷◌}
 use Rattle.std.proofs.Common.{◌++◌, length, get_or, set, Contains, Some}
-use Rattle.std.proofs.Common.{refl, sym, ap, ◌∙◌, subst, arith}
+use Rattle.std.proofs.Common.{min, refl, sym, ap, ◌∙◌, subst, arith}
 use Rattle.std.proofs.lemmas.Bool.Decides.{nat_tests}
 use Rattle.std.proofs.lemmas.List.{get_or-set_same, length-set}
 use Rattle.std.proofs.lemmas.List.Elements.{Contains-append_cases}
 use Rattle.instance_regions.specs.Cover.{Covering, IsCover}
 use Rattle.proof_tree.specs.Piece.{Fathomed, IsClosed, Subproblem}
-use Rattle.event_core.specs.State.{State, Status, waiting, held, closed, HasPart, IsLeft}
+use Rattle.event_core.specs.State.{State, Status, waiting, held, closed, HasPart, IsLeft, goal_of}
 use Rattle.event_core.specs.Events.{IsEnabled, Does, MayOffer, MayClose, IsWorker, smaller}
 use Rattle.event_core.specs.Plays.{Steps}
 use Rattle.event_core.specs.Waiting.{AreAllWaiting, IsWaitingPiece}
@@ -74,13 +74,14 @@ module _ (state : State) (caller : ℕ) (k : Fathomed) (cover : Covering) (may :
       → MayClose seen caller k
   may_close offered seen e f =
       let best : List ℕ = smaller cover.places state.best in
-      let then : State = record state { best = best; seen = set state.seen caller (length best) } in
-      let is : seen ≡ then = f ∙ ap (λ (s : State). record s { seen = set s.seen caller (length s.best) }) e in
-      let at : get_or (set state.seen caller (length best)) caller 0 ≡ length best = get_or-set_same state.seen caller
-      (length best) 0 may.known in
+      let goal : ℕ = min state.aim (length best) in
+      let then : State = record state { best = best; seen = set state.seen caller goal } in
+      let is : seen ≡ then = f ∙ ap (λ (s : State). record s { seen = set s.seen caller (goal_of s) }) e in
+      let at : get_or (set state.seen caller goal) caller 0 ≡ goal = get_or-set_same state.seen caller
+      goal 0 may.known in
       let small = no_larger cover.places state.best in
       subst (λ (s : State). MayClose s caller k) (sym is) (record {
-        known = omega (arith, may.known, length-set state.seen caller (length best));
+        known = omega (arith, may.known, length-set state.seen caller goal);
         of_it = may.piece_of_it;
         holds = may.holds;
         reaches = omega (arith, at, small, may.reaches);

@@ -19,7 +19,7 @@ use Rattle.schedule_law.specs.Worked.{Worked}
 use Rattle.schedule_law.specs.Joined.{all_opened}
 use Rattle.schedule_law.specs.Listing.{longest_name, opening_of, offer_of, offers, looks}
 use Rattle.schedule_law.proofs.TurnLemmas.{way_of}
-use Rattle.gathering.specs.Playing.{tries_open, tries_one, tries_as_long, tries, tries_to, tries_before_closes}
+use Rattle.gathering.specs.Playing.{tries_open, tries_one, tries_as_long, tries, tries_below, tries_before_closes}
 use Rattle.gathering.specs.Playing.{TriesClose, TriesCloses, TriesAllCloses}
 use Rattle.gathering.specs.Gleaning.{NoneHeld}
 use Rattle.gathering.proofs.PlayLemmas.{plays_split}
@@ -219,28 +219,22 @@ free_looks : (w : ℕ) (works : List Worked) (old new : State) → NoneHeld old 
 free_looks w [] old new none p = subst NoneHeld (sym p) none
 free_looks w (work ∷ works) old new none p = free_looks (w + 1) works p.1 new (free_look w old p.1 p.0 none p.2) p.3
 
--- opening the root leaves none held
-free_root : (root : Split) (old new : State) (done : Bool) → NoneHeld old → Steps old (opening_of root) done new
-    → NoneHeld new
-free_root root old new done none s = λ m c b w h. none m c b w ((opened_before root old new done s).back m c b w h)
-
 -- nor do workers that open pieces in turn
-free_tries_to : (size : ℕ) (works : List Worked) (old new : State) → NoneHeld old → Plays old (tries_to size works) new
-    → NoneHeld new
-free_tries_to zero works old new none p = subst NoneHeld (sym p) none
-free_tries_to (suc size) works old new none p =
-    let q = plays_split old (tries_to size works) (tries (suc size) 0 works) new p in
-    free_tries (suc size) 0 works q.0 new (free_tries_to size works old q.0 none q.1.0) q.1.1
+free_tries_below : (size : ℕ) (works : List Worked) (old new : State) → NoneHeld old
+    → Plays old (tries_below size works) new → NoneHeld new
+free_tries_below zero works old new none p = subst NoneHeld (sym p) none
+free_tries_below (suc size) works old new none p =
+    let q = plays_split old (tries_below size works) (tries size 0 works) new p in
+    free_tries size 0 works q.0 new (free_tries_below size works old q.0 none q.1.0) q.1.1
 
 -- after all that comes before closing none is held
-pub free_before_closes : (root : Split) (works : List Worked) (old new : State) → NoneHeld old
-    → Plays old (tries_before_closes root works) new → NoneHeld new
-free_before_closes root works old new none p =
-    let most = longest_name (all_opened works) in
-    let looked = plays_split p.1 (tries_to most works ++ offers 0 works) (looks 0 works) new p.3 in
-    let offered = plays_split p.1 (tries_to most works) (offers 0 works) looked.0 looked.1.0 in
-    let start = free_root root old p.1 p.0 none p.2 in
-    let opened = free_tries_to most works p.1 offered.0 start offered.1.0 in
+pub free_before_closes : (works : List Worked) (old new : State) → NoneHeld old
+    → Plays old (tries_before_closes works) new → NoneHeld new
+free_before_closes works old new none p =
+    let most = longest_name (all_opened works) + 1 in
+    let looked = plays_split old (tries_below most works ++ offers 0 works) (looks 0 works) new p in
+    let offered = plays_split old (tries_below most works) (offers 0 works) looked.0 looked.1.0 in
+    let opened = free_tries_below most works old offered.0 none offered.1.0 in
     free_looks 0 works looked.0 new (free_offers 0 works offered.0 looked.0 opened offered.1.1) looked.1.1
 
 -- ---- what is closed
@@ -271,9 +265,9 @@ free_all_closes w (work ∷ works) counts old new none (count, others, is, next,
 -- ---- at first
 
 -- at the start none is held
-pub free_at_first : (region : Instance) (places : List ℕ) (workers : ℕ) (state : State)
-    → Begins region places workers state → NoneHeld state
-free_at_first region places workers state s [] c b w h = waiting_not_held w (same_parts state [] [] [] c b waiting
+pub free_at_first : (region : Instance) (places : List ℕ) (aim workers : ℕ) (state : State)
+    → Begins region places aim workers state → NoneHeld state
+free_at_first region places aim workers state s [] c b w h = waiting_not_held w (same_parts state [] [] [] c b waiting
     (held w) s.root h).status
-free_at_first region places workers state s (k ∷ ks) c b w h = not_none
+free_at_first region places aim workers state s (k ∷ ks) c b w h = not_none
     (record { chosen = c; barred = b; status = held w }) (sym (s.alone k ks) ∙ h)

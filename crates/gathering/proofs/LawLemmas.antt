@@ -1,39 +1,33 @@
 -- From joined results alone: how many pieces are closed, and by whom.
 use Rattle.std.proofs.Common.{◌≡◌, inl, inr, ℕ, zero, suc, ◌+◌, ◌≤◌, List, [], ◌∷◌, ◌++◌, length, All}
-use Rattle.std.proofs.Common.{refl, sym, ap, ◌∙◌, subst, arith, append_assoc}
+use Rattle.std.proofs.Common.{min, refl, sym, ◌∙◌, subst, arith, append_assoc}
 use Rattle.std.proofs.lemmas.List.Elements.{All-head, All-tail, All-nil, All-append}
 use Rattle.set_cover.specs.Instance.{Instance}
-use Rattle.proof_tree.specs.Piece.{Subproblem, Fathomed}
-use Rattle.proof_tree.specs.Opened.{Split, kids_of}
+use Rattle.proof_tree.specs.Piece.{Subproblem, Fathomed, root_of}
+use Rattle.proof_tree.specs.Opened.{Split}
 use Rattle.proof_tree.specs.Weights.{weigh}
 use Rattle.event_core.specs.State.{State, waiting, HasPart, Begins}
 use Rattle.event_core.specs.Plays.{Plays}
-use Rattle.event_core.specs.Events.{Opens}
 use Rattle.event_core.specs.declared.event.Event.{Event}
-use Rattle.event_core.proofs.MoveLemmas.{opening_does}
-use Rattle.event_core.proofs.NameLemmas.{same_or_not}
 use Rattle.event_core.proofs.StateLemmas.{not_none}
 use Rattle.schedule_law.specs.Worked.{Worked, IsWork, IsOpenedIn}
-use Rattle.schedule_law.specs.Joined.{AreJoined, all_kids, all_opened, all_closed, all_back, least_size}
+use Rattle.schedule_law.specs.Joined.{AreJoined, all_kids, all_pieces, all_opened, all_closed, all_back, least_size}
 use Rattle.schedule_law.specs.Joined.{pieces_opened, pieces_closed}
-use Rattle.schedule_law.specs.Listing.{longest_name, opening_of, opens_to, offers, looks, closes, AllEnabled}
-use Rattle.schedule_law.proofs.PieceLemmas.{named, one_named, same_self, IsAmong, weigh-append, among_others}
+use Rattle.schedule_law.specs.Listing.{longest_name, opens_below, offers, looks, closes, AllEnabled}
+use Rattle.schedule_law.proofs.PieceLemmas.{named, one_named, IsAmong, among_others}
 use Rattle.schedule_law.proofs.PieceLemmas.{count_named_is}
-use Rattle.schedule_law.proofs.KidLemmas.{nil_all}
 use Rattle.schedule_law.proofs.LongLemmas.{all_as_long, all_as_long_are, all_in_long, in_turn, pieces_in_turn}
 use Rattle.schedule_law.proofs.LongLemmas.{kids_in_turn, pieces_all, kids_all}
-use Rattle.schedule_law.proofs.LawLemmas.{law, single_name, some_numbers}
-use Rattle.schedule_law.proofs.TurnLemmas.{opened_keeps, way_of}
-use Rattle.gathering.specs.Playing.{tries_to, tries_before_closes}
+use Rattle.schedule_law.proofs.LawLemmas.{law, single_name}
+use Rattle.gathering.specs.Playing.{tries_below, tries_before_closes}
 use Rattle.gathering.specs.Gathered.{Gathering, IsGathered}
 use Rattle.gathering.specs.Counted.{AreCounted}
 use Rattle.gathering.proofs.PlayLemmas.{plays_split}
-use Rattle.gathering.proofs.GleanLemmas.{step_done}
-use Rattle.gathering.proofs.WaitLemmas.{many, not_named, without, without_same, AreWaiting, same_waiting}
+use Rattle.gathering.proofs.WaitLemmas.{many, AreWaiting, same_waiting}
 use Rattle.gathering.proofs.WaitLemmas.{all_gone_waiting, none_waiting}
-use Rattle.gathering.proofs.FollowLemmas.{enabled_after, follow_tries_to, follow_all_closes}
+use Rattle.gathering.proofs.FollowLemmas.{enabled_after, follow_tries_below, follow_all_closes}
 use Rattle.gathering.proofs.FollowLemmas.{same_offers, same_looks, gleans_gone}
-use Rattle.gathering.proofs.OpenedLemmas.{opened_waiting, opened_all}
+use Rattle.gathering.proofs.OpenedLemmas.{opened_all}
 
 -- many is the length
 many_are : (ps : List Subproblem) → many ps ≡ length ps
@@ -55,13 +49,16 @@ opened_in_all region least (x ∷ xs) all = All-append (IsOpenedIn region) x.ope
     (All-head (IsWork region least) x xs all).opened
     (opened_in_all region least xs (All-tail (IsWork region least) x xs all))
 
-module _ (region : Instance) (first : List ℕ) (root : Split) (works : List Worked)
-    (left : List Subproblem) (j : AreJoined region first root works left) where
+module _ (region : Instance) (first : List ℕ) (aim : ℕ) (works : List Worked) (left : List Subproblem)
+    (j : AreJoined region (min aim (length first)) works left) where
+  abbrev root : Subproblem
+  root = root_of region
+
   abbrev came : List Subproblem
-  came = all_kids (root ∷ all_opened works)
+  came = all_pieces region works
 
   abbrev most : ℕ
-  most = longest_name (all_opened works)
+  most = longest_name (all_opened works) + 1
 
   -- those that workers opened, shorter names first
   abbrev turns : List Split
@@ -70,13 +67,13 @@ module _ (region : Instance) (first : List ℕ) (root : Split) (works : List Wor
   -- no name stands twice among the pieces that came to be
   single : (x : List ℕ) → weigh (named x) came ≤ 1
   single x =
-      let a = single_name region first root works left j x in
+      let a = single_name region (min aim (length first)) works left j x in
       let b = count_named_is x came in
       omega arith
 
   -- all that workers opened is of the region
   all_in_it : All (IsOpenedIn region) (all_opened works)
-  all_in_it = opened_in_all region (least_size (length first) works) works j.fit
+  all_in_it = opened_in_all region (least_size (min aim (length first)) works) works j.fit
 
   -- so are those with names of each length
   in_it : (n : ℕ) → All (IsOpenedIn region) (all_as_long n works)
@@ -86,84 +83,39 @@ module _ (region : Instance) (first : List ℕ) (root : Split) (works : List Wor
   -- so are all whose turn comes
   turns_in_it : (n : ℕ) → All (IsOpenedIn region) (in_turn n works)
   turns_in_it zero = All-nil (IsOpenedIn region)
-  turns_in_it (suc n) = All-append (IsOpenedIn region) (in_turn n works) (all_as_long (suc n) works)
-      (turns_in_it n) (in_it (suc n))
+  turns_in_it (suc n) = All-append (IsOpenedIn region) (in_turn n works) (all_as_long n works)
+      (turns_in_it n) (in_it n)
 
   -- those whose turn comes are all that workers opened
   weigh_pieces : (h : Subproblem → ℕ) → weigh h (pieces_opened turns) ≡ weigh h (pieces_opened (all_opened works))
-  weigh_pieces h = pieces_in_turn h works most
-      ∙ pieces_all h works (some_numbers region first root works left j)
+  weigh_pieces h = pieces_in_turn h works most ∙ pieces_all h works
 
-  -- their kids and the root's are all pieces that came to be
-  weigh_kids : (h : Subproblem → ℕ) → weigh h (kids_of root) + weigh h (all_kids turns) ≡ weigh h came
-  weigh_kids h =
-      let sum : weigh h (all_kids turns) ≡ weigh h (all_kids (all_opened works)) =
-      kids_in_turn h works most ∙ kids_all h works (some_numbers region first root works left j) in
-      omega (arith, weigh-append h (kids_of root) (all_kids (all_opened works)))
+  -- the root and their kids are all pieces that came to be
+  weigh_kids : (h : Subproblem → ℕ) → weigh h (root ∷ all_kids turns) ≡ weigh h came
+  weigh_kids h = omega (arith, kids_in_turn h works most, kids_all h works)
 
   -- each of them came to be
   turns_came : (p : Subproblem) → IsAmong p (pieces_opened turns) → IsAmong p came
   turns_came p at = among_others p (pieces_opened turns) came
       (λ h. (let a = weigh_pieces h in let b = j.balance h in omega arith)) at
 
-  -- ---- the root
-
-  -- the root has no number
-  nameless : root.piece.name ≡ []
-  nameless = ap (λ (p : Subproblem). p.name) j.of_root.0
-
-  -- no name stands twice among the root and its kids
-  once_with_root : (x : List ℕ) → weigh (named x) ((root.piece ∷ []) ++ kids_of root) ≤ 1
-  once_with_root x =
-      let a = single x in
-      let b = weigh_kids (named x) in
-      elim (same_or_not x []) [
-        | inl e ↦ (let none : weigh (named x) came ≡ 0 =
-            ap (λ y. weigh (named y) came) e ∙ nil_all (root ∷ all_opened works) in
-            let one : named x root.piece ≡ 1 = ap (λ y. named y root.piece) (e ∙ sym nameless)
-            ∙ one_named root.piece in
-            omega arith)
-        | inr ne ↦ (let none = not_named x root.piece (λ f. ne (f ∙ nameless)) in omega arith)
-      ]
-
-  module _ (start : State) (begins : Begins region first (length works + 1) start) where
-    root_there : HasPart start root.piece.name root.piece.chosen root.piece.barred waiting
-    root_there = subst (λ (p : Subproblem). HasPart start p.name p.chosen p.barred waiting) (sym j.of_root.0)
-        begins.root
-
-    root_region : start.region ≡ root.piece.region
-    root_region = begins.of_it ∙ sym (ap (λ (p : Subproblem). p.region) j.of_root.0)
-
+  module _ (start : State) (begins : Begins region first aim (length works + 1) start) where
     -- at first the root waits alone
-    root_waits : AreWaiting start (root.piece ∷ [])
+    root_waits : AreWaiting start (root ∷ [])
     root_waits = record {
       wait = λ p at. elim at [
-        | inl e ↦ subst (λ (q : Subproblem). HasPart start q.name q.chosen q.barred waiting) (sym e) root_there
+        | inl e ↦ subst (λ (q : Subproblem). HasPart start q.name q.chosen q.barred waiting) (sym e) begins.root
         | inr none ↦ absurd none
       ];
       only = only_root;
-      once = λ x. (let a = once_with_root x in
-          let b = weigh-append (named x) (root.piece ∷ []) (kids_of root) in omega arith);
+      once = λ x. (let a = single x in omega arith);
     }
       where
         only_root : (name chosen barred : List ℕ) → HasPart start name chosen barred waiting
-            → 1 ≤ weigh (named name) (root.piece ∷ [])
-        only_root [] c b h =
-            let one : named [] root.piece ≡ 1 = ap (λ y. named y root.piece) (sym nameless) ∙ one_named root.piece in
-            omega arith
+            → 1 ≤ weigh (named name) (root ∷ [])
+        only_root [] c b h = omega (arith, one_named root)
         only_root (n ∷ ns) c b h =
             not_none (record { chosen = c; barred = b; status = waiting }) (sym (begins.alone n ns) ∙ h)
-
-    -- once the root is open, its kids wait
-    kids_wait : (next : State) → Opens start root.piece.name (way_of root) next → AreWaiting next (kids_of root)
-    kids_wait next o =
-        let all = opened_waiting start start next root waiting (root.piece ∷ []) root_there
-        (λ other ne. refl) root_region j.of_root.1 o root_waits once_with_root in
-        subst (λ (l : List Subproblem). AreWaiting next (l ++ kids_of root)) none_left all
-      where
-        -- the root is the one that waited
-        none_left : without root.piece.name (root.piece ∷ []) ≡ []
-        none_left = without_same root.piece.name root.piece [] (same_self root.piece.name)
 
     -- ---- the whole play
 
@@ -179,20 +131,17 @@ module _ (region : Instance) (first : List ℕ) (root : Split) (works : List Wor
       pub enabled : AllEnabled state (closes 0 works)
 
     -- the play goes through every event of the list before all closing
-    played : (opened : State) → Plays start (tries_before_closes root works) opened → IsPlayed opened
+    played : (opened : State) → Plays start (tries_before_closes works) opened → IsPlayed opened
     played opened p =
-        let looked = plays_split p.1 (tries_to most works ++ offers 0 works) (looks 0 works) opened p.3 in
-        let offered = plays_split p.1 (tries_to most works) (offers 0 works) looked.0 looked.1.0 in
-        let e = law region first root works left j start begins in
-        let o = step_done start (opening_of root) p.0 p.1 e.0 p.2 in
-        let opens = (opening_does start root.piece.name root.bars root.on p.1).1 o.1 in
-        let e1 = subst (AllEnabled p.1)
-        (regroup (opens_to most works) (offers 0 works) (looks 0 works) (closes 0 works)) (e.1 p.1 o.1) in
-        let f = follow_tries_to most works _ p.1 offered.0 e1 offered.1.0 in
+        let looked = plays_split start (tries_below most works ++ offers 0 works) (looks 0 works) opened p in
+        let offered = plays_split start (tries_below most works) (offers 0 works) looked.0 looked.1.0 in
+        let e = subst (AllEnabled start)
+        (regroup (opens_below most works) (offers 0 works) (looks 0 works) (closes 0 works))
+        (law region first aim works left j start begins) in
+        let f = follow_tries_below most works _ start offered.0 e offered.1.0 in
         let e2 = enabled_after (offers 0 works) _ offered.0 looked.0 f.enabled offered.1.1 in
         let e3 = enabled_after (looks 0 works) (closes 0 works) looked.0 opened e2 looked.1.1 in
-        let of = (opened_keeps start root.piece.name (way_of root) p.1 opens).same_region ∙ begins.of_it in
-        let a = opened_all region came single turns p.1 offered.0 (kids_of root) of (kids_wait p.1 opens)
+        let a = opened_all region came single turns start offered.0 (root ∷ []) begins.of_it root_waits
         (turns_in_it most) turns_came (λ h. (let b = weigh_kids h in omega arith)) f.opened_all in
         let same = same_looks 0 works looked.0 opened looked.1.1 ∙ same_offers 0 works offered.0 looked.0 offered.1.1 in
         record {
@@ -203,7 +152,7 @@ module _ (region : Instance) (first : List ℕ) (root : Split) (works : List Wor
         }
 
   -- at the end none waits, so that all that waited was closed by a worker or by the caller's thread
-  pub counted : (gathered : Gathering) → IsGathered region first root works gathered → AreCounted works left gathered
+  pub counted : (gathered : Gathering) → IsGathered region first aim works gathered → AreCounted works left gathered
   counted gathered g =
       let p = played g.start g.begins g.opened g.opens in
       let ended = follow_all_closes 0 works g.opened gathered.closed_by g.closed p.enabled g.closes in

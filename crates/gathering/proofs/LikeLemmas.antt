@@ -1,8 +1,8 @@
--- The region and the number of workers stay.
+-- The region, the aim and the number of workers stay.
 use Rattle.std.proofs.Common.{◌≡◌, ℕ, ◌+◌, Bool, true, false, List, [], ◌∷◌, length, ap, ◌∙◌}
 use Rattle.std.proofs.lemmas.List.{length-set}
 use Rattle.proof_tree.specs.Piece.{Fathomed}
-use Rattle.event_core.specs.State.{State}
+use Rattle.event_core.specs.State.{State, goal_of}
 use Rattle.event_core.specs.Events.{Does}
 use Rattle.event_core.specs.Plays.{Steps, Plays}
 use Rattle.event_core.specs.declared.event.Event.{Event}
@@ -13,53 +13,50 @@ use Rattle.gathering.specs.Gathered.{Gleans, GleansOne}
 
 pub record IsLike (old new : State) : Type 0 where
   pub of_it : new.region ≡ old.region
+  pub aimed : new.aim ≡ old.aim
   pub workers : length new.seen ≡ length old.seen
 
 -- a state is like itself
 pub like_same : (old new : State) → new ≡ old → IsLike old new
-like_same old new e = record { of_it = ap (λ (s : State). s.region) e; workers = ap (λ (s : State). length s.seen) e }
+like_same old new e = record {
+  of_it = ap (λ (s : State). s.region) e;
+  aimed = ap (λ (s : State). s.aim) e;
+  workers = ap (λ (s : State). length s.seen) e;
+}
 
 -- likeness goes on from state to state
 pub like_then : (a b c : State) → IsLike a b → IsLike b c → IsLike a c
-like_then a b c p q = record { of_it = q.of_it ∙ p.of_it; workers = q.workers ∙ p.workers }
+like_then a b c p q = record {
+  of_it = q.of_it ∙ p.of_it;
+  aimed = q.aimed ∙ p.aimed;
+  workers = q.workers ∙ p.workers;
+}
 
--- an event that is done keeps region and workers
+-- a state in which only the pieces differ is like the other
+like_but_parts : (old new : State) → new ≡ record old { part_at = new.part_at } → IsLike old new
+like_but_parts old new e = record {
+  of_it = ap (λ (s : State). s.region) e;
+  aimed = ap (λ (s : State). s.aim) e;
+  workers = ap (λ (s : State). length s.seen) e;
+}
+
+-- an event that is done keeps region, aim and workers
 like_does : (old : State) (event : Event) (new : State) → Does old event new → IsLike old new
 like_does old (Look w) new does = record {
   of_it = ap (λ (s : State). s.region) does;
-  workers = ap (λ (s : State). length s.seen) does ∙ length-set old.seen w (length old.best);
+  aimed = ap (λ (s : State). s.aim) does;
+  workers = ap (λ (s : State). length s.seen) does ∙ length-set old.seen w (goal_of old);
 }
-like_does old (Offer w cover) new does = like_same_but old new cover.places does
-  where
-    like_same_but : (old new : State) (places : List ℕ) → Does old (Offer w cover) new → IsLike old new
-    like_same_but old new places e = record {
-      of_it = ap (λ (s : State). s.region) e;
-      workers = ap (λ
-          (s : State). length s.seen) e;
-    }
-like_does old (Take w n) new does = record {
-  of_it = ap (λ (s : State). s.region) does.kept;
-  workers = ap (λ
-      (s : State). length s.seen) does.kept;
+like_does old (Offer w cover) new does = record {
+  of_it = ap (λ (s : State). s.region) does;
+  aimed = ap (λ (s : State). s.aim) does;
+  workers = ap (λ (s : State). length s.seen) does;
 }
-like_does old (Open n bars cell) new does = record {
-  of_it = ap (λ (s : State). s.region) does.kept;
-  workers = ap (λ (s : State). length s.seen) does.kept;
-}
-like_does old (Pick n bars place) new does = record {
-  of_it = ap (λ (s : State). s.region) does.kept;
-  workers = ap (λ (s : State). length s.seen) does.kept;
-}
-like_does old (Close w k) new does = record {
-  of_it = ap (λ (s : State). s.region) does.kept;
-  workers = ap (λ
-      (s : State). length s.seen) does.kept;
-}
-like_does old (Leave w n) new does = record {
-  of_it = ap (λ (s : State). s.region) does.kept;
-  workers = ap (λ
-      (s : State). length s.seen) does.kept;
-}
+like_does old (Take w n) new does = like_but_parts old new does.kept
+like_does old (Open n bars cell) new does = like_but_parts old new does.kept
+like_does old (Pick n bars place) new does = like_but_parts old new does.kept
+like_does old (Close w k) new does = like_but_parts old new does.kept
+like_does old (Leave w n) new does = like_but_parts old new does.kept
 
 -- so does one that is tried
 pub like_step : (old : State) (event : Event) (done : Bool) (new : State) → Steps old event done new → IsLike old new

@@ -65,7 +65,7 @@ module _ (old mid new : State) (s : Split) (was : Status) (ps : List Subproblem)
       ]
 
   -- the kids wait in its place
-  pub opened_waiting : AreWaiting new (without s.piece.name ps ++ kids_of s)
+  opened_waiting : AreWaiting new (without s.piece.name ps ++ kids_of s)
   opened_waiting = record {
     wait = λ q at. elim (among_either q (without s.piece.name ps) (kids_of s) at) [
       | inl before ↦ (let w = among-without q s.piece.name ps before in

@@ -3,7 +3,6 @@ use Rattle.std.specs.Prelude.{◌≡◌, ◌≤◌, ℕ, ◌+◌, true, List, []
 use Rattle.set_cover.specs.Instance.{Instance}
 use Rattle.instance_regions.specs.Cover.{Covering}
 use Rattle.proof_rules.specs.Tree.{Tree}
-use Rattle.proof_tree.specs.Opened.{Split}
 use Rattle.proof_tree.specs.Piece.{Fathomed}
 use Rattle.search_traits.specs.Planned.{IsStopped}
 use Rattle.search_traits.specs.Turns.{AreSpent, IsWithin}
@@ -43,14 +42,23 @@ pub record Gathering : Type 0 where
   -- those that the caller's thread closed
   pub gleaned : List (List ℕ)
 
--- the assembly of a core with one worker more than there are works, the last being the caller's thread, after the works
--- were played and the caller's thread closed what was left
-pub record IsGathered (region : Instance) (first : List ℕ) (root : Split) (works : List Worked) (gathered : Gathering)
+-- the works were played on a core with this aim, and with one worker more than there are works, the last being the
+-- caller's thread; for each work, how many of its closed pieces were taken over
+pub record ArePlayed (region : Instance) (first : List ℕ) (aim : ℕ) (works : List Worked) (counts : List ℕ)
+    (closed : State) : Type 0 where
+  pub start : State
+  pub begins : Begins region first aim (length works + 1) start
+  pub opened : State
+  pub opens : Plays start (tries_before_closes works) opened
+  pub closes : TriesAllCloses opened 0 works counts closed
+
+-- the assembly of that core, after the caller's thread closed what was left
+pub record IsGathered (region : Instance) (first : List ℕ) (aim : ℕ) (works : List Worked) (gathered : Gathering)
     : Type 0 where
   pub start : State
-  pub begins : Begins region first (length works + 1) start
+  pub begins : Begins region first aim (length works + 1) start
   pub opened : State
-  pub opens : Plays start (tries_before_closes root works) opened
+  pub opens : Plays start (tries_before_closes works) opened
   pub closed : State
   pub closes : TriesAllCloses opened 0 works gathered.closed_by closed
   pub final : State

@@ -1,5 +1,5 @@
 -- What gleaning keeps.
-use Rattle.std.specs.Prelude.{◌≡◌, ℕ, ◌≤◌, Bool, true, false, List, length}
+use Rattle.std.specs.Prelude.{◌≡◌, ℕ, ◌≤◌, Bool, true, false, List, length, min}
 use Rattle.set_cover.specs.Instance.{Instance}
 use Rattle.instance_regions.specs.Cover.{Covering}
 use Rattle.proof_tree.specs.Piece.{Fathomed}
@@ -17,15 +17,17 @@ NoneHeld state = (name chosen barred : List ℕ) (worker : ℕ) → ¬ HasPart s
 abbrev pub IsNoneWaiting : State → List ℕ → Type 0
 IsNoneWaiting state name = (chosen barred : List ℕ) → ¬ HasPart state name chosen barred waiting
 
--- the caller's thread may glean: it is known, no worker holds a piece, and its desk is of this region
-pub record MayGlean (state : State) (caller : ℕ) (region : Instance) : Type 0 where
+-- the caller's thread may glean: it is known, no worker holds a piece, and its desk has this aim and is of this region
+pub record MayGlean (state : State) (caller aim : ℕ) (region : Instance) : Type 0 where
   pub known : IsWorker state caller
   pub none_held : NoneHeld state
+  pub aimed : aim ≡ state.aim
   pub of_it : region ≡ state.region
 
 -- it may glean one piece, whoever holds others
-pub record MayGleanOne (state : State) (caller : ℕ) (region : Instance) : Type 0 where
+pub record MayGleanOne (state : State) (caller aim : ℕ) (region : Instance) : Type 0 where
   pub known : IsWorker state caller
+  pub aimed : aim ≡ state.aim
   pub of_it : region ≡ state.region
 
 -- it closes the waiting pieces of these names in turn, and then nothing waits or is held
@@ -38,13 +40,13 @@ abbrev pub GleansWhere : State → ℕ → List ℕ → State → Bool → Type 
 GleansWhere old caller name new true = GleansOne old caller name new
 GleansWhere old caller name new false = IsNoneWaiting old name × (new ≡ old)
 
--- the caller's thread holds the closed piece, and its floor is at least the size of a cover of the region
+-- the caller's thread holds the closed piece, and its floor is at least the aim, or the size of a cover of the region
 pub record MayFinish (state : State) (caller : ℕ) (closed : Fathomed) (cover : Covering) : Type 0 where
   pub known : IsWorker state caller
   pub holds : HasPart state closed.piece.name closed.piece.chosen closed.piece.barred (held caller)
   pub piece_of_it : closed.piece.region ≡ state.region
   pub cover_of_it : cover.region ≡ state.region
-  pub reaches : length cover.places ≤ closed.floor
+  pub reaches : min state.aim (length cover.places) ≤ closed.floor
 
 -- it offers the cover, looks, and closes the piece
 pub record Finishes (old : State) (caller : ℕ) (closed : Fathomed) (cover : Covering) (new : State) : Type 0 where

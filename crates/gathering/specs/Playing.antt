@@ -31,15 +31,15 @@ abbrev pub tries : ℕ → ℕ → List Worked → List Event
 tries size worker [] = []
 tries size worker (work ∷ works) = tries_as_long size worker work.opened ++ tries size (worker + 1) works
 
--- all workers open their pieces whose names are at most so long, shorter names first
-abbrev pub tries_to : ℕ → List Worked → List Event
-tries_to zero works = []
-tries_to (suc size) works = tries_to size works ++ tries (suc size) 0 works
+-- all workers open their pieces whose names are shorter than this, shorter names first
+abbrev pub tries_below : ℕ → List Worked → List Event
+tries_below zero works = []
+tries_below (suc size) works = tries_below size works ++ tries size 0 works
 
--- what comes before all closing: the caller opens the root, workers open pieces, shorter names first, offer and look
-abbrev pub tries_before_closes : Split → List Worked → List Event
-tries_before_closes root works =
-    opening_of root ∷ tries_to (longest_name (all_opened works)) works ++ offers 0 works ++ looks 0 works
+-- what comes before all closing: workers open pieces, shorter names first, offer and look
+abbrev pub tries_before_closes : List Worked → List Event
+tries_before_closes works =
+    tries_below (longest_name (all_opened works) + 1) works ++ offers 0 works ++ looks 0 works
 
 -- a worker takes a piece and closes it, and leaves it where it could not be closed
 pub record TriesClose (old : State) (worker : ℕ) (closed : Fathomed) (done : Bool) (new : State) : Type 0 where

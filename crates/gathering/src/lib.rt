@@ -4,6 +4,7 @@
 
 mod fault;
 mod gleaning;
+mod goal_desk;
 pub mod laws;
 mod merge;
 mod opening;

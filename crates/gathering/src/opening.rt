@@ -1,9 +1,10 @@
 //! What workers did before any of them closed a piece, played on the event core: `tries_before_closes` of
 //! specs/Playing.antt. An event that isn't enabled is passed over.
-ghost use Rattle.std.specs.Prelude.{◌≡◌, ◌<◌, ◌^◌, length, IfOk};
+ghost use Rattle.std.specs.Prelude.{◌≡◌, ◌<◌, ◌+◌, ◌^◌, length, IfOk};
 ghost use Rattle.event_core.specs.Kept.{state_of};
 ghost use Rattle.event_core.specs.Plays.{Plays};
-ghost use Rattle.gathering.specs.Playing.{tries, tries_as_long, tries_before_closes, tries_one, tries_open, tries_to};
+ghost use Rattle.gathering.specs.Playing.{tries, tries_as_long, tries_before_closes, tries_below};
+ghost use Rattle.gathering.specs.Playing.{tries_one, tries_open};
 ghost use Rattle.schedule_law.specs.Joined.{all_opened};
 ghost use Rattle.schedule_law.specs.Listing.{longest_name, looks, offer_of, offers, opening_of};
 
@@ -14,18 +15,16 @@ use proof_tree::{Branching, Opened};
 use schedule_law::Work;
 use std::alloc::{AllocError, Global};
 
-/// The caller opens the root, workers open pieces, shorter names first, offer and look.
+/// The workers open pieces, shorter names first, offer and look.
 pub(crate) fn try_before_closes(
     alloc: Global,
     core: &mut Core,
-    root: &Opened,
     works: &[Work],
 ) -> Result<(), AllocError>
     requires few { length works.now < 2 ^ 32 }
     ensures { IfOk result (λ _.
-        Plays (state_of core.old) (tries_before_closes root.now works.now) (state_of core.new)) }
+        Plays (state_of core.old) (tries_before_closes works.now) (state_of core.new)) }
 {
-    core.step(opening(alloc, root)?)?;
     open_in_turn(alloc, core, works)?;
     offer_all(core, works)?;
     look_all(core, works)?;
@@ -70,11 +69,13 @@ fn longest_of(splits: &[Opened]) -> usize
 fn open_in_turn(alloc: Global, core: &mut Core, works: &[Work]) -> Result<(), AllocError>
     requires few { length works.now < 2 ^ 32 }
     ensures { IfOk result (λ _. Plays (state_of core.old)
-        (tries_to (longest_name (all_opened works.now)) works.now) (state_of core.new)) }
+        (tries_below (longest_name (all_opened works.now) + 1) works.now) (state_of core.new)) }
 {
-    for size in 0..longest(works) {
-        open_all(alloc, core, size + 1, works)?;
+    let longest = longest(works);
+    for size in 0..longest {
+        open_all(alloc, core, size, works)?;
     }
+    open_all(alloc, core, longest, works)?;
     Ok(())
 }
 

@@ -11,7 +11,7 @@ ghost use Rattle.piece_deque.specs.declared.answer.Take.TheVariants.{Again};
 
 use crate::answer::Take;
 use crate::dealt::Dealt;
-use crate::rule::{EachOnce, Pushes, Takes};
+use crate::rule::{Counts, EachOnce, Pushes, Takes};
 use crossbeam_deque::{Steal, Stealer, Worker};
 use proof_tree::Piece;
 use std::alloc::{AllocError, Global};
@@ -44,6 +44,14 @@ pub fn push(owner: &mut Owner, piece: Piece) -> Result<(), Piece>
         × (worker_capacity owner.old ≤ worker_index owner.old)) }
 {
     owner.push_as::<Pushes>(piece)
+}
+
+/// How many pieces there were at one moment of the call.
+pub fn count(owner: &mut Owner) -> usize
+    ensures same { SameWorker owner.old owner.new }
+    ensures pass { worker_view owner.new ≡ worker_view owner.old }
+{
+    owner.len_as::<Counts>()
 }
 
 /// The piece at the front, for the owner.

@@ -11,7 +11,7 @@ mod rule;
 
 pub use answer::Take;
 pub use dealt::Dealt;
-pub use deque::{Owner, Pass, Thief, open, push, steal, take};
+pub use deque::{Owner, Pass, Thief, count, open, push, steal, take};
 pub use last::last_take;
 pub use lending::{lend_pass, take_back};
 pub use rule::EachOnce;

@@ -1,7 +1,7 @@
 //! The rule of a deque of pieces, `Balances` of specs/Rule.antt, and what each kind of step changes in a pass, as
 //! specs/Deals.antt says it.
 use crate::dealt::Dealt;
-use crossbeam_deque::protocol::{Join, Outcome, Protocol, Split};
+use crossbeam_deque::protocol::{Join, Lesson, Outcome, Protocol, Split};
 use proof_tree::Piece;
 
 /// The pieces pushed are those in the deque and those taken.
@@ -58,4 +58,11 @@ impl Join<Dealt> for Lends {
     ghost both = { together_with };
 
     ghost spent = { nobody };
+}
+
+/// A look at how many pieces there are, which tells nothing else.
+pub(crate) struct Counts;
+
+impl Lesson<Piece, Dealt> for Counts {
+    ghost fact = { λ _ _. Unit {0} };
 }

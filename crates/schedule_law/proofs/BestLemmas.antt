@@ -1,4 +1,4 @@
--- The best cover after all offers, and what workers see of it.
+-- The goal after all offers, and what workers see of it.
 use Rattle.std.proofs.Common.{◌≡◌, inl, inr, ℕ, suc, ◌+◌, ◌<◌, ◌≤◌, min, List, [], ◌∷◌, ◌++◌}
 use Rattle.std.proofs.Common.{length, set, slice_index, All, Option, Some, None, IfSome, refl, sym, ap, ◌∙◌}
 use Rattle.std.proofs.Common.{subst, arith, append_assoc, get_or-set_same, get_or-set_other, length-set}
@@ -7,7 +7,7 @@ use Rattle.std.proofs.lemmas.Bool.Decides.{nat_tests}
 use Rattle.std.proofs.lemmas.List.Elements.{All-head, All-tail}
 use Rattle.set_cover.specs.Instance.{Instance}
 use Rattle.instance_regions.specs.Cover.{Covering}
-use Rattle.event_core.specs.State.{State}
+use Rattle.event_core.specs.State.{State, goal_of}
 use Rattle.event_core.specs.Events.{smaller}
 use Rattle.event_core.specs.declared.event.Event.{Event}
 use Rattle.schedule_law.specs.Worked.{Worked, IsWork, IsCoverFor}
@@ -49,17 +49,17 @@ length-smaller new old = grind (arith, nat_tests)
 
 -- ---- offers
 
--- nothing but the best cover changed, which is no larger than this
+-- nothing but the best cover changed, and the goal is no larger than this
 pub record IsBetter (old new : State) (bound : ℕ) : Type 0 where
   pub same_region : new.region ≡ old.region
   pub same_seen : new.seen ≡ old.seen
   pub same_parts : new.part_at ≡ old.part_at
-  pub bounded : length new.best ≤ bound
+  pub bounded : goal_of new ≤ bound
 
 -- where a worker knows a cover, its offer is enabled, and what follows may count on it
 offer_go : (region : Instance) (w : ℕ) (o : Option Covering) (rest : List Event) (state : State) → w < length state.seen
     → state.region ≡ region → IfSome o (IsCoverFor region)
-    → ((next : State) → IsBetter state next (less_by (length state.best) o) → AllEnabled next rest)
+    → ((next : State) → IsBetter state next (less_by (goal_of state) o) → AllEnabled next rest)
     → AllEnabled state (offer_of w o ++ rest)
 offer_go region w None rest state lt of is go =
     go state (record { same_region = refl; same_seen = refl; same_parts = refl; bounded = omega arith })
@@ -70,15 +70,14 @@ offer_go region w (Some c) rest state lt of is go = (
         same_region = ap (λ (s : State). s.region) does;
         same_seen = ap (λ (s : State). s.seen) does;
         same_parts = ap (λ (s : State). s.part_at) does;
-        bounded = (let a = ap (λ (s : State). length s.best) does in let b = length-smaller c.places state.best in
-            omega arith);
+        bounded = (let a = ap goal_of does in let b = length-smaller c.places state.best in omega arith);
       }),
 )
 
 -- the same for the offers of all workers
 pub offers_go : (region : Instance) (least : ℕ) (w : ℕ) (works : List Worked) (rest : List Event) (state : State)
     → w + length works ≤ length state.seen → state.region ≡ region → All (IsWork region least) works
-    → ((next : State) → IsBetter state next (least_size (length state.best) works) → AllEnabled next rest)
+    → ((next : State) → IsBetter state next (least_size (goal_of state) works) → AllEnabled next rest)
     → AllEnabled state (offers w works ++ rest)
 offers_go region least w [] rest state le of all go =
     go state (record { same_region = refl; same_seen = refl; same_parts = refl; bounded = omega arith })
@@ -94,47 +93,47 @@ offers_go region least w (x ∷ xs) rest state le of all go =
       same_seen = best.same_seen ∙ better.same_seen;
       same_parts = best.same_parts ∙ better.same_parts;
       bounded = (let a = best.bounded in
-          let b = least_first x.cover (length next.best) (length state.best) xs better.bounded in omega arith);
+          let b = least_first x.cover (goal_of next) (goal_of state) xs better.bounded in omega arith);
     }))))
 
 -- ---- looks
 
--- nothing changed but what these workers saw, which is the best cover's size
+-- nothing changed but what these workers saw, which is the goal
 pub record AreSeeing (old new : State) (w count : ℕ) : Type 0 where
   pub same_region : new.region ≡ old.region
-  pub same_best : new.best ≡ old.best
+  pub same_goal : goal_of new ≡ goal_of old
   pub same_parts : new.part_at ≡ old.part_at
   pub as_many : length new.seen ≡ length old.seen
   pub before : (v : ℕ) → v < w → slice_index new.seen v ≡ slice_index old.seen v
-  pub now : (v : ℕ) → w ≤ v → v < w + count → slice_index new.seen v ≡ length old.best
+  pub now : (v : ℕ) → w ≤ v → v < w + count → slice_index new.seen v ≡ goal_of old
 
 -- what the others see later
 see_more : (old mid new : State) (w count : ℕ) → w < length old.seen
-    → mid ≡ record old { seen = set old.seen w (length old.best) } → AreSeeing mid new (w + 1) count
+    → mid ≡ record old { seen = set old.seen w (goal_of old) } → AreSeeing mid new (w + 1) count
     → AreSeeing old new w (suc count)
 see_more old mid new w count lt does later = record {
   same_region = later.same_region ∙ ap (λ (s : State). s.region) does;
-  same_best = later.same_best ∙ ap (λ (s : State). s.best) does;
+  same_goal = later.same_goal ∙ ap goal_of does;
   same_parts = later.same_parts ∙ ap (λ (s : State). s.part_at) does;
-  as_many = later.as_many ∙ ap (λ (s : State). length s.seen) does ∙ length-set old.seen w (length old.best);
+  as_many = later.as_many ∙ ap (λ (s : State). length s.seen) does ∙ length-set old.seen w (goal_of old);
   before = λ v low. later.before v (omega arith) ∙ ap (λ (s : State). slice_index s.seen v) does
-      ∙ get_or-set_other old.seen w v (length old.best) 0 (λ e. absurd (omega arith));
+      ∙ get_or-set_other old.seen w v (goal_of old) 0 (λ e. absurd (omega arith));
   now = λ v low high. elim (cases_eq v w) [
-    | inl e ↦ (let here : slice_index new.seen w ≡ length old.best =
+    | inl e ↦ (let here : slice_index new.seen w ≡ goal_of old =
         later.before w (omega arith) ∙ ap (λ (s : State). slice_index s.seen w) does
-        ∙ get_or-set_same old.seen w (length old.best) 0 lt in
+        ∙ get_or-set_same old.seen w (goal_of old) 0 lt in
         ap (slice_index new.seen) e ∙ here)
-    | inr ne ↦ later.now v (omega arith) (omega arith) ∙ ap (λ (s : State). length s.best) does
+    | inr ne ↦ later.now v (omega arith) (omega arith) ∙ ap goal_of does
   ];
 }
 
--- the looks of all workers are enabled, and after them each has seen the best
+-- the looks of all workers are enabled, and after them each has seen the goal
 pub looks_go : (w : ℕ) (works : List Worked) (rest : List Event) (state : State) → w + length works ≤ length state.seen
     → ((next : State) → AreSeeing state next w (length works) → AllEnabled next rest)
     → AllEnabled state (looks w works ++ rest)
 looks_go w [] rest state le go = go state (record {
   same_region = refl;
-  same_best = refl;
+  same_goal = refl;
   same_parts = refl;
   as_many = refl;
   before = λ v low. refl;
@@ -143,6 +142,6 @@ looks_go w [] rest state le go = go state (record {
 looks_go w (x ∷ xs) rest state le go = (
   omega arith,
   λ mid does. looks_go (w + 1) xs rest mid
-      (let l = ap (λ (s : State). length s.seen) does ∙ length-set state.seen w (length state.best) in omega arith)
+      (let l = ap (λ (s : State). length s.seen) does ∙ length-set state.seen w (goal_of state) in omega arith)
       (λ next later. go next (see_more state mid next w (length xs) (omega arith) does later)),
 )

@@ -143,32 +143,17 @@ at_most_one : (b : Bool) → bit b ≤ 1
 at_most_one true = omega arith
 at_most_one false = omega arith
 
-module _ (root : Split) (nameless : root.piece.name ≡ []) (opened : List Split)
-    (from : (h : Subproblem → ℕ) → weigh h (pieces_opened opened) ≤ weigh h (all_kids (root ∷ opened))) where
-  by_parent : (x y : List ℕ) → parent_name x ≡ y
-      → weigh (named x) (all_kids (root ∷ opened)) ≤ weigh (named (parent_name x)) (pieces_opened (root ∷ opened))
-      → weigh (named (parent_name x)) (pieces_opened opened)
-      ≤ weigh (named (parent_name x)) (all_kids (root ∷ opened))
-      → weigh (named (parent_name x)) (all_kids (root ∷ opened)) ≤ 1
-      → weigh (named x) (all_kids (root ∷ opened)) ≤ 1
-  by_parent x [] is a up rest =
-      let none : weigh (named (parent_name x)) (all_kids (root ∷ opened)) ≡ 0 =
-      ap (λ y. weigh (named y) (all_kids (root ∷ opened))) is ∙ nil_all (root ∷ opened) in
-      let one = at_most_one (is_same_name (parent_name x) root.piece.name) in
-      omega arith
-  by_parent x (y ∷ ys) is a up rest =
-      let none : named (parent_name x) root.piece ≡ 0 =
-      ap (λ z. bit (is_same_name z root.piece.name)) is ∙ ap (λ z. bit (is_same_name (y ∷ ys) z)) nameless in
-      omega arith
-
-  once_below : (n : ℕ) (x : List ℕ) → length x ≤ n → weigh (named x) (all_kids (root ∷ opened)) ≤ 1
-  once_below n [] le = (let a = nil_all (root ∷ opened) in omega arith)
+module _ (root : Subproblem) (nameless : root.name ≡ []) (opened : List Split)
+    (from : (h : Subproblem → ℕ) → weigh h (pieces_opened opened) ≤ weigh h (root ∷ all_kids opened)) where
+  once_below : (n : ℕ) (x : List ℕ) → length x ≤ n → weigh (named x) (root ∷ all_kids opened) ≤ 1
+  once_below n [] le = omega (arith, nil_all opened, at_most_one (is_same_name [] root.name))
   once_below zero (k ∷ ks) le = absurd (omega arith)
   once_below (suc n) (k ∷ ks) le =
-      by_parent (k ∷ ks) (parent_name (k ∷ ks)) refl (all_named (k ∷ ks) (root ∷ opened))
-      (from (named (parent_name (k ∷ ks))))
-      (once_below n (parent_name (k ∷ ks)) (omega (arith, length-parent_name k ks)))
+      let up : List ℕ = parent_name (k ∷ ks) in
+      let apart : named (k ∷ ks) root ≡ 0 = ap (λ x. bit (is_same_name (k ∷ ks) x)) nameless in
+      let rest = once_below n up (omega (arith, length-parent_name k ks)) in
+      omega (arith, all_named (k ∷ ks) opened, from (named up))
 
   -- each name is that of one piece at most
-  pub once : (x : List ℕ) → weigh (named x) (all_kids (root ∷ opened)) ≤ 1
+  pub once : (x : List ℕ) → weigh (named x) (root ∷ all_kids opened) ≤ 1
   once x = once_below (length x) x (omega arith)

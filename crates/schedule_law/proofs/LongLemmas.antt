@@ -97,76 +97,60 @@ none_more : (f : Split → ℕ) (n : ℕ) (s : Split) (ss : List Split) → leng
 none_more f n s ss e =
     ap (λ b. load f (if b then s ∷ as_long n ss else as_long n ss)) (eqb_not (length s.piece.name) n e)
 
--- what a number of lengths weigh together, from one number on
-abbrev pub sum_to : (ℕ → ℕ) → ℕ → ℕ
-sum_to f zero = 0
-sum_to f (suc n) = sum_to f n + f (suc n)
+-- what the lengths below a number weigh together
+abbrev pub sum_below : (ℕ → ℕ) → ℕ → ℕ
+sum_below f zero = 0
+sum_below f (suc n) = sum_below f n + f n
 
 -- sums of what is equal are equal
-sum_same : (f g : ℕ → ℕ) → ((k : ℕ) → f k ≡ g k) → (n : ℕ) → sum_to f n ≡ sum_to g n
+sum_same : (f g : ℕ → ℕ) → ((k : ℕ) → f k ≡ g k) → (n : ℕ) → sum_below f n ≡ sum_below g n
 sum_same f g e zero = refl
-sum_same f g e (suc n) = omega (arith, sum_same f g e n, e (suc n))
+sum_same f g e (suc n) = omega (arith, sum_same f g e n, e n)
 
--- the load of the splits whose names have at most so many numbers
+-- the load of the splits whose names are shorter than this
 abbrev short_load : (Split → ℕ) → List Split → ℕ → ℕ
-short_load f ss n = sum_to (λ k. load f (as_long k ss)) n
+short_load f ss n = sum_below (λ k. load f (as_long k ss)) n
 
 -- without a split, nothing
 short_none : (f : Split → ℕ) (n : ℕ) → short_load f [] n ≡ 0
 short_none f zero = refl
 short_none f (suc n) = omega (arith, short_none f n)
 
--- a split whose name is longer adds none
-short_past : (f : Split → ℕ) (s : Split) (ss : List Split) (n : ℕ) → n < length s.piece.name
+-- a split whose name isn't shorter adds none
+short_past : (f : Split → ℕ) (s : Split) (ss : List Split) (n : ℕ) → n ≤ length s.piece.name
     → short_load f (s ∷ ss) n ≡ short_load f ss n
-short_past f s ss zero lt = refl
-short_past f s ss (suc n) lt =
+short_past f s ss zero le = refl
+short_past f s ss (suc n) le =
     let rest = short_past f s ss n (omega arith) in
-    let one = none_more f (suc n) s ss (λ e. absurd (omega arith)) in omega arith
+    let one = none_more f n s ss (λ e. absurd (omega arith)) in omega arith
 
--- one whose name isn't longer, and has a number, adds its load
-short_more : (f : Split → ℕ) (s : Split) (ss : List Split) (n : ℕ) → 1 ≤ length s.piece.name
-    → length s.piece.name ≤ n → short_load f (s ∷ ss) n ≡ f s + short_load f ss n
-short_more f s ss zero some le = absurd (omega arith)
-short_more f s ss (suc n) some le = elim (cases_eq (length s.piece.name) (suc n)) [
-  | inl e ↦ (let rest = short_past f s ss n (omega arith) in let one = one_more f (suc n) s ss e in omega arith)
-  | inr ne ↦ (let rest = short_more f s ss n some (omega arith) in let one = none_more f (suc n) s ss ne in omega arith)
+-- one whose name is shorter adds its load
+short_more : (f : Split → ℕ) (s : Split) (ss : List Split) (n : ℕ) → length s.piece.name < n
+    → short_load f (s ∷ ss) n ≡ f s + short_load f ss n
+short_more f s ss zero lt = absurd (omega arith)
+short_more f s ss (suc n) lt = elim (cases_eq (length s.piece.name) n) [
+  | inl e ↦ (let rest = short_past f s ss n (omega arith) in let one = one_more f n s ss e in omega arith)
+  | inr ne ↦ (let rest = short_more f s ss n (omega arith) in let one = none_more f n s ss ne in omega arith)
 ]
 
 -- a split adds at most its load, whatever its name
 short_most : (f : Split → ℕ) (s : Split) (ss : List Split) (n : ℕ) → short_load f (s ∷ ss) n ≤ f s + short_load f ss n
-short_most f s ss n = elim (cases_lt n (length s.piece.name)) [
-  | inl lt ↦ (let a = short_past f s ss n lt in omega arith)
-  | inr le ↦ elim (cases_lt 0 (length s.piece.name)) [
-    | inl some ↦ (let a = short_more f s ss n (omega arith) le in omega arith)
-    | inr none_of ↦ (let a = short_nameless f s ss n (omega arith) in omega arith)
-  ]
+short_most f s ss n = elim (cases_lt (length s.piece.name) n) [
+  | inl lt ↦ (let a = short_more f s ss n lt in omega arith)
+  | inr le ↦ (let a = short_past f s ss n le in omega arith)
 ]
-  where
-    -- one without a name adds none
-    short_nameless : (f : Split → ℕ) (s : Split) (ss : List Split) (n : ℕ) → length s.piece.name ≡ 0
-        → short_load f (s ∷ ss) n ≡ short_load f ss n
-    short_nameless f s ss zero e = refl
-    short_nameless f s ss (suc n) e =
-        let rest = short_nameless f s ss n e in
-        let one = none_more f (suc n) s ss (λ q. absurd (omega arith)) in omega arith
 
 -- together at most all
 short_low : (f : Split → ℕ) (ss : List Split) (n : ℕ) → short_load f ss n ≤ load f ss
 short_low f [] n = (let a = short_none f n in omega arith)
 short_low f (s ∷ ss) n = (let a = short_most f s ss n in let b = short_low f ss n in omega arith)
 
--- the name has a number
-abbrev pub IsNamed : Split → Type 0
-IsNamed s = 1 ≤ length s.piece.name
-
--- and up to the longest name just all
-short_all : (f : Split → ℕ) (ss : List Split) (n : ℕ) → All IsNamed ss → longest_name ss ≤ n
-    → short_load f ss n ≡ load f ss
-short_all f [] n all le = short_none f n
-short_all f (s ∷ ss) n all le =
-    let a = short_more f s ss n (All-head IsNamed s ss all) (omega arith) in
-    let b = short_all f ss n (All-tail IsNamed s ss all) (omega arith) in omega arith
+-- and past the longest name just all
+short_all : (f : Split → ℕ) (ss : List Split) (n : ℕ) → longest_name ss < n → short_load f ss n ≡ load f ss
+short_all f [] n lt = short_none f n
+short_all f (s ∷ ss) n lt =
+    let a = short_more f s ss n (omega arith) in
+    let b = short_all f ss n (omega arith) in omega arith
 
 -- what the opened pieces with names of a length weigh
 long_pieces : (h : Subproblem → ℕ) (works : List Worked) (k : ℕ)
@@ -180,9 +164,9 @@ long_kids : (h : Subproblem → ℕ) (works : List Worked) (k : ℕ)
 long_kids h works k = ap (λ l. weigh h (all_kids l)) (all_as_long_are k works)
     ∙ sym (load_kids h (as_long k (all_opened works)))
 
--- those with names of at most so many numbers weigh at most what all opened pieces weigh
+-- those with names shorter than this weigh at most what all opened pieces weigh
 pub pieces_to : (h : Subproblem → ℕ) (works : List Worked) (n : ℕ)
-    → sum_to (λ k. weigh h (pieces_opened (all_as_long k works))) n ≤ weigh h (pieces_opened (all_opened works))
+    → sum_below (λ k. weigh h (pieces_opened (all_as_long k works))) n ≤ weigh h (pieces_opened (all_opened works))
 pieces_to h works n =
     let a = sum_same (λ k. weigh h (pieces_opened (all_as_long k works)))
     (λ k. load (λ s. h s.piece) (as_long k (all_opened works))) (long_pieces h works) n in
@@ -191,64 +175,64 @@ pieces_to h works n =
 
 -- and so do their kids
 pub kids_to : (h : Subproblem → ℕ) (works : List Worked) (n : ℕ)
-    → sum_to (λ k. weigh h (all_kids (all_as_long k works))) n ≤ weigh h (all_kids (all_opened works))
+    → sum_below (λ k. weigh h (all_kids (all_as_long k works))) n ≤ weigh h (all_kids (all_opened works))
 kids_to h works n =
     let a = sum_same (λ k. weigh h (all_kids (all_as_long k works)))
     (λ k. load (λ s. weigh h (kids_of s)) (as_long k (all_opened works))) (long_kids h works) n in
     let b = short_low (λ s. weigh h (kids_of s)) (all_opened works) n in
     omega (arith, load_kids h (all_opened works))
 
--- up to the longest name they are all kids
-pub kids_all : (h : Subproblem → ℕ) (works : List Worked) → All IsNamed (all_opened works)
-    → sum_to (λ k. weigh h (all_kids (all_as_long k works))) (longest_name (all_opened works))
+-- past the longest name they are all kids
+pub kids_all : (h : Subproblem → ℕ) (works : List Worked)
+    → sum_below (λ k. weigh h (all_kids (all_as_long k works))) (longest_name (all_opened works) + 1)
     ≡ weigh h (all_kids (all_opened works))
-kids_all h works all =
-    let n : ℕ = longest_name (all_opened works) in
+kids_all h works =
+    let n : ℕ = longest_name (all_opened works) + 1 in
     let a = sum_same (λ k. weigh h (all_kids (all_as_long k works)))
     (λ k. load (λ s. weigh h (kids_of s)) (as_long k (all_opened works))) (long_kids h works) n in
-    let b = short_all (λ s. weigh h (kids_of s)) (all_opened works) n all (omega arith) in
+    let b = short_all (λ s. weigh h (kids_of s)) (all_opened works) n (omega arith) in
     omega (arith, load_kids h (all_opened works))
 
 -- and just all opened pieces
-pub pieces_all : (h : Subproblem → ℕ) (works : List Worked) → All IsNamed (all_opened works)
-    → sum_to (λ k. weigh h (pieces_opened (all_as_long k works))) (longest_name (all_opened works))
+pub pieces_all : (h : Subproblem → ℕ) (works : List Worked)
+    → sum_below (λ k. weigh h (pieces_opened (all_as_long k works))) (longest_name (all_opened works) + 1)
     ≡ weigh h (pieces_opened (all_opened works))
-pieces_all h works all =
-    let n : ℕ = longest_name (all_opened works) in
+pieces_all h works =
+    let n : ℕ = longest_name (all_opened works) + 1 in
     let a = sum_same (λ k. weigh h (pieces_opened (all_as_long k works)))
     (λ k. load (λ s. h s.piece) (as_long k (all_opened works))) (long_pieces h works) n in
-    let b = short_all (λ s. h s.piece) (all_opened works) n all (omega arith) in
+    let b = short_all (λ s. h s.piece) (all_opened works) n (omega arith) in
     omega (arith, load_pieces h (all_opened works))
 
--- the splits with names of at most so many numbers, shorter names first
+-- the splits whose names are shorter than this, shorter names first
 abbrev pub in_turn : ℕ → List Worked → List Split
 in_turn zero works = []
-in_turn (suc n) works = in_turn n works ++ all_as_long (suc n) works
+in_turn (suc n) works = in_turn n works ++ all_as_long n works
 
 -- what their pieces weigh
 pub pieces_in_turn : (h : Subproblem → ℕ) (works : List Worked) (n : ℕ)
-    → weigh h (pieces_opened (in_turn n works)) ≡ sum_to (λ k. weigh h (pieces_opened (all_as_long k works))) n
+    → weigh h (pieces_opened (in_turn n works)) ≡ sum_below (λ k. weigh h (pieces_opened (all_as_long k works))) n
 pieces_in_turn h works zero = refl
 pieces_in_turn h works (suc n) =
-    let a = ap (weigh h) (pieces-append (in_turn n works) (all_as_long (suc n) works)) in
+    let a = ap (weigh h) (pieces-append (in_turn n works) (all_as_long n works)) in
     omega (
       arith,
       a,
       pieces_in_turn h works n,
-      weigh-append h (pieces_opened (in_turn n works)) (pieces_opened (all_as_long (suc n) works)),
+      weigh-append h (pieces_opened (in_turn n works)) (pieces_opened (all_as_long n works)),
     )
 
 -- and their kids
 pub kids_in_turn : (h : Subproblem → ℕ) (works : List Worked) (n : ℕ)
-    → weigh h (all_kids (in_turn n works)) ≡ sum_to (λ k. weigh h (all_kids (all_as_long k works))) n
+    → weigh h (all_kids (in_turn n works)) ≡ sum_below (λ k. weigh h (all_kids (all_as_long k works))) n
 kids_in_turn h works zero = refl
 kids_in_turn h works (suc n) =
-    let a = ap (weigh h) (kids-append (in_turn n works) (all_as_long (suc n) works)) in
+    let a = ap (weigh h) (kids-append (in_turn n works) (all_as_long n works)) in
     omega (
       arith,
       a,
       kids_in_turn h works n,
-      weigh-append h (all_kids (in_turn n works)) (all_kids (all_as_long (suc n) works)),
+      weigh-append h (all_kids (in_turn n works)) (all_kids (all_as_long n works)),
     )
 
 -- a kid with a name of one number more is one of a split with a name of that length

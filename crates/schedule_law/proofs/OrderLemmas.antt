@@ -1,5 +1,5 @@
 -- The results of workers say the same in whatever order they stand.
-use Rattle.std.proofs.Common.{◌≡◌, ℕ, ◌+◌, ◌≤◌, List, [], ◌∷◌, ◌++◌, length, Option, Some, None, Contains}
+use Rattle.std.proofs.Common.{◌≡◌, ℕ, ◌+◌, ◌≤◌, List, [], ◌∷◌, ◌++◌, Option, Some, None, Contains}
 use Rattle.std.proofs.Common.{refl, sym, ◌∙◌, subst, arith, ◌⊎◌, inl, inr}
 use Rattle.std.specs.Prelude.{All, IsPermutation}
 use Rattle.std.proofs.lemmas.List.Elements.{Contains-append_cases, Contains-append_left, Contains-append_right}
@@ -107,25 +107,21 @@ least_moved n works others p = omega (
 
 -- ---- joined results
 
-pub joined_in_any_order : (region : Instance) (first : List ℕ) (root : Split) (works others : List Worked)
-    (left : List Subproblem) → IsPermutation works others → AreJoined region first root works left
-    → AreJoined region first root others left
-joined_in_any_order region first root works others left p j = record {
-  of_root = j.of_root;
-  fit = subst (λ (n : ℕ). All (IsWork region n) others) (least_moved (length first) works others p)
-      (All-permutation (IsWork region (least_size (length first) works)) works others p j.fit);
+pub joined_in_any_order : (region : Instance) (goal : ℕ) (works others : List Worked) (left : List Subproblem)
+    → IsPermutation works others → AreJoined region goal works left → AreJoined region goal others left
+joined_in_any_order region goal works others left p j = record {
+  fit = subst (λ (n : ℕ). All (IsWork region n) others) (least_moved goal works others p)
+      (All-permutation (IsWork region (least_size goal works)) works others p j.fit);
   balance = λ h. omega (
     arith,
     j.balance h,
-    weigh-append h (kids_of root) (all_kids (all_opened works)),
-    weigh-append h (kids_of root) (all_kids (all_opened others)),
     moved (λ ws. weigh h (all_kids (all_opened ws))) (λ w. weigh h (all_kids w.opened)) refl
         (λ w ws. kids_append h w.opened (all_opened ws)) works others p,
     moved (λ ws. weigh h (pieces_opened (all_opened ws))) (λ w. weigh h (pieces_opened w.opened)) refl
         (λ w ws. opened_append h w.opened (all_opened ws)) works others p,
     moved (λ ws. weigh h (pieces_closed (all_closed ws))) (λ w. weigh h (pieces_closed w.closed)) refl
         (λ w ws. closed_append h w.closed (all_closed ws)) works others p,
-    moved (λ ws. weigh h (all_back ws)) (λ w. weigh h (w.held ++ w.refused)) refl
-        (λ w ws. weigh-append h (w.held ++ w.refused) (all_back ws)) works others p,
+    moved (λ ws. weigh h (all_back ws)) (λ w. weigh h (w.held ++ w.kept)) refl
+        (λ w ws. weigh-append h (w.held ++ w.kept) (all_back ws)) works others p,
   );
 }

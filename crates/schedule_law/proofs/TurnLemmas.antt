@@ -23,17 +23,19 @@ Knows state made used = (p : Subproblem) → IsAmong p made → weigh (named p.n
 pub record Keeps (old new : State) : Type 0 where
   pub same_region : new.region ≡ old.region
   pub same_best : new.best ≡ old.best
+  pub same_aim : new.aim ≡ old.aim
   pub same_seen : new.seen ≡ old.seen
 
--- a state keeps its own region, best cover and what each worker saw
+-- a state keeps its own region, best cover, aim and what each worker saw
 pub keeps_self : (state : State) → Keeps state state
-keeps_self state = record { same_region = refl; same_best = refl; same_seen = refl }
+keeps_self state = record { same_region = refl; same_best = refl; same_aim = refl; same_seen = refl }
 
 -- what two steps keep, both together keep
 pub keeps_on : (a b c : State) → Keeps a b → Keeps b c → Keeps a c
 keeps_on a b c f g = record {
   same_region = g.same_region ∙ f.same_region;
   same_best = g.same_best ∙ f.same_best;
+  same_aim = g.same_aim ∙ f.same_aim;
   same_seen = g.same_seen ∙ f.same_seen;
 }
 
@@ -43,6 +45,7 @@ pub turned_keeps : (old : State) (name : List ℕ) (status : Status) (new : Stat
 turned_keeps old name status new t = record {
   same_region = ap (λ (s : State). s.region) t.kept;
   same_best = ap (λ (s : State). s.best) t.kept;
+  same_aim = ap (λ (s : State). s.aim) t.kept;
   same_seen = ap (λ (s : State). s.seen) t.kept;
 }
 
@@ -51,6 +54,7 @@ pub opened_keeps : (old : State) (name : List ℕ) (way : Way) (new : State) →
 opened_keeps old name way new o = record {
   same_region = ap (λ (s : State). s.region) o.kept;
   same_best = ap (λ (s : State). s.best) o.kept;
+  same_aim = ap (λ (s : State). s.aim) o.kept;
   same_seen = ap (λ (s : State). s.seen) o.kept;
 }
 

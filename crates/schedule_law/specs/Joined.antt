@@ -3,13 +3,9 @@ use Rattle.std.specs.Prelude.{◌≡◌, ℕ, ◌+◌, List, [], ◌∷◌, ◌+
 use Rattle.set_cover.specs.Instance.{Instance}
 use Rattle.instance_regions.specs.Cover.{Covering}
 use Rattle.proof_tree.specs.Piece.{Subproblem, Fathomed, root_of}
-use Rattle.proof_tree.specs.Opened.{Split, IsSplit, kids_of}
+use Rattle.proof_tree.specs.Opened.{Split, kids_of}
 use Rattle.proof_tree.specs.Weights.{weigh}
 use Rattle.schedule_law.specs.Worked.{Worked, IsWork}
-
--- the root of the region, opened as it may be
-abbrev pub IsRootSplit : Instance → Split → Type 0
-IsRootSplit region root = (root.piece ≡ root_of region) × IsSplit root
 
 -- the kids of what was opened, piece after piece
 abbrev pub all_kids : List Split → List Subproblem
@@ -31,9 +27,13 @@ all_opened works = flat_map (λ work. work.opened) works
 abbrev pub all_closed : List Worked → List Fathomed
 all_closed works = flat_map (λ work. work.closed) works
 
--- those that workers still held, and kids whose push was refused
+-- the root of the region, and the kids of all that workers opened
+abbrev pub all_pieces : Instance → List Worked → List Subproblem
+all_pieces region works = root_of region ∷ all_kids (all_opened works)
+
+-- those that workers still held, and kids that they kept to themselves
 abbrev pub all_back : List Worked → List Subproblem
-all_back works = flat_map (λ work. work.held ++ work.refused) works
+all_back works = flat_map (λ work. work.held ++ work.kept) works
 
 -- this size, or the cover's where that is smaller
 abbrev pub less_by : ℕ → Option Covering → ℕ
@@ -45,13 +45,11 @@ abbrev pub least_size : ℕ → List Worked → ℕ
 least_size size [] = size
 least_size size (work ∷ works) = less_by (least_size size works) work.cover
 
--- the caller opened the root. Each piece that came to be was opened, closed, handed back or left in a deque, and just
--- once; each floor reaches the least size of a cover
-pub record AreJoined (region : Instance) (first : List ℕ) (root : Split) (works : List Worked)
-    (left : List Subproblem) : Type 0 where
-  pub of_root : IsRootSplit region root
-  pub fit : All (IsWork region (least_size (length first) works)) works
+-- each piece that came to be, the root too, was opened, closed, handed back or left in a deque, and just once; each
+-- floor reaches the goal of the round, or the least size of a worker's cover where that is smaller
+pub record AreJoined (region : Instance) (goal : ℕ) (works : List Worked) (left : List Subproblem) : Type 0 where
+  pub fit : All (IsWork region (least_size goal works)) works
   pub balance : (weight : Subproblem → ℕ)
-      → weigh weight (all_kids (root ∷ all_opened works))
+      → weigh weight (all_pieces region works)
       ≡ weigh weight (pieces_opened (all_opened works)) + weigh weight (pieces_closed (all_closed works))
       + weigh weight (all_back works) + weigh weight left

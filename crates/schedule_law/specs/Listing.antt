@@ -29,10 +29,10 @@ abbrev pub opens : ℕ → ℕ → List Worked → List Event
 opens size worker [] = []
 opens size worker (work ∷ works) = opens_as_long size worker work.opened ++ opens size (worker + 1) works
 
--- the workers take pieces whose names are at most so long, and open each, shorter names first
-abbrev pub opens_to : ℕ → List Worked → List Event
-opens_to zero works = []
-opens_to (suc size) works = opens_to size works ++ opens (suc size) 0 works
+-- the workers take pieces whose names are shorter than this, and open each, shorter names first
+abbrev pub opens_below : ℕ → List Worked → List Event
+opens_below zero works = []
+opens_below (suc size) works = opens_below size works ++ opens size 0 works
 
 -- the length of the longest name of a piece that was opened
 abbrev pub longest_name : List Split → ℕ
@@ -64,14 +64,13 @@ abbrev pub closes : ℕ → List Worked → List Event
 closes worker [] = []
 closes worker (work ∷ works) = closes_of worker work.closed ++ closes (worker + 1) works
 
--- what comes before all closing: the caller opens the root, workers open pieces, shorter names first, offer and look
-abbrev pub before_closes : Split → List Worked → List Event
-before_closes root works =
-    opening_of root ∷ opens_to (longest_name (all_opened works)) works ++ offers 0 works ++ looks 0 works
+-- what comes before all closing: workers open pieces, shorter names first, offer and look
+abbrev pub before_closes : List Worked → List Event
+before_closes works = opens_below (longest_name (all_opened works) + 1) works ++ offers 0 works ++ looks 0 works
 
 -- the whole list
-abbrev pub listing : Split → List Worked → List Event
-listing root works = before_closes root works ++ closes 0 works
+abbrev pub listing : List Worked → List Event
+listing works = before_closes works ++ closes 0 works
 
 -- each event is enabled when its turn comes, whatever state those before it left
 abbrev pub AllEnabled : State → List Event → Type 0

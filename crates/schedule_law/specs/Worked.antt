@@ -14,16 +14,16 @@ pub record Worked : Type 0 where
   pub opened : List Split
   -- those that it took and neither closed nor opened
   pub held : List Subproblem
-  -- kids of what it opened that its deque had no room for
-  pub refused : List Subproblem
+  -- kids of what it opened that it keeps to itself
+  pub kept : List Subproblem
 
 -- the code by which such results are told apart, made of those of their parts
 abbrev pub worked_coded : Coded Worked
 worked_coded = code_by (Option Covering × (List Fathomed × (List Split × (List Subproblem × List Subproblem))))
     (coded× (coded_option covering_coded) (coded× (coded_list fathomed_coded) (coded× (coded_list split_coded)
     (coded× (coded_list subproblem_coded) (coded_list subproblem_coded)))))
-    (λ w. (w.cover, (w.closed, (w.opened, (w.held, w.refused)))))
-    (λ p. record { cover = p.0; closed = p.1.0; opened = p.1.1.0; held = p.1.1.1.0; refused = p.1.1.1.1 })
+    (λ w. (w.cover, (w.closed, (w.opened, (w.held, w.kept)))))
+    (λ p. record { cover = p.0; closed = p.1.0; opened = p.1.1.0; held = p.1.1.1.0; kept = p.1.1.1.1 })
     (λ _. refl)
 
 -- a cover of this region

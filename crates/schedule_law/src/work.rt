@@ -10,12 +10,12 @@ pub struct Work {
     pub cover: Option<Cover>,
     /// The pieces that it closed.
     pub closed: Vec<Closed>,
-    /// The pieces that it opened again.
+    /// The pieces that it opened.
     pub opened: Vec<Opened>,
     /// The pieces that it took and neither closed nor opened.
     pub held: Vec<Piece>,
-    /// The kids of what it opened that its deque had no room for.
-    pub refused: Vec<Piece>,
+    /// The kids of what it opened that it keeps to itself.
+    pub kept: Vec<Piece>,
 }
 
 impl Model for Work {
@@ -30,6 +30,6 @@ impl Model for Work {
       closed = w.closed.items;
       opened = w.opened.items;
       held = w.held.items;
-      refused = w.refused.items;
+      kept = w.kept.items;
     } };
 }

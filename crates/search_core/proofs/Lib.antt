@@ -1,4 +1,5 @@
 pub mod AloneLemmas
 pub mod AtNodeLemmas
 pub mod PieceLemmas
+pub mod RoundLemmas
 pub mod StepRules

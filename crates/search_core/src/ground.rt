@@ -9,11 +9,8 @@ use std::sync::Arc;
 /// How many places that were picked may be barred above a node: each stands for a frame of the stack.
 const MOST_PICKS: u32 = 1024;
 
-/// How often what is left of a branch may go to a thread of its own above a node: each stands for a thread that waits.
-const MOST_SPLITS: u32 = 1024;
-
 /// The allocator and the region of a search, and the region once more as covers and pieces share it; and how far the
-/// search may go on by picks, none where places aren't picked, and by threads.
+/// search may go on by picks, none where places aren't picked.
 #[derive(Clone, Copy)]
 pub struct Ground<'a> {
     pub alloc: Global,
@@ -23,8 +20,6 @@ pub struct Ground<'a> {
     pub refused: u32,
     /// How many may be.
     pub picks: u32,
-    /// How often what is left of a branch may go to a thread of its own here.
-    pub splits: u32,
     ghost same: { arc_value shared.now ≡ region.now },
 }
 
@@ -39,7 +34,6 @@ impl<'a> Ground<'a> {
             shared,
             refused: 0,
             picks: if may_pick { MOST_PICKS } else { 0 },
-            splits: MOST_SPLITS,
         }
     }
 
@@ -56,22 +50,9 @@ impl<'a> Ground<'a> {
         ensures same { result.region.now ≡ self.now.region.now }
         ensures one_more { result.refused ≡ self.now.refused + 1 }
         ensures picks { result.picks ≡ self.now.picks }
-        ensures splits { result.splits ≡ self.now.splits }
     {
         let mut below = *self;
         below.refused += 1;
-        below
-    }
-
-    /// The ground below a node where what is left of one more branch went to a thread of its own.
-    pub fn split(&self) -> Ground<'a>
-        requires { 0 < self.now.splits }
-        ensures same { result.region.now ≡ self.now.region.now }
-        ensures one_less { result.splits + 1 ≡ self.now.splits }
-        ensures picks { (result.picks ≡ self.now.picks) × (result.refused ≡ self.now.refused) }
-    {
-        let mut below = *self;
-        below.splits -= 1;
         below
     }
 }

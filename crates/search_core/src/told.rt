@@ -1,9 +1,5 @@
 //! A proposer whose nodes an observer is told of.
-ghost use Rattle.pack_bound.specs.Nodes.{IsStateOf};
-
-use instance_regions::Region;
-use pack_bound::Node;
-use search_traits::{Observer, Proposal, Proposer, Strategy, Task};
+use search_traits::{Observer, Proposal, Proposer, Task};
 use std::alloc::{AllocError, Global};
 
 /// It proposes what the inner one does, and tells of each node.
@@ -15,7 +11,7 @@ pub struct Told<'o, P, O> {
     size: u64,
 }
 
-impl<'o, P: Proposer, O: Observer> Told<'o, P, O> {
+impl<'o, P, O> Told<'o, P, O> {
     /// The observer is told of the nodes that this one proposes for.
     pub fn new(inner: P, observer: &'o O) -> Told<'o, P, O> {
         Told {
@@ -38,24 +34,6 @@ impl<'o, P: Proposer, O: Observer> Told<'o, P, O> {
     /// Who is told.
     pub fn observer(&self) -> &'o O {
         self.observer
-    }
-}
-
-impl<'o, S: Strategy, O: Observer> Told<'o, S, O> {
-    /// A strategy for the search below a node, with its observer. It begins with what was found above the node.
-    pub fn below(
-        &self,
-        alloc: Global,
-        region: &Region,
-        node: &Node,
-    ) -> Result<Told<'o, S, O>, AllocError>
-        requires { IsStateOf region.now node.now }
-    {
-        Ok(Told {
-            inner: self.inner.below(alloc, region, node)?,
-            observer: self.observer,
-            size: self.size,
-        })
     }
 }
 

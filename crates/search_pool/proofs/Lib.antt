@@ -2,4 +2,3 @@ pub mod CrewLemmas
 pub mod ReportLemmas
 pub mod SlotLemmas
 pub mod StartLemmas
-pub mod TurnLemmas

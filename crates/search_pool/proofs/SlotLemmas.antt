@@ -1,5 +1,5 @@
 -- The ends of deques, after a pass at each was lent.
-use Rattle.std.proofs.Common.{◌≡◌, ℕ, zero, suc, ◌+◌, List, [], ◌∷◌, ◌++◌, length, All, Option, refl, sym, ap, ◌∙◌}
+use Rattle.std.proofs.Common.{◌≡◌, ℕ, zero, suc, ◌+◌, List, [], ◌∷◌, ◌++◌, length, All, refl, sym, ap, ◌∙◌}
 use Rattle.std.proofs.Common.{arith}
 use Rattle.std.specs.Prelude.{map}
 use Rattle.std.proofs.lemmas.List.Elements.{All-head, All-tail, All-cons, All-push}
@@ -71,8 +71,8 @@ owned_long owned count same =
     sym (length-map (λ (own : Owned). own.worker) owned) ∙ ap length same ∙ length-numbers 0 count
 
 -- results in a row are of the workers in order
-pub in_a_row : (first : ℕ) (own each : Option ℕ) (results : List Handed) → AreFrom first own each results
+pub in_a_row : (first : ℕ) (results : List Handed) → AreFrom first results
     → workers_of results ≡ numbers_from first (length results)
-in_a_row first own each [] row = refl
-in_a_row first own each (result ∷ results) row =
-    ap (λ (n : ℕ). n ∷ workers_of results) row.0 ∙ ap (first ∷◌) (in_a_row (first + 1) each each results row.2)
+in_a_row first [] row = refl
+in_a_row first (result ∷ results) row =
+    ap (λ (n : ℕ). n ∷ workers_of results) row.0 ∙ ap (first ∷◌) (in_a_row (first + 1) results row.1)

@@ -4,9 +4,7 @@ pub mod Runs
 pub mod Tallies
 -- private
 pub mod Deques
-pub mod Rooted
 pub mod Rows
 pub mod Seats
 pub mod Slots
-pub mod Turns
 pub mod Unruns

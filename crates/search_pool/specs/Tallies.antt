@@ -5,13 +5,13 @@ use Rattle.schedule_law.specs.Worked.{Worked}
 use Rattle.schedule_law.specs.Joined.{all_back, all_closed, all_opened}
 use Rattle.search_pool.specs.declared.piece_counts.PieceCounts.{PieceCounts}
 
--- the kids whose push was refused
-abbrev pub all_refused : List Worked → List Subproblem
-all_refused works = flat_map (λ work. work.refused) works
+-- the kids that workers keep
+abbrev pub all_kept : List Worked → List Subproblem
+all_kept works = flat_map (λ work. work.kept) works
 
 -- each number is that of such pieces
 pub record AreTallied (works : List Worked) (tally : PieceCounts) : Type 0 where
   pub closed : tally.closed ≡ length (all_closed works)
   pub opened : tally.opened ≡ length (all_opened works)
-  pub back : tally.held + tally.refused ≡ length (all_back works)
-  pub refused : tally.refused ≡ length (all_refused works)
+  pub back : tally.held + tally.kept ≡ length (all_back works)
+  pub kept : tally.kept ≡ length (all_kept works)

@@ -12,7 +12,7 @@ pub(crate) struct PieceCounts {
     pub(crate) closed: u128,
     pub(crate) opened: u128,
     pub(crate) held: u128,
-    pub(crate) refused: u128,
+    pub(crate) kept: u128,
 }
 
 /// Counts the pieces of the works.
@@ -21,14 +21,14 @@ pub(crate) fn count_pieces(works: &[Work]) -> PieceCounts
     ensures counted { AreTallied works.now result }
     ensures most { (result.closed ≤ length works.now * 2 ^ 64)
         × (result.opened ≤ length works.now * 2 ^ 64)
-        × (result.held ≤ length works.now * 2 ^ 64) × (result.refused ≤ length works.now * 2 ^ 64) }
+        × (result.held ≤ length works.now * 2 ^ 64) × (result.kept ≤ length works.now * 2 ^ 64) }
 {
     let Some((work, rest)) = works.split_first() else {
         return PieceCounts {
             closed: 0,
             opened: 0,
             held: 0,
-            refused: 0,
+            kept: 0,
         };
     };
     let others = count_pieces(rest);
@@ -36,6 +36,6 @@ pub(crate) fn count_pieces(works: &[Work]) -> PieceCounts
         closed: others.closed + work.closed.len() as u128,
         opened: others.opened + work.opened.len() as u128,
         held: others.held + work.held.len() as u128,
-        refused: others.refused + work.refused.len() as u128,
+        kept: others.kept + work.kept.len() as u128,
     }
 }

@@ -6,21 +6,21 @@ use proof_tree::Proof;
 /// What workers planned.
 #[derive(Drop)]
 pub struct Report {
-    /// The fewest places that light the region.
+    /// The smallest cover that is known.
     pub cover: Cover,
-    /// The tree which proves that none are fewer.
+    /// The tree which proves that none is smaller than it, or than the size that the round was after.
     pub proof: Proof,
     /// How many turns were granted, at most the limit. Without a limit the count stops at the greatest number.
     pub turns: u64,
-    /// Pieces that workers took and neither closed nor opened, and kids that no deque had room for.
+    /// Pieces that workers took and neither closed nor opened, and kids that they kept to themselves.
     pub handed_back: u128,
     /// Pieces that the caller took from the deques after the joins.
     pub left: u128,
-    /// Pieces that were pushed and that the caller closed.
+    /// Those of them that the caller closed.
     pub gleaned: u128,
-    /// Pieces that were pushed.
+    /// Pieces that came to be, but for the kids that workers still keep.
     pub pushed: u128,
-    /// Pieces that were pushed and opened again.
+    /// Those of them that workers opened.
     pub opened: u128,
     /// For each worker the pieces that it closed.
     pub closed_by: Vec<u64>,

@@ -1,3 +1,4 @@
 pub mod DeskLemmas
+pub mod DeskRules
 pub mod PlannedLemmas
 pub mod TurnLemmas

@@ -5,6 +5,8 @@ ghost use Rattle.search_traits.specs.Turns.{IsWithin};
 
 use crate::desk::Desk;
 use crate::planner::BestPlan;
+use crate::round_desk::RoundDesk;
+use crate::two_searches::rest_of;
 use cave_model::OutOfMemory;
 use instance_regions::Cover;
 use proof_tree::Proof;
@@ -142,5 +144,23 @@ impl Desk for AloneDesk {
                 true
             }
         }
+    }
+}
+
+impl RoundDesk for AloneDesk {
+    fn cover(&self) -> &Cover {
+        &self.cover
+    }
+
+    fn left(&self) -> Option<u64> {
+        rest_of(self.limit, self.granted)
+    }
+
+    fn count(&mut self, turns: u64) {
+        let granted = self.granted.saturating_add(turns);
+        self.granted = match self.limit {
+            Some(limit) => limit.min(granted),
+            None => granted,
+        };
     }
 }

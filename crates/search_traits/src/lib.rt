@@ -3,8 +3,8 @@
 //! those who ask for a plan stand on these alone, and not on each other.
 #![tactic(auto)]
 
+mod aimed;
 mod alone;
-mod beginning;
 mod close_fault;
 mod closer;
 mod desk;
@@ -13,11 +13,13 @@ mod observer;
 mod planner;
 mod proposer;
 mod region_fault;
+mod round_desk;
 mod shared_search;
 mod two_searches;
+mod worked;
 
+pub use aimed::{AimedDesk, count_turns};
 pub use alone::AloneDesk;
-pub use beginning::Beginning;
 pub use close_fault::CloseFault;
 pub use closer::Closer;
 pub use desk::Desk;
@@ -26,7 +28,9 @@ pub use observer::{Observer, Unobserved};
 pub use planner::{Allowance, BestPlan, Planner};
 pub use proposer::{Proposal, Proposer, Strategy, Task};
 pub use region_fault::{RegionFault, RegionPlan};
+pub use round_desk::RoundDesk;
 pub use shared_search::SharedSearch;
 pub use two_searches::{
     are_spent, first_of, rest_of, smaller_of, stopped, with_earlier, with_known,
 };
+pub use worked::Worked;

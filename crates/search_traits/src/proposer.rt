@@ -44,6 +44,9 @@ pub trait Proposer {
 /// Heuristics that a planner is put together with: how a proposer is made, and what is proposed of whole regions and
 /// whole trees. The calls may come in any order.
 pub trait Strategy: Proposer + Drop {
+    /// What it remembers of one node, for those right below it.
+    type Memory: Drop;
+
     /// A proposer for the search below a node of the region.
     fn at(alloc: Global, region: &Region, node: &Node) -> Result<Self, AllocError>
         requires { IsStateOf region.now node.now };
@@ -51,6 +54,15 @@ pub trait Strategy: Proposer + Drop {
     /// A proposer for the search below another node, which begins with what this one found at its own.
     fn below(&self, alloc: Global, region: &Region, node: &Node) -> Result<Self, AllocError>
         requires { IsStateOf region.now node.now };
+
+    /// Another proposer for the same search, for another thread: it shares what this one was made of.
+    fn again(&self, alloc: Global) -> Result<Self, AllocError>;
+
+    /// What it remembers of the node that it proposed for last.
+    fn memory(&self, alloc: Global) -> Result<Self::Memory, AllocError>;
+
+    /// The node that it proposes for next is right below the one of which this is remembered.
+    fn recall(&mut self, alloc: Global, above: &Self::Memory) -> Result<(), AllocError>;
 
     /// Whether picks make shorter trees in the region than branches on cells, where a search gets long.
     fn is_for_picks(&self) -> bool;
@@ -63,6 +75,9 @@ pub trait Strategy: Proposer + Drop {
         node: &Node,
         tree: &Proof,
     ) -> Result<Proof, AllocError>;
+
+    /// A tree by numbers, by indices.
+    fn in_indices(alloc: Global, region: &Region, tree: &Proof) -> Result<Proof, AllocError>;
 
     /// The places of the region's core, ascending, by their indices: the region can do without the others.
     fn kept_places(alloc: Global, region: &Region) -> Result<Vec<u32>, AllocError>;

@@ -1,3 +1,4 @@
 pub mod MemoryLemmas
+pub mod PlanLemmas
 pub mod RunLemmas
 pub mod StatusLemmas

@@ -4,5 +4,3 @@ pub mod Answers
 pub mod Usage
 pub mod Given
 pub mod Memory
--- private
-pub mod Crew

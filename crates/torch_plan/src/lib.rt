@@ -3,12 +3,10 @@
 
 mod answering;
 mod crew;
-mod crew_pieces;
 mod environment;
 mod levels;
 mod memory;
 mod planner;
-mod pool_answers;
 mod resources;
 mod runs;
 

@@ -41,13 +41,16 @@ where
             resources, reader, table, opts.rule, opts.turns, writer, proof,
         );
     }
-    let crew: Crew<'_, X, Moves, O> = Crew::new(&*resources, opts.workers);
+    let crew = Crew {
+        resources: &*resources,
+        workers: opts.workers,
+    };
     let planner = Planner {
         allowance: Allowance {
             workers: opts.workers.number,
             turns: opts.turns,
         },
-        plan: |region: &Arc<Region>| crew.plan_region(region, opts.turns),
+        plan: |region: &Arc<Region>| crew.plan_region::<Moves>(region, opts.turns),
         observer: resources.observer,
     };
     let alloc = resources.alloc;

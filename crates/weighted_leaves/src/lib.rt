@@ -21,5 +21,5 @@ mod starting;
 mod tree_sizes;
 
 pub use branch_on::BranchOn;
-pub use leaf::WeightedLeaves;
+pub use leaf::{KernelMemory, WeightedLeaves};
 pub use sought::Sought;

@@ -1,17 +1,17 @@
 -- What a worker holds still adds up after each of its steps.
-use Rattle.std.proofs.Common.{◌≡◌, ℕ, ◌+◌, List, [], ◌∷◌, ◌++◌, sym, ap, ◌∙◌, subst, le_refl, arith}
+use Rattle.std.proofs.Common.{◌≡◌, ℕ, ◌+◌, List, [], ◌∷◌, ◌++◌, length, reverse, remove, slice_index_or, ◌<◌, sym, ap, ◌∙◌, subst, le_refl, refl, arith}
+use Rattle.std.proofs.lemmas.Grind.{reverse_onto}
 use Rattle.std.proofs.lemmas.List.Elements.{All-push}
 use Rattle.set_cover.specs.Instance.{Instance}
 use Rattle.proof_tree.specs.Piece.{Subproblem, Fathomed}
-use Rattle.proof_tree.specs.Opened.{Split}
+use Rattle.proof_tree.specs.Opened.{Split, kids_of}
 use Rattle.proof_tree.specs.Weights.{weigh}
 use Rattle.piece_deque.specs.declared.dealt.Dealt.{Dealt}
-use Rattle.piece_deque.specs.Deals.{took_too}
+use Rattle.piece_deque.specs.Deals.{pushed_too, took_too}
 use Rattle.piece_deque.proofs.TotalLemmas.{weigh_append}
 use Rattle.schedule_law.specs.Worked.{IsClosedFrom, IsOpenedIn}
 use Rattle.worker_results.specs.Passes.{Owned, KnownPass, all_taken}
 use Rattle.worker_results.specs.Holdings.{held_of, HeldSoundly}
-use Rattle.worker_results.specs.Steps.{IsOpening, PushedAll}
 use Rattle.worker_results.proofs.HeapLemmas.{closed_snoc, opened_snoc, kids_snoc, all_from_push}
 
 -- the passes took one piece more
@@ -30,21 +30,35 @@ own_took own own_now rs p now = record {
       let b = weigh_append h own.knows.taken (p ∷ []) in omega arith;
 }
 
+-- in whatever order pieces stand, they weigh the same
+weigh_reverse : (h : Subproblem → ℕ) (pieces : List Subproblem) → weigh h (reverse pieces) ≡ weigh h pieces
+weigh_reverse h [] = refl
+weigh_reverse h (piece ∷ pieces) = (
+    let e = ap (weigh h) (reverse_onto pieces piece []) in
+    let a = weigh_append h (reverse pieces) (piece ∷ []) in
+    let b = weigh_reverse h pieces in omega arith)
+
+-- the first of some pieces, and the others
+pub weigh_first : (h : Subproblem → ℕ) (pieces : List Subproblem) (first : Subproblem) → 0 < length pieces
+    → first ≡ slice_index_or pieces 0 first → weigh h pieces ≡ h first + weigh h (remove pieces 0)
+weigh_first h [] first some is = absurd (omega (arith, some))
+weigh_first h (piece ∷ pieces) first some is = (let e = ap h is in omega arith)
+
 -- it is held
 took_one : (region : Instance) (start : List Subproblem) (own own_now : Owned) (rs rs_now : List KnownPass)
-    (closed : List Fathomed) (opened : List Split) (held refused : List Subproblem) (p : Subproblem)
+    (closed : List Fathomed) (opened : List Split) (held kept : List Subproblem) (p : Subproblem)
     → TookMore own own_now rs rs_now p
-    → HeldSoundly region start (held_of own rs closed opened held refused)
-    → HeldSoundly region start (held_of own_now rs_now closed opened (held ++ p ∷ []) refused)
-took_one region start own own_now rs rs_now closed opened held refused p more s = record {
+    → HeldSoundly region start (held_of own rs closed opened held kept)
+    → HeldSoundly region start (held_of own_now rs_now closed opened (held ++ p ∷ []) kept)
+took_one region start own own_now rs rs_now closed opened held kept p more s = record {
   adds_up = record {
-    took = λ h.
-        let a = s.adds_up.took h in
+    balance = λ h.
+        let a = s.adds_up.balance h in
         let b = more.taken h in
         let c = weigh_append h held (p ∷ []) in
         let d = weigh_append h own.knows.taken (all_taken rs) in
-        let e = weigh_append h own_now.knows.taken (all_taken rs_now) in omega arith;
-    pushed = λ h. ap (λ (l : List Subproblem). weigh h l + weigh h refused) more.pushed ∙ s.adds_up.pushed h;
+        let e = weigh_append h own_now.knows.taken (all_taken rs_now) in
+        let f = ap (weigh h) more.pushed in omega arith;
   };
   all_closed = s.all_closed;
   all_opened = s.all_opened;
@@ -53,30 +67,29 @@ took_one region start own own_now rs rs_now closed opened held refused p more s 
 -- it is held, where the start and the pieces held are known by equations
 pub took_now : (region : Instance) (start start_now : List Subproblem) (own own_now : Owned)
     (rs rs_now : List KnownPass)
-    (closed : List Fathomed) (opened : List Split) (held mid held_now refused : List Subproblem) (p : Subproblem)
+    (closed : List Fathomed) (opened : List Split) (held mid held_now kept : List Subproblem) (p : Subproblem)
     → start_now ≡ start → mid ≡ held → held_now ≡ mid ++ p ∷ [] → TookMore own own_now rs rs_now p
-    → HeldSoundly region start (held_of own rs closed opened held refused)
-    → HeldSoundly region start_now (held_of own_now rs_now closed opened held_now refused)
-took_now region start start_now own own_now rs rs_now closed opened held mid held_now refused p a m e more s =
+    → HeldSoundly region start (held_of own rs closed opened held kept)
+    → HeldSoundly region start_now (held_of own_now rs_now closed opened held_now kept)
+took_now region start start_now own own_now rs rs_now closed opened held mid held_now kept p a m e more s =
     subst (λ (x : List Subproblem × List Subproblem). HeldSoundly region x.0
-    (held_of own_now rs_now closed opened x.1 refused))
+    (held_of own_now rs_now closed opened x.1 kept))
     (λ i. (sym a i, sym (e ∙ ap (λ l. l ++ p ∷ []) m) i))
-    (took_one region start own own_now rs rs_now closed opened held refused p more s)
+    (took_one region start own own_now rs rs_now closed opened held kept p more s)
 
 -- the piece that was held last is closed
 closed_one : (region : Instance) (start : List Subproblem) (own : Owned) (rs : List KnownPass) (closed : List Fathomed)
-    (opened : List Split) (mid refused : List Subproblem) (p : Subproblem) (e : Fathomed)
+    (opened : List Split) (mid kept : List Subproblem) (p : Subproblem) (e : Fathomed)
     → e.piece ≡ p → IsClosedFrom region 0 e
-    → HeldSoundly region start (held_of own rs closed opened (mid ++ p ∷ []) refused)
-    → HeldSoundly region start (held_of own rs (closed ++ e ∷ []) opened mid refused)
-closed_one region start own rs closed opened mid refused p e is fit s = record {
+    → HeldSoundly region start (held_of own rs closed opened (mid ++ p ∷ []) kept)
+    → HeldSoundly region start (held_of own rs (closed ++ e ∷ []) opened mid kept)
+closed_one region start own rs closed opened mid kept p e is fit s = record {
   adds_up = record {
-    took = λ h.
-        let a = s.adds_up.took h in
+    balance = λ h.
+        let a = s.adds_up.balance h in
         let b = weigh_append h mid (p ∷ []) in
         let c = closed_snoc h closed e in
         let k = ap h is in omega arith;
-    pushed = s.adds_up.pushed;
   };
   all_closed = all_from_push region 0 0 closed e (le_refl 0) fit s.all_closed;
   all_opened = s.all_opened;
@@ -84,46 +97,111 @@ closed_one region start own rs closed opened mid refused p e is fit s = record {
 
 -- holdings stay sound where a held piece was closed
 pub closed_now : (region : Instance) (start : List Subproblem) (own : Owned) (rs : List KnownPass)
-    (closed room closed_after : List Fathomed) (opened : List Split) (held mid refused : List Subproblem)
+    (closed room closed_after : List Fathomed) (opened opened_now : List Split) (held mid kept : List Subproblem)
     (p : Subproblem) (e : Fathomed)
-    → room ≡ closed → closed_after ≡ room ++ e ∷ [] → held ≡ mid ++ p ∷ []
+    → room ≡ closed → closed_after ≡ room ++ e ∷ [] → held ≡ mid ++ p ∷ [] → opened_now ≡ opened
     → e.piece ≡ p → IsClosedFrom region 0 e
-    → HeldSoundly region start (held_of own rs closed opened held refused)
-    → HeldSoundly region start (held_of own rs closed_after opened mid refused)
-closed_now region start own rs closed room closed_after opened held mid refused p e a b was is fit s =
-    subst (λ l. HeldSoundly region start (held_of own rs l opened mid refused)) (sym (b ∙ ap (λ l. l ++ e ∷ []) a))
-    (closed_one region start own rs closed opened mid refused p e is fit
-    (subst (λ l. HeldSoundly region start (held_of own rs closed opened l refused)) was s))
+    → HeldSoundly region start (held_of own rs closed opened held kept)
+    → HeldSoundly region start (held_of own rs closed_after opened_now mid kept)
+closed_now region start own rs closed room closed_after opened opened_now held mid kept p e a b was o is fit s =
+    subst (λ (x : List Fathomed × List Split). HeldSoundly region start (held_of own rs x.0 x.1 mid kept))
+    (λ i. (sym (b ∙ ap (λ l. l ++ e ∷ []) a) i, sym o i))
+    (closed_one region start own rs closed opened mid kept p e is fit
+    (subst (λ l. HeldSoundly region start (held_of own rs closed opened l kept)) was s))
 
--- the piece that was held last is opened, and its kids were pushed or refused
-pub opened_now : (region : Instance) (start start_now : List Subproblem) (own own_now : Owned) (rs : List KnownPass)
-    (closed : List Fathomed) (opened room opened_after : List Split)
-    (held mid refused kept refused_now kids : List Subproblem) (p : Subproblem) (o : Split)
-    → start_now ≡ start → room ≡ opened → opened_after ≡ room ++ o ∷ [] → held ≡ mid ++ p ∷ [] → kept ≡ refused
-    → IsOpening region p o kids → own_now.knows.taken ≡ own.knows.taken
-    → PushedAll own.knows.pushed kept kids own_now.knows.pushed refused_now
-    → HeldSoundly region start (held_of own rs closed opened held refused)
-    → HeldSoundly region start_now (held_of own_now rs closed opened_after mid refused_now)
-opened_now region start start_now own own_now rs closed opened room opened_after held mid refused kept refused_now kids
-    p o a b c was r is same all s =
-    let now : opened_after ≡ opened ++ o ∷ [] = c ∙ ap (λ l. l ++ o ∷ []) b in
-    subst (λ (x : List Subproblem × List Split). HeldSoundly region x.0 (held_of own_now rs closed x.1 mid refused_now))
-    (λ i. (sym a i, sym now i)) record {
+-- the piece that was held last is opened, and its kids are kept
+opened_one : (region : Instance) (start : List Subproblem) (own : Owned) (rs : List KnownPass) (closed : List Fathomed)
+    (opened : List Split) (mid kept : List Subproblem) (p : Subproblem) (o : Split)
+    → o.piece ≡ p → IsOpenedIn region o
+    → HeldSoundly region start (held_of own rs closed opened (mid ++ p ∷ []) kept)
+    → HeldSoundly region start (held_of own rs closed (opened ++ o ∷ []) mid (kept ++ reverse (kids_of o)))
+opened_one region start own rs closed opened mid kept p o is fit s = record {
+  adds_up = record {
+    balance = λ h.
+        let a = s.adds_up.balance h in
+        let b = weigh_append h mid (p ∷ []) in
+        let c = opened_snoc h opened o in
+        let d = kids_snoc h opened o in
+        let e = weigh_append h kept (reverse (kids_of o)) in
+        let f = weigh_reverse h (kids_of o) in
+        let k = ap h is in omega arith;
+  };
+  all_closed = s.all_closed;
+  all_opened = All-push (IsOpenedIn region) opened o s.all_opened fit;
+}
+
+-- holdings stay sound where a held piece was opened
+pub opened_now : (region : Instance) (start : List Subproblem) (own : Owned) (rs : List KnownPass)
+    (closed closed_now : List Fathomed) (opened room opened_after : List Split)
+    (held mid kept kept_now : List Subproblem) (p : Subproblem) (o : Split)
+    → closed_now ≡ closed → room ≡ opened → opened_after ≡ room ++ o ∷ [] → held ≡ mid ++ p ∷ []
+    → kept_now ≡ kept ++ reverse (kids_of o) → o.piece ≡ p → IsOpenedIn region o
+    → HeldSoundly region start (held_of own rs closed opened held kept)
+    → HeldSoundly region start (held_of own rs closed_now opened_after mid kept_now)
+opened_now region start own rs closed closed_now opened room opened_after held mid kept kept_now p o a b c was k is fit
+    s =
+    subst (λ (x : List Fathomed × (List Split × List Subproblem)).
+    HeldSoundly region start (held_of own rs x.0 x.1.0 mid x.1.1))
+    (λ i. (sym a i, (sym (c ∙ ap (λ l. l ++ o ∷ []) b) i, sym k i)))
+    (opened_one region start own rs closed opened mid kept p o is fit
+    (subst (λ l. HeldSoundly region start (held_of own rs closed opened l kept)) was s))
+
+-- a kid that was kept is held
+pub holds_kept : (region : Instance) (start : List Subproblem) (own : Owned) (rs : List KnownPass)
+    (closed : List Fathomed) (opened : List Split) (held room held_now kept rest : List Subproblem) (p : Subproblem)
+    → room ≡ held → held_now ≡ room ++ p ∷ [] → kept ≡ rest ++ p ∷ []
+    → HeldSoundly region start (held_of own rs closed opened held kept)
+    → HeldSoundly region start (held_of own rs closed opened held_now rest)
+holds_kept region start own rs closed opened held room held_now kept rest p a b was s = record {
+  adds_up = record {
+    balance = λ h.
+        let k = s.adds_up.balance h in
+        let c = ap (weigh h) was in
+        let d = weigh_append h rest (p ∷ []) in
+        let e = ap (weigh h) (b ∙ ap (λ l. l ++ p ∷ []) a) in
+        let f = weigh_append h held (p ∷ []) in omega arith;
+  };
+  all_closed = s.all_closed;
+  all_opened = s.all_opened;
+}
+
+-- a kid that was kept lies on the worker's own deque
+pub shows_kept : (region : Instance) (start start_now : List Subproblem) (own own_now : Owned) (rs : List KnownPass)
+    (closed : List Fathomed) (opened : List Split) (held kept rest : List Subproblem) (p : Subproblem)
+    → start_now ≡ start → own_now.knows ≡ pushed_too own.knows (p ∷ [])
+    → ((h : Subproblem → ℕ) → weigh h kept ≡ h p + weigh h rest)
+    → HeldSoundly region start (held_of own rs closed opened held kept)
+    → HeldSoundly region start_now (held_of own_now rs closed opened held rest)
+shows_kept region start start_now own own_now rs closed opened held kept rest p a now was s =
+    subst (λ (x : List Subproblem). HeldSoundly region x (held_of own_now rs closed opened held rest)) (sym a) (record {
       adds_up = record {
-        took = λ h.
-            let t = s.adds_up.took h in
-            let m = ap (weigh h) was in
-            let n = weigh_append h mid (p ∷ []) in
-            let d = opened_snoc h opened o in
-            let f = ap h is.of_it in
-            let k = ap (λ l. weigh h (l ++ all_taken rs)) same in omega arith;
-        pushed = λ h.
-            let t = s.adds_up.pushed h in
-            let m = all h in
-            let n = ap (weigh h) is.all in
-            let k = kids_snoc h opened o in
-            let q = ap (weigh h) r in omega arith;
+        balance = λ h.
+            let k = s.adds_up.balance h in
+            let c = was h in
+            let d = ap (λ (d : Dealt). weigh h d.pushed) now in
+            let e = weigh_append h own.knows.pushed (p ∷ []) in
+            let f = ap (λ (d : Dealt). weigh h (d.taken ++ all_taken rs)) now in omega arith;
       };
       all_closed = s.all_closed;
-      all_opened = All-push (IsOpenedIn region) opened o s.all_opened is.fit;
-    }
+      all_opened = s.all_opened;
+    })
+
+-- kids that were kept are kept on, in another order
+pub keeps_on : (region : Instance) (start start_now : List Subproblem) (own own_now : Owned) (rs : List KnownPass)
+    (closed : List Fathomed) (opened : List Split) (held kept kept_now : List Subproblem)
+    → start_now ≡ start → own_now.knows ≡ own.knows → ((h : Subproblem → ℕ) → weigh h kept_now ≡ weigh h kept)
+    → HeldSoundly region start (held_of own rs closed opened held kept)
+    → HeldSoundly region start_now (held_of own_now rs closed opened held kept_now)
+keeps_on region start start_now own own_now rs closed opened held kept kept_now a same was s =
+    subst (λ (x : List Subproblem). HeldSoundly region x (held_of own_now rs closed opened held kept_now)) (sym a)
+    (record {
+      adds_up = record {
+        balance = λ h.
+            let k = s.adds_up.balance h in
+            let c = was h in
+            let d = ap (λ (d : Dealt). weigh h d.pushed) same in
+            let f = ap (λ (d : Dealt). weigh h (d.taken ++ all_taken rs)) same in omega arith;
+      };
+      all_closed = s.all_closed;
+      all_opened = s.all_opened;
+    })

@@ -1,15 +1,15 @@
 -- Parts that were closed are joined results.
-use Rattle.std.proofs.Common.{◌≡◌, ℕ, ◌+◌, ◌≤◌, List, [], ◌∷◌, ◌++◌, length, Some}
+use Rattle.std.proofs.Common.{◌≡◌, ℕ, ◌+◌, ◌≤◌, List, [], ◌∷◌, ◌++◌, Some}
 use Rattle.std.proofs.Common.{refl, ap, ◌∙◌, subst, arith}
 use Rattle.std.proofs.lemmas.List.{map-append}
 use Rattle.beacon.specs.declared.known.Known.{Known}
 use Rattle.beacon.specs.Marks.{AtLeast}
 use Rattle.set_cover.specs.Instance.{Instance}
-use Rattle.proof_tree.specs.Piece.{Subproblem, Fathomed}
-use Rattle.proof_tree.specs.Opened.{Split, kids_of}
+use Rattle.proof_tree.specs.Piece.{Subproblem, Fathomed, root_of}
+use Rattle.proof_tree.specs.Opened.{Split}
 use Rattle.proof_tree.specs.Weights.{weigh}
 use Rattle.schedule_law.specs.Worked.{Worked}
-use Rattle.schedule_law.specs.Joined.{AreJoined, IsRootSplit, all_back, all_closed, all_kids, all_opened, least_size}
+use Rattle.schedule_law.specs.Joined.{AreJoined, all_back, all_closed, all_kids, all_opened, least_size}
 use Rattle.schedule_law.specs.Joined.{pieces_closed, pieces_opened}
 use Rattle.schedule_law.proofs.PieceLemmas.{weigh-append}
 use Rattle.schedule_law.proofs.LongLemmas.{kids-append, pieces-append}
@@ -43,7 +43,7 @@ total_kids h [] = refl
 total_kids h (x ∷ xs) = omega (arith, total_kids h xs, weigh_kids h x.opened (all_opened xs))
 
 -- what became of the pieces of all workers, added up worker by worker
-total_done : (h : Subproblem → ℕ) (xs : List Worked) → total (weigh_done h) xs + total (λ w. weigh h w.refused) xs
+total_done : (h : Subproblem → ℕ) (xs : List Worked) → total (weigh_done h) xs
     ≡ (weigh h (pieces_opened (all_opened xs)) + weigh h (pieces_closed (all_closed xs))) + weigh h (all_back xs)
 total_done h [] = refl
 total_done h (x ∷ xs) = omega (
@@ -51,8 +51,8 @@ total_done h (x ∷ xs) = omega (
   total_done h xs,
   weigh_opened h x.opened (all_opened xs),
   weigh_closed h x.closed (all_closed xs),
-  weigh-append h (x.held ++ x.refused) (all_back xs),
-  weigh-append h x.held x.refused,
+  weigh-append h (x.held ++ x.kept) (all_back xs),
+  weigh-append h x.held x.kept,
 )
 
 -- what lay on the deques at the start is what lay on those of the owners
@@ -62,27 +62,21 @@ total_starts h start [] = refl
 total_starts h start (o ∷ os) = omega (arith, total_starts h start os)
 
 -- where all seats and passes came back, each piece that came to be is accounted for once
-pub joined : (region : Instance) (start : ℕ → List Subproblem) (workers : ℕ) (root : Split) (word : ℕ) (best : List ℕ)
+pub joined : (region : Instance) (start : ℕ → List Subproblem) (workers goal word : ℕ)
     (old new : Known) (owners drained : List Owned) (rows : List (List KnownPass)) (works : List Worked)
     (left : List Subproblem) → AreParted region start workers old new owners rows works → TakeRows owners rows drained
-    → AreDrained drained left → old.told ≡ Some (length best) → new.told ≡ Some word → word ≤ new.seen
-    → numbers_of owners ≡ numbers_from 0 workers → IsRootSplit region root → StartWith start workers (kids_of root)
-    → AreJoined region best root works left
-joined region start workers root word best old new owners drained rows works left p t d began told seen numbers is s =
-    let size : told_size old.told ≡ length best = ap told_size began in
+    → AreDrained drained left → old.told ≡ Some goal → new.told ≡ Some word → word ≤ new.seen
+    → numbers_of owners ≡ numbers_from 0 workers → StartWith start workers (root_of region ∷ [])
+    → AreJoined region goal works left
+joined region start workers goal word old new owners drained rows works left p t d began told seen numbers s =
+    let size : told_size old.told ≡ goal = ap told_size began in
     let low : least_size (told_size old.told) works ≤ word =
     subst (AtLeast (least_size (told_size old.told) works)) told p.kept in
     record {
-      of_root = is;
-      fit = works_less region (least_size (length best) works) new.seen works
+      fit = works_less region (least_size goal works) new.seen works
           (let a = ap (λ n. least_size n works) size in omega arith) p.fit;
-      balance = λ h. (let a = p.took h in let b = p.pushed h in let c = t.pushed h in let e = t.taken h in
+      balance = λ h. (let a = p.balance h in let c = t.pushed h in let e = t.taken h in
           let f = d h in let g = s h in let i = ap (total (λ (w : ℕ). weigh h (start w))) numbers in
           let k = total_starts h start owners in
-          omega (
-            arith,
-            total_kids h works,
-            total_done h works,
-            weigh-append h (kids_of root) (all_kids (all_opened works)),
-          ));
+          omega (arith, total_kids h works, total_done h works));
     }

@@ -116,24 +116,20 @@ module _ (region : Instance) (start : ℕ → List Subproblem) (workers : ℕ) w
             (subst (IsWork region done.knows.seen) (sym are.heaps) are.is_done.fit));
         passes_out = All-push (λ (o : Owned). o.knows.out ≡ workers) owners own p.passes_out are.out;
         each = All-push (IsRow workers) rows row p.each are.each;
-        took = λ h. (let a = p.took h in let b = are.is_done.adds_up.took h in
+        balance = λ h. (let a = p.balance h in let b = are.is_done.adds_up.balance h in
             let c = total-push (weigh_done h) works work in
             let d = total-push (λ (o : Owned). weigh h o.knows.taken) owners own in
             let e = total-push (λ (r : List KnownPass). weigh h (all_taken r)) rows row in
+            let j = total-push (λ (o : Owned). weigh h o.knows.pushed) owners own in
+            let l = total-push (λ (o : Owned). weigh h (start o.worker)) owners own in
+            let n = total-push (λ (w : Worked). weigh h (all_kids w.opened)) works work in
             let f = ap (λ (o : Owned). weigh h o.knows.taken) are.owner in
             let g = ap (λ (r : List KnownPass). weigh h (all_taken r)) are.passes in
             let i = ap (λ (w : Worked). weigh_done h w) are.heaps in
+            let k = ap (λ (o : Owned). weigh h o.knows.pushed) are.owner in
+            let m = ap (λ (o : Owned). weigh h (start o.worker)) are.owner in
+            let o = ap (λ (w : Worked). weigh h (all_kids w.opened)) are.heaps in
             let q = weigh-append h done.holdings.own.taken (all_taken done.holdings.passes) in
-            omega arith);
-        pushed = λ h. (let a = p.pushed h in let b = are.is_done.adds_up.pushed h in
-            let c = total-push (λ (w : Worked). weigh h w.refused) works work in
-            let d = total-push (λ (o : Owned). weigh h o.knows.pushed) owners own in
-            let e = total-push (λ (o : Owned). weigh h (start o.worker)) owners own in
-            let f = total-push (λ (w : Worked). weigh h (all_kids w.opened)) works work in
-            let g = ap (λ (o : Owned). weigh h o.knows.pushed) are.owner in
-            let i = ap (λ (o : Owned). weigh h (start o.worker)) are.owner in
-            let k = ap (λ (w : Worked). weigh h w.refused) are.heaps in
-            let m = ap (λ (w : Worked). weigh h (all_kids w.opened)) are.heaps in
             omega arith);
       }
 

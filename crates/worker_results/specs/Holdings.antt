@@ -22,8 +22,8 @@ pub record HeldParts : Type 0 where
   pub opened : List Split
   -- those that it took and neither closed nor opened
   pub held : List Subproblem
-  -- kids of what it opened that its deque had no room for
-  pub refused : List Subproblem
+  -- kids of what it opened that it keeps to itself, the newest last
+  pub kept : List Subproblem
 
 -- the code by which what workers hold is told apart, made of those of its parts
 abbrev pub held_parts_coded : Coded HeldParts
@@ -31,7 +31,7 @@ held_parts_coded = code_by
     (ℕ × (Dealt × (List KnownPass × (List Fathomed × (List Split × (List Subproblem × List Subproblem))))))
     (coded× coded_ℕ (coded× dealt_coded (coded× (coded_list known_pass_coded) (coded× (coded_list fathomed_coded)
     (coded× (coded_list split_coded) (coded× (coded_list subproblem_coded) (coded_list subproblem_coded)))))))
-    (λ s. (s.worker, (s.own, (s.passes, (s.closed, (s.opened, (s.held, s.refused)))))))
+    (λ s. (s.worker, (s.own, (s.passes, (s.closed, (s.opened, (s.held, s.kept)))))))
     (λ p. record {
       worker = p.0;
       own = p.1.0;
@@ -39,20 +39,20 @@ held_parts_coded = code_by
       closed = p.1.1.1.0;
       opened = p.1.1.1.1.0;
       held = p.1.1.1.1.1.0;
-      refused = p.1.1.1.1.1.1;
+      kept = p.1.1.1.1.1.1;
     })
     (λ _. refl)
 
 -- the parts, with the worker and what its own pass knows as the owner has them
 abbrev pub held_of : Owned → List KnownPass → List Fathomed → List Split → List Subproblem → List Subproblem → HeldParts
-held_of own passes closed opened held refused = record {
+held_of own passes closed opened held kept = record {
   worker = own.worker;
   own = own.knows;
   passes = passes;
   closed = closed;
   opened = opened;
   held = held;
-  refused = refused;
+  kept = kept;
 }
 
 -- what it hands over of it, with this cover
@@ -62,19 +62,17 @@ work_of holdings cover = record {
   closed = holdings.closed;
   opened = holdings.opened;
   held = holdings.held;
-  refused = holdings.refused;
+  kept = holdings.kept;
 }
 
--- each piece taken was closed, opened or is held. The kids of those opened were pushed or refused, and nothing else was
--- pushed but what was there at the start
+-- each piece that was there at the start, that it took or that came of one that it opened was closed or opened, is held
+-- or kept, or was pushed
 pub record AddsUp (start : List Subproblem) (holdings : HeldParts) : Type 0 where
-  pub took : (weight : Subproblem → ℕ)
+  pub balance : (weight : Subproblem → ℕ)
       → weigh weight (pieces_closed holdings.closed) + weigh weight (pieces_opened holdings.opened)
-      + weigh weight holdings.held
-      ≡ weigh weight (holdings.own.taken ++ all_taken holdings.passes)
-  pub pushed : (weight : Subproblem → ℕ)
-      → weigh weight holdings.own.pushed + weigh weight holdings.refused
-      ≡ weigh weight start + weigh weight (all_kids holdings.opened)
+      + weigh weight holdings.held + weigh weight holdings.kept + weigh weight holdings.own.pushed
+      ≡ weigh weight start + weigh weight (holdings.own.taken ++ all_taken holdings.passes)
+      + weigh weight (all_kids holdings.opened)
 
 -- pieces of this region, closed at this floor or more
 abbrev pub AreClosedFrom : Instance → ℕ → List Fathomed → Type 0
@@ -94,4 +92,4 @@ pub record IsFresh (start : List Subproblem) (holdings : HeldParts) : Type 0 whe
   pub none_closed : holdings.closed ≡ []
   pub none_opened : holdings.opened ≡ []
   pub none_held : holdings.held ≡ []
-  pub none_refused : holdings.refused ≡ []
+  pub none_refused : holdings.kept ≡ []

@@ -3,12 +3,11 @@ use Rattle.std.specs.Prelude.{◌≡◌, ℕ, ◌+◌, true, List, [], ◌∷◌
 use Rattle.atomic_table.specs.Seated.{TableId}
 use Rattle.beacon.specs.Marks.{Seated}
 use Rattle.set_cover.specs.Instance.{Instance}
-use Rattle.proof_tree.specs.Piece.{Subproblem}
-use Rattle.proof_tree.specs.Opened.{Split, kids_of}
+use Rattle.proof_tree.specs.Piece.{Subproblem, root_of}
 use Rattle.proof_tree.specs.Weights.{weigh}
 use Rattle.worker_results.specs.Naming.{numbers_from}
 use Rattle.worker_results.specs.Passes.{Owned}
-use Rattle.schedule_law.specs.Joined.{AreJoined, IsRootSplit}
+use Rattle.schedule_law.specs.Joined.{AreJoined}
 use Rattle.schedule_law.specs.Worked.{Worked}
 use Rattle.worker_results.specs.Results.{Handed}
 use Rattle.worker_results.specs.Holdings.{work_of}
@@ -46,7 +45,8 @@ pub record IsFirstSeat (named : TableId) (size others : ℕ) (seat : Seated) : T
   pub told : seat.knows.told ≡ Some size
   pub out : seat.knows.out ≡ others
 
--- where the kids of an opened root lay on the deques at the start, the works and what was left are joined results of it
-abbrev pub JoinUp : Instance → (ℕ → List Subproblem) → ℕ → List ℕ → List Worked → List Subproblem → Type 0
-JoinUp region start workers first works left = (root : Split) → IsRootSplit region root
-    → StartWith start workers (kids_of root) → AreJoined region first root works left
+-- where the root lay on a deque at the start, the works and what was left are joined results, whose floors reach this
+-- size or that of a smaller cover
+abbrev pub JoinUp : Instance → (ℕ → List Subproblem) → ℕ → ℕ → List Worked → List Subproblem → Type 0
+JoinUp region start workers goal works left =
+    StartWith start workers (root_of region ∷ []) → AreJoined region goal works left

@@ -2,7 +2,6 @@
 pub mod Naming
 pub mod Passes
 pub mod Holdings
-pub mod Spendings
 pub mod Results
 pub mod Steps
 pub mod Tries

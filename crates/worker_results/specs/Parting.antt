@@ -21,10 +21,10 @@ AreOut passes owners = All (λ own. own.knows.out ≡ passes) owners
 abbrev pub IsRow : ℕ → List KnownPass → Type 0
 IsRow workers row = deques row ≡ numbers_from 0 workers
 
--- what a worker took, by what became of it
+-- a worker's pieces, by what became of them
 abbrev pub weigh_done : (Subproblem → ℕ) → Worked → ℕ
 weigh_done weight work = weigh weight (pieces_closed work.closed) + weigh weight (pieces_opened work.opened)
-    + weigh weight work.held
+    + weigh weight work.held + weigh weight work.kept
 
 -- the size that was told, if any was
 abbrev pub told_size : Option ℕ → ℕ
@@ -40,11 +40,10 @@ pub record AreParted (region : Instance) (start : ℕ → List Subproblem) (work
   pub fit : All (IsWork region new.seen) works
   pub passes_out : AreOut workers owners
   pub each : All (IsRow workers) rows
-  pub took : (weight : Subproblem → ℕ) → total (weigh_done weight) works
-      ≡ total (λ own. weigh weight own.knows.taken) owners + total (λ row. weigh weight (all_taken row)) rows
-  pub pushed : (weight : Subproblem → ℕ)
-      → total (λ own. weigh weight own.knows.pushed) owners + total (λ work. weigh weight work.refused) works
+  pub balance : (weight : Subproblem → ℕ)
+      → total (weigh_done weight) works + total (λ own. weigh weight own.knows.pushed) owners
       ≡ total (λ own. weigh weight (start own.worker)) owners
+      + (total (λ own. weigh weight own.knows.taken) owners + total (λ row. weigh weight (all_taken row)) rows)
       + total (λ work. weigh weight (all_kids work.opened)) works
 
 -- the owner, the row and the work of each result, in order

@@ -1,6 +1,6 @@
 -- What a worker's desk keeps, and what a worker hands over. This is this project's own.
-use Rattle.std.specs.Prelude.{◌≡◌, ℕ, ◌≤◌, Bool, true, false, List, length, Option, Some, None, IfSome, refl}
-use Rattle.std.specs.Coded.{Coded, code_by, coded×, coded_ℕ, coded_bool, coded_option}
+use Rattle.std.specs.Prelude.{◌≡◌, ℕ, ◌≤◌, false, List, length, Option, Some, None, IfSome, refl}
+use Rattle.std.specs.Coded.{Coded, code_by, coded×, coded_ℕ, coded_option}
 use Rattle.atomic_table.specs.Seated.{TableId}
 use Rattle.set_cover.specs.Instance.{Instance, instance_coded}
 use Rattle.instance_regions.specs.Cover.{Covering, covering_coded}
@@ -9,10 +9,7 @@ use Rattle.beacon.specs.declared.known.Known.{Known}
 use Rattle.beacon.specs.Marks.{Seated, known_coded}
 use Rattle.schedule_law.specs.Worked.{IsWork}
 use Rattle.search_traits.specs.Desks.{DeskState}
-use Rattle.search_traits.specs.Turns.{AreSpent, IsWithin}
 use Rattle.worker_results.specs.Holdings.{HeldParts, held_parts_coded, AddsUp, work_of}
-use Rattle.worker_results.specs.Spendings.{spending_coded}
-use Rattle.worker_results.specs.declared.spending.Spending.{Spending}
 
 -- there is a cover no larger than the size
 abbrev pub HasCoverOf : Option Covering → ℕ → Type 0
@@ -31,11 +28,6 @@ IsSeatAt beacon seat = (seat.beacon ≡ beacon) × (seat.knows.first ≡ false)
 abbrev pub IsNewSeatAt : TableId → Seated → Type 0
 IsNewSeatAt beacon seat = IsSeatAt beacon seat × (seat.knows.told ≡ None)
 
--- it granted no more turns than its limit, and all of them where it refused one
-pub record CountsTurns (limit : Option ℕ) (granted : ℕ) (is_spent : Bool) : Type 0 where
-  pub within : IsWithin limit granted
-  pub all : is_spent ≡ true → AreSpent limit granted
-
 -- a worker's desk
 pub record Desked : Type 0 where
   pub region : Instance
@@ -45,23 +37,14 @@ pub record Desked : Type 0 where
   -- how many turns it grants at most, if they are limited
   pub limit : Option ℕ
   pub granted : ℕ
-  -- whether it refused the last turn that was asked for
-  pub is_spent : Bool
 
 -- the code by which desks are told apart, made of those of their parts
 abbrev pub desked_coded : Coded Desked
-desked_coded = code_by (Instance × (Known × (Option Covering × (Option ℕ × (ℕ × Bool)))))
+desked_coded = code_by (Instance × (Known × (Option Covering × (Option ℕ × ℕ))))
     (coded× instance_coded (coded× known_coded (coded× (coded_option covering_coded)
-    (coded× (coded_option coded_ℕ) (coded× coded_ℕ coded_bool)))))
-    (λ d. (d.region, (d.knows, (d.cover, (d.limit, (d.granted, d.is_spent))))))
-    (λ p. record {
-      region = p.0;
-      knows = p.1.0;
-      cover = p.1.1.0;
-      limit = p.1.1.1.0;
-      granted = p.1.1.1.1.0;
-      is_spent = p.1.1.1.1.1;
-    })
+    (coded× (coded_option coded_ℕ) coded_ℕ))))
+    (λ d. (d.region, (d.knows, (d.cover, (d.limit, d.granted)))))
+    (λ p. record { region = p.0; knows = p.1.0; cover = p.1.1.0; limit = p.1.1.1.0; granted = p.1.1.1.1 })
     (λ _. refl)
 
 -- what it knows as any desk does: it showed what its seat saw last, and accepted what that told
@@ -80,14 +63,13 @@ pub record Handed : Type 0 where
   -- what its seat knows
   pub knows : Known
   pub cover : Option Covering
-  pub turns : Spending
 
 -- the code by which what workers hand over is told apart, made of those of its parts
 abbrev pub handed_coded : Coded Handed
-handed_coded = code_by (HeldParts × (Known × (Option Covering × Spending)))
-    (coded× held_parts_coded (coded× known_coded (coded× (coded_option covering_coded) spending_coded)))
-    (λ h. (h.holdings, (h.knows, (h.cover, h.turns))))
-    (λ p. record { holdings = p.0; knows = p.1.0; cover = p.1.1.0; turns = p.1.1.1 })
+handed_coded = code_by (HeldParts × (Known × Option Covering))
+    (coded× held_parts_coded (coded× known_coded (coded_option covering_coded)))
+    (λ h. (h.holdings, (h.knows, h.cover)))
+    (λ p. record { holdings = p.0; knows = p.1.0; cover = p.1.1 })
     (λ _. refl)
 
 -- its cover is no larger than any size that its seat told, and its floors are at least what the seat saw

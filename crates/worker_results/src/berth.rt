@@ -3,12 +3,10 @@
 ghost use Rattle.std.specs.Prelude.{◌≡◌, None};
 ghost use Rattle.worker_results.specs.Results.{IsNewSeatAt};
 ghost use Rattle.worker_results.specs.Holdings.{IsFresh};
-ghost use Rattle.worker_results.specs.Spendings.{unspent};
 
 use crate::done::Done;
 use crate::holdings::Holdings;
 use crate::naming::Naming;
-use crate::spending::Spending;
 use beacon::Seat;
 use std::marker::Model;
 
@@ -23,7 +21,6 @@ impl<B: Naming> Model for Berth<B> {
     ghost use Rattle.std.specs.Prelude.{None};
     ghost use Rattle.worker_results.specs.Results.{Handed, handed_coded, IsNewSeatAt};
     ghost use Rattle.worker_results.specs.Holdings.{IsFresh};
-    ghost use Rattle.worker_results.specs.Spendings.{unspent};
 
     ghost Value = { Handed };
 
@@ -33,7 +30,6 @@ impl<B: Naming> Model for Berth<B> {
       holdings = b.holdings;
       knows = b.seat.knows;
       cover = None;
-      turns = unspent None;
     } };
 
     ghost invariant = { λ b.
@@ -49,7 +45,6 @@ impl<B: Naming> Berth<B> {
           holdings = holdings;
           knows = seat.knows;
           cover = None;
-          turns = unspent None;
         } }
     {
         Berth { seat, holdings }
@@ -72,19 +67,12 @@ impl<B: Naming> Berth<B> {
         (seat, holdings)
     }
 
-    /// The result of a worker that couldn't be started, with its budget of turns if these are limited.
-    pub fn idle(self, limit: Option<u64>) -> Done<B>
-        ensures same { (result.holdings ≡ self.holdings) × (result.cover ≡ None)
-            × (result.turns ≡ unspent limit) }
+    /// The result of a worker that couldn't be started.
+    pub fn idle(self) -> Done<B>
+        ensures same { (result.holdings ≡ self.holdings) × (result.cover ≡ None) }
         ensures fresh { IsFresh (B.start self.holdings.worker) self.holdings }
     {
         let Berth { seat, holdings } = self;
-        let turns = Spending {
-            limit,
-            granted: 0,
-            is_spent: false,
-            was_started: false,
-        };
-        Done::new(seat, None, holdings, turns)
+        Done::new(seat, None, holdings)
     }
 }

@@ -6,25 +6,22 @@ ghost use Rattle.worker_results.specs.Naming.{numbers_from};
 ghost use Rattle.worker_results.specs.Passes.{deques};
 ghost use Rattle.worker_results.specs.Results.{IsHandedIn, IsSeatAt, KeepsTold};
 ghost use Rattle.worker_results.specs.Holdings.{AreClosedFrom, work_of};
-ghost use Rattle.worker_results.specs.Spendings.{IsSpending};
 
 use crate::holdings::Holdings;
 use crate::naming::Naming;
 use crate::own::Own;
 use crate::pass_row::PassRow;
-use crate::spending::Spending;
 use beacon::Seat;
 use instance_regions::Cover;
 use schedule_law::Work;
 use std::marker::Model;
 
-/// A worker's seat, its passes, its smallest cover, its turns, and what became of the pieces that it took.
+/// A worker's seat, its passes, its smallest cover, and what became of the pieces that it took.
 #[derive(Drop)]
 pub struct Done<B: Naming> {
     seat: Seat,
     cover: Option<Cover>,
     holdings: Holdings<B>,
-    turns: Spending,
 }
 
 impl<B: Naming> Model for Done<B> {
@@ -32,7 +29,6 @@ impl<B: Naming> Model for Done<B> {
     ghost use Rattle.schedule_law.specs.Worked.{IsCoverFor};
     ghost use Rattle.worker_results.specs.Results.{Handed, handed_coded, IsSeatAt, KeepsTold};
     ghost use Rattle.worker_results.specs.Holdings.{AreClosedFrom};
-    ghost use Rattle.worker_results.specs.Spendings.{IsSpending};
 
     ghost Value = { Handed };
 
@@ -42,13 +38,11 @@ impl<B: Naming> Model for Done<B> {
       holdings = d.holdings;
       knows = d.seat.knows;
       cover = d.cover;
-      turns = d.turns;
     } };
 
     ghost invariant = { λ d. IsSeatAt B.beacon d.seat × KeepsTold d.cover d.seat.knows.told
         × IfSome d.cover (IsCoverFor B.region)
-        × AreClosedFrom B.region d.seat.knows.seen d.holdings.closed
-        × IsSpending d.turns };
+        × AreClosedFrom B.region d.seat.knows.seen d.holdings.closed };
 }
 
 /// The parts of a result.
@@ -62,23 +56,20 @@ pub struct Parts<B: Naming> {
 
 impl<B: Naming> Done<B> {
     /// The result of a worker.
-    pub fn new(seat: Seat, cover: Option<Cover>, holdings: Holdings<B>, turns: Spending) -> Done<B>
+    pub fn new(seat: Seat, cover: Option<Cover>, holdings: Holdings<B>) -> Done<B>
         requires seat { IsSeatAt B.beacon seat }
         requires cover { KeepsTold cover seat.knows.told × IfSome cover (IsCoverFor B.region) }
         requires floors { AreClosedFrom B.region seat.knows.seen holdings.closed }
-        requires turns { IsSpending turns }
         ensures { result ≡ record {
           holdings = holdings;
           knows = seat.knows;
           cover = cover;
-          turns = turns;
         } }
     {
         Done {
             seat,
             cover,
             holdings,
-            turns,
         }
     }
 
@@ -89,15 +80,7 @@ impl<B: Naming> Done<B> {
         self.holdings.worker()
     }
 
-    /// The worker's turns.
-    pub fn turns(&self) -> Spending
-        ensures turns { result ≡ self.now.turns }
-        ensures counted { IsSpending result }
-    {
-        self.turns
-    }
-
-    /// All that it hands over but its turns.
+    /// All that it hands over.
     pub fn into_parts(self) -> Parts<B>
         ensures seat { IsSeatAt B.beacon result.seat × (result.seat.knows ≡ self.knows) }
         ensures own { (result.own.worker ≡ self.holdings.worker)
@@ -112,7 +95,6 @@ impl<B: Naming> Done<B> {
             seat,
             cover,
             holdings,
-            ..
         } = self;
         let (own, passes, work) = holdings.into_parts(cover);
         Parts {

@@ -22,7 +22,7 @@ pub struct Holdings<B: Naming> {
     pub(crate) closed: Vec<Closed>,
     pub(crate) opened: Vec<Opened>,
     pub(crate) held: Vec<Piece>,
-    pub(crate) refused: Vec<Piece>,
+    pub(crate) kept: Vec<Piece>,
 }
 
 impl<B: Naming> Model for Holdings<B> {
@@ -34,11 +34,11 @@ impl<B: Naming> Model for Holdings<B> {
     ghost coded = { held_parts_coded };
 
     ghost view = { λ s.
-        held_of s.own s.passes s.closed.items s.opened.items s.held.items s.refused.items };
+        held_of s.own s.passes s.closed.items s.opened.items s.held.items s.kept.items };
 
     ghost invariant = { λ s. (s.own.knows.out ≡ B.workers)
         × HeldSoundly B.region (B.start s.own.worker)
-        (held_of s.own s.passes s.closed.items s.opened.items s.held.items s.refused.items) };
+        (held_of s.own s.passes s.closed.items s.opened.items s.held.items s.kept.items) };
 }
 
 impl<B: Naming> Holdings<B> {
@@ -57,7 +57,7 @@ impl<B: Naming> Holdings<B> {
             closed: Vec::new(alloc),
             opened: Vec::new(alloc),
             held: Vec::new(alloc),
-            refused: Vec::new(alloc),
+            kept: Vec::new(alloc),
         }
     }
 
@@ -90,14 +90,14 @@ impl<B: Naming> Holdings<B> {
             closed,
             opened,
             held,
-            refused,
+            kept,
         } = self;
         let work = Work {
             cover,
             closed,
             opened,
             held,
-            refused,
+            kept,
         };
         (own, passes, work)
     }

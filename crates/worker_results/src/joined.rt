@@ -1,6 +1,6 @@
 //! The results of all workers, joined: `JoinUp` of specs/Joining.antt. That is all that the law of schedules asks of
 //! them.
-ghost use Rattle.std.specs.Prelude.{◌≡◌, length, IfOk};
+ghost use Rattle.std.specs.Prelude.{◌≡◌, IfOk};
 ghost use Rattle.worker_results.specs.Joining.{AreOfAll, IsFirstSeat, JoinUp, works_of};
 
 use crate::deques::{drain_all, take_rows};
@@ -9,7 +9,6 @@ use crate::naming::Naming;
 use crate::parting::{AllParts, part_all};
 use beacon::{Beacon, Seat};
 use cave_model::OutOfMemory;
-use instance_regions::Cover;
 use proof_tree::Piece;
 use schedule_law::Work;
 use std::alloc::Global;
@@ -23,18 +22,18 @@ pub struct Joined {
 }
 
 /// Joins the seats and passes of all results, closes the beacon and empties the deques. No worker runs any more. The
-/// beacon was opened with the cover's size.
+/// beacon was opened with this size.
 pub fn close_up<B: Naming>(
     alloc: Global,
     beacon: Beacon,
     first: Seat,
-    best: &Cover,
+    _goal: u64,
     results: Vec<Done<B>>,
 ) -> Result<Joined, OutOfMemory>
     requires beacon { beacon ≡ B.beacon }
-    requires seat { IsFirstSeat B.beacon (length best.now.places) B.workers first }
+    requires seat { IsFirstSeat B.beacon _goal B.workers first }
     requires all { AreOfAll B.workers results.items }
-    ensures joined { IfOk result (λ joined. JoinUp B.region B.start B.workers best.now.places
+    ensures joined { IfOk result (λ joined. JoinUp B.region B.start B.workers _goal
         joined.works.items joined.left.items) }
     ensures works { IfOk result (λ joined. joined.works.items ≡ works_of results.items) }
 {

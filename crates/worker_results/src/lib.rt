@@ -3,24 +3,21 @@
 #![tactic(auto)]
 
 mod berth;
-mod closing;
 mod deques;
 mod done;
 mod draining;
 mod holdings;
 mod joined;
+mod keeping;
 mod naming;
-mod opening;
 mod own;
 mod parting;
 mod pass_at;
 mod pass_row;
 mod pool_desk;
-mod pushing;
-mod spending;
-mod splitting;
 mod step;
 mod taking;
+mod working;
 
 pub use berth::Berth;
 pub use done::{Done, Parts};
@@ -31,6 +28,4 @@ pub use own::Own;
 pub use pass_at::PassAt;
 pub use pass_row::PassRow;
 pub use pool_desk::PoolDesk;
-pub use spending::Spending;
-pub use splitting::LONGEST_NAME;
 pub use step::{Step, Tried};

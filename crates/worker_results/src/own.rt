@@ -76,6 +76,13 @@ impl<B: Naming> Own<B> {
         piece_deque::push(&mut self.owner, piece)
     }
 
+    /// How many pieces lay there at one moment of the call.
+    pub fn count(&mut self) -> usize
+        ensures { self.new ≡ self.old }
+    {
+        piece_deque::count(&mut self.owner)
+    }
+
     /// Lends a pass at this deque to another worker.
     pub fn lend_pass(&mut self) -> PassAt<B>
         ensures same { self.new.worker ≡ self.old.worker }

@@ -1,14 +1,11 @@
 //! The desk of one of many workers: `Desked` of specs/Results.antt. It plays the role of search_traits' `Desk` over the
-//! beacon that all share.
+//! beacon that all share. Its turns come one by one, from a count that all workers take from.
 ghost use Rattle.std.specs.Arc.{arc_value};
-ghost use Rattle.std.specs.Prelude.{◌≡◌, None, false, true, IfSome};
+ghost use Rattle.std.specs.Prelude.{◌≡◌, None, Some, IfSome, if◌then◌else◌};
 ghost use Rattle.schedule_law.specs.Worked.{IsCoverFor};
-ghost use Rattle.search_traits.specs.Turns.{AreSpent, IsWithin};
 ghost use Rattle.worker_results.specs.Results.{IsNewSeatAt, IsSeatAt, KeepsTold, state_of};
-ghost use Rattle.worker_results.specs.Spendings.{IsSpending};
 
 use crate::naming::Naming;
-use crate::spending::Spending;
 use beacon::{Beacon, Seat};
 use cave_model::OutOfMemory;
 use instance_regions::{Cover, Region};
@@ -24,7 +21,6 @@ pub struct PoolDesk<'a, B: Naming> {
     cover: Option<Cover>,
     limit: Option<u64>,
     granted: u64,
-    is_spent: bool,
     of: PhantomData<B>,
 }
 
@@ -32,7 +28,8 @@ impl<'a, B: Naming> Model for PoolDesk<'a, B> {
     ghost use Rattle.std.specs.Prelude.{◌≡◌, IfSome};
     ghost use Rattle.std.specs.Arc.{arc_value};
     ghost use Rattle.schedule_law.specs.Worked.{IsCoverFor};
-    ghost use Rattle.worker_results.specs.Results.{CountsTurns, Desked, desked_coded, IsSeatAt, KeepsTold};
+    ghost use Rattle.search_traits.specs.Turns.{IsWithin};
+    ghost use Rattle.worker_results.specs.Results.{Desked, desked_coded, IsSeatAt, KeepsTold};
 
     ghost Value = { Desked };
 
@@ -44,21 +41,20 @@ impl<'a, B: Naming> Model for PoolDesk<'a, B> {
       cover = d.cover;
       limit = d.limit;
       granted = d.granted;
-      is_spent = d.is_spent;
     } };
 
     ghost invariant = { λ d. (d.beacon.now ≡ B.beacon) × (arc_value d.region.now ≡ B.region)
         × IsSeatAt B.beacon d.seat × KeepsTold d.cover d.seat.knows.told
-        × IfSome d.cover (IsCoverFor B.region) × CountsTurns d.limit d.granted d.is_spent };
+        × IfSome d.cover (IsCoverFor B.region) × IsWithin d.limit d.granted };
 }
 
 impl<'a, B: Naming> PoolDesk<'a, B> {
-    /// A desk that grants turns up to this limit, or any number of them.
+    /// A desk that grants any number of turns, or, where they are limited, as many as it is allowed.
     pub fn new(
         beacon: &'a Beacon,
         region: &'a Arc<Region>,
         seat: Seat,
-        limit: Option<u64>,
+        is_limited: bool,
     ) -> PoolDesk<'a, B>
         requires places { (beacon.now ≡ B.beacon) × (arc_value region.now ≡ B.region) }
         requires seat { IsNewSeatAt B.beacon seat }
@@ -66,9 +62,8 @@ impl<'a, B: Naming> PoolDesk<'a, B> {
           region = B.region;
           knows = seat.knows;
           cover = None;
-          limit = limit;
+          limit = if is_limited then Some 0 else None;
           granted = 0;
-          is_spent = false;
         } }
     {
         PoolDesk {
@@ -76,66 +71,37 @@ impl<'a, B: Naming> PoolDesk<'a, B> {
             region,
             seat,
             cover: None,
-            limit,
+            limit: if is_limited { Some(0) } else { None },
             granted: 0,
-            is_spent: false,
             of: PhantomData,
         }
     }
 
-    /// How many turns it granted: at most its limit, and at most the greatest value of a `u64`.
-    pub fn granted(&self) -> u64
-        ensures granted { result ≡ self.now.granted }
-        ensures within { IsWithin self.now.limit result }
+    /// Allows one turn more, where they are limited.
+    pub fn allow(&mut self)
+        ensures { self.new ≡ record self.old { limit = self.new.limit } }
     {
-        self.granted
+        if let Some(limit) = self.limit {
+            self.limit = Some(limit.saturating_add(1));
+        }
     }
 
-    /// Whether a turn was asked for last that it didn't grant.
-    pub fn is_spent(&self) -> bool
-        ensures asked { result ≡ self.now.is_spent }
-        ensures spent { result ≡ true → AreSpent self.now.limit self.now.granted }
-    {
-        self.is_spent
-    }
-
-    /// The region.
-    pub fn region(&self) -> &'a Arc<Region>
-        ensures { arc_value result.now ≡ B.region }
-    {
-        self.region
-    }
-
-    /// The seat, the cover that is kept, and the turns of a worker that was started.
-    pub fn into_parts(self) -> (Seat, Option<Cover>, Spending)
+    /// The seat, and the cover that is kept.
+    pub fn into_parts(self) -> (Seat, Option<Cover>)
         ensures seat { IsSeatAt B.beacon result.0 × (result.0.knows ≡ self.entry.knows) }
         ensures cover { (result.1 ≡ self.entry.cover) × IfSome result.1 (IsCoverFor B.region) }
         ensures kept { KeepsTold result.1 result.0.knows.told }
-        ensures turns { result.2 ≡ record {
-          limit = self.entry.limit;
-          granted = self.entry.granted;
-          is_spent = self.entry.is_spent;
-          was_started = true;
-        } }
-        ensures counted { IsSpending result.2 }
     {
         let PoolDesk {
             beacon: _,
             region: _,
             seat,
             cover,
-            limit,
-            granted,
-            is_spent,
+            limit: _,
+            granted: _,
             of: _,
         } = self;
-        let turns = Spending {
-            limit,
-            granted,
-            is_spent,
-            was_started: true,
-        };
-        (seat, cover, turns)
+        (seat, cover)
     }
 }
 
@@ -161,13 +127,9 @@ impl<'a, B: Naming> Desk for PoolDesk<'a, B> {
 
     fn enter(&mut self) -> bool {
         match self.limit {
-            Some(limit) if self.granted >= limit => {
-                self.is_spent = true;
-                false
-            }
+            Some(limit) if self.granted >= limit => false,
             _ => {
                 self.granted = self.granted.saturating_add(1);
-                self.is_spent = false;
                 true
             }
         }

@@ -12,12 +12,13 @@ pub enum Tried {
     OutOfMemory,
 }
 
-/// What became of the piece that was taken last. But for the first case it is held on.
-#[derive(Clone, Copy, Debug, PartialEq, Eq)]
-pub enum Step {
-    /// It was closed or opened.
-    Made,
-    /// It isn't of the region, or not to be opened; or none is held.
+/// What became of the piece that was taken last. But for the first two cases it is held on.
+#[derive(Drop)]
+pub enum Step<M> {
+    Closed,
+    /// With so many kids, and what is remembered of it.
+    Opened { kids: usize, memory: M },
+    /// It isn't of the region, or none is held.
     NotMade,
     TurnsSpent,
     OutOfMemory,

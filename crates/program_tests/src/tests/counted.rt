@@ -2,9 +2,12 @@
 use super::planning::workers;
 use super::ring_caves::{corridor, stone_ring};
 use instance_regions::Region;
-use search_core::BranchAndBound;
+use pack_bound::Node;
+use proof_tree::Proof;
+use search_core::{BranchAndBound, Ground, at_root, first_cover};
 use search_moves::Moves;
-use search_pool::{PoolFault, Report, plan_with};
+use search_pool::{PoolFault, Report, run_round};
+use search_traits::{Proposal, Proposer, SharedSearch, Task};
 use std::alloc::{AllocError, Global};
 use std::process::Abort;
 use std::sync::{Arc, Wait};
@@ -12,7 +15,8 @@ use std::test::Fail;
 use std::thread::Threads;
 use torch_plan::{Observer, Unobserved};
 
-/// How so many workers end that share so many turns, or have all of them.
+/// How a round of so many workers ends, which proves a cover of the region to be the smallest, within these turns below
+/// its root; or nothing where the caller's thread closes the root.
 pub(crate) fn end_of<R: Abort + Threads + Wait + Sync, G: Observer>(
     rt: &R,
     alloc: Global,
@@ -20,19 +24,41 @@ pub(crate) fn end_of<R: Abort + Threads + Wait + Sync, G: Observer>(
     count: u32,
     gate: &G,
     turns: Option<u64>,
-) -> Result<Report, PoolFault> {
-    plan_with::<BranchAndBound<Moves>, R, G>(
-        rt,
+) -> Result<Option<Result<Report, PoolFault>>, Fail> {
+    let on = Ground::of(alloc, region, false);
+    let (strategy, proposal) = at_root::<Moves>(&on)?;
+    let Proposal { cover, .. } = proposal;
+    let first = first_cover(&on, cover)?;
+    let root = Node::root(alloc, region)?;
+    let task = Task {
+        region,
+        node: &root,
+        floor: Some(first.size()),
+        refused: 0,
+        may_pick: false,
+    };
+    let mut strategy = strategy;
+    let Proposal {
+        tree,
+        bars,
+        branch,
+        ..
+    } = strategy.propose(alloc, task)?;
+    if let Proof::Leaf(cells) = tree {
+        if cells.as_slice().len() as u64 >= first.size() {
+            return Ok(None);
+        }
+    }
+    let search = SharedSearch {
         alloc,
         region,
-        workers(rt, count),
-        gate,
-        turns,
-        None,
-    )
+        closer: &BranchAndBound::new(&on, &strategy, bars, branch)?,
+    };
+    let aim = first.size();
+    Ok(Some(run_round(rt, search, workers(rt, count), gate, first, aim, turns)))
 }
 
-/// The report of so many workers, with all the turns.
+/// The report of so many workers, whom the root is left to.
 pub(crate) fn report_of<R: Abort + Threads + Wait + Sync, G: Observer>(
     rt: &R,
     alloc: Global,
@@ -40,9 +66,9 @@ pub(crate) fn report_of<R: Abort + Threads + Wait + Sync, G: Observer>(
     count: u32,
     gate: &G,
 ) -> Result<Report, Fail> {
-    match end_of(rt, alloc, region, count, gate, None) {
-        Ok(report) => Ok(report),
-        Err(_) => Err(AllocError.into()),
+    match end_of(rt, alloc, region, count, gate, None)? {
+        Some(Ok(report)) => Ok(report),
+        _ => Err(AllocError.into()),
     }
 }
 
@@ -58,11 +84,8 @@ pub(crate) fn closed(report: &Report) -> u128 {
 #[test]
 fn one_leaf_starts_no_worker(rt: HostRuntime) -> Result<(), Fail> {
     let alloc = rt.alloc();
-    let report = report_of(&rt, alloc, &corridor(alloc)?, 3, &Unobserved)?;
-    assert_eq!(rt; report.cover.size(), 1);
-    assert_eq!(rt; report.closed_by, vec![in alloc; 0, 0, 0]?);
-    assert_eq!(rt; [report.pushed, report.opened, report.gleaned], [0, 0, 0]);
-    assert_eq!(rt; report.turns, 0);
+    let end = end_of(&rt, alloc, &corridor(alloc)?, 3, &Unobserved, None)?;
+    assert!(rt; end.is_none());
     Ok(())
 }
 

@@ -34,7 +34,6 @@ fn all_pieces_of_the_ring_are_closed_while_one_worker_is_held(rt: HostRuntime) -
         [0, 0, 0]
     );
     assert_eq!(rt; closed(&report), report.pushed.wrapping_sub(report.opened));
-    assert!(rt; report.pushed >= 52);
     Ok(())
 }
 

@@ -5,11 +5,14 @@ use torch_plan::{Name, Observer, Watcher};
 /// How often a worker that is held back looks whether the other one has entered.
 const LOOKS: u32 = 1_000_000_000;
 
-/// Each of two workers waits at its first entry until the other has entered, where it is held at all.
+/// Each of two workers waits at the first piece below the root that it enters until the other has entered one, where it
+/// is held at all.
 #[derive(Drop)]
 pub(crate) struct Meeting {
     held: [bool; 2],
     entered: [AtomicU32; 2],
+    inside: AtomicU32,
+    most: AtomicU32,
     reopened: AtomicBool,
     gave_up: AtomicBool,
 }
@@ -20,6 +23,8 @@ impl Meeting {
         Meeting {
             held,
             entered: [AtomicU32::new(0), AtomicU32::new(0)],
+            inside: AtomicU32::new(0),
+            most: AtomicU32::new(0),
             reopened: AtomicBool::new(false),
             gave_up: AtomicBool::new(false),
         }
@@ -33,6 +38,11 @@ impl Meeting {
     /// Whether both workers entered.
     pub(crate) fn has_both(&self) -> bool {
         self.entered[0].load(Ordering::SeqCst) > 0 && self.entered[1].load(Ordering::SeqCst) > 0
+    }
+
+    /// How many workers were here at once, at most.
+    pub(crate) fn most(&self) -> u32 {
+        self.most.load(Ordering::SeqCst)
     }
 
     /// Whether a kid of one of the root's kids entered.
@@ -70,13 +80,17 @@ impl Observer for Meeting {
         if name.as_slice().len() == 2 {
             self.reopened.store(true, Ordering::SeqCst);
         }
-        if worker > 1 {
+        if worker > 1 || name.as_slice().is_empty() {
             return;
         }
+        let others = self.inside.fetch_add(1, Ordering::SeqCst);
+        self.most
+            .fetch_max(others.wrapping_add(1), Ordering::SeqCst);
         let before = self.entries(worker).fetch_add(1, Ordering::SeqCst);
         if before == 0 && self.is_held(worker) {
             self.wait_for(1 - worker);
         }
+        self.inside.fetch_sub(1, Ordering::SeqCst);
     }
 }
 

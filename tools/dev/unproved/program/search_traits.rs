@@ -26,9 +26,17 @@ pub trait Proposer {
 }
 
 pub trait Strategy: Proposer + Sized {
+    type Memory;
+
     fn at(alloc: Global, region: &Region, node: &Node) -> Result<Self, AllocError>;
 
     fn below(&self, alloc: Global, region: &Region, node: &Node) -> Result<Self, AllocError>;
+
+    fn again(&self, alloc: Global) -> Result<Self, AllocError>;
+
+    fn memory(&self, alloc: Global) -> Result<Self::Memory, AllocError>;
+
+    fn recall(&mut self, alloc: Global, above: &Self::Memory) -> Result<(), AllocError>;
 
     fn is_for_picks(&self) -> bool;
 
@@ -39,6 +47,8 @@ pub trait Strategy: Proposer + Sized {
         node: &Node,
         tree: &Proof,
     ) -> Result<Proof, AllocError>;
+
+    fn in_indices(alloc: Global, region: &Region, tree: &Proof) -> Result<Proof, AllocError>;
 
     fn kept_places(alloc: Global, region: &Region) -> Result<Vec<u32>, AllocError>;
 

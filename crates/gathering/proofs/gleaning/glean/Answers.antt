@@ -1,7 +1,6 @@
 use Rattle.std.proofs.Common.{◌∙◌, ℕ, Bool, List, Option, length, ap, sym, subst, arith}
 use Rattle.event_core.specs.State.{State}
 use Rattle.event_core.specs.Kept.{state_of}
-use Rattle.search_traits.specs.Alone.{state_of as desk_of}
 use Rattle.search_traits.specs.Turns.{TookOne}
 use Rattle.search_traits.proofs.DeskLemmas.{continues_same, continues_then}
 use Rattle.gathering.specs.Gathered.{EachTook}
@@ -18,7 +17,7 @@ loop-name-init g c = (
       c.new-gleaned.ensures.items c.into_iter-name-iterator.ensures.into_iter_gives.0 c.requires.none_held
       c.in_ok-name-items.ensures,
   c.requires.of_it,
-  continues_same (desk_of c.args.desk.now),
+  continues_same c.args.desk.now,
   subst (λ (l : List (List ℕ)). EachTook c.args.desk.now.limit (length l) c.args.desk.now.granted
       c.args.desk.now.granted) (sym c.new-gleaned.ensures.items)
       (took_none c.args.desk.now.limit c.args.desk.now.granted),
@@ -27,6 +26,7 @@ loop-name-init g c = (
 pub glean_one-requires : goal.glean_one-requires
 glean_one-requires g c = record {
   known = omega (arith, c.requires.known, c.loop-name.invariant.0.like.workers);
+  aimed = c.requires.aimed ∙ sym c.loop-name.invariant.0.like.aimed;
   of_it = c.loop-name.invariant.1;
 }
 
@@ -41,7 +41,7 @@ loop-name-preserved g c =
           c.next.new.self.rest.items next
           inv.0 c.in-Some.ensures.steps.0 past.0 past.1,
       onward.region ∙ inv.1 ∙ sym (ap (λ (s : State). s.region) past.1),
-      continues_then (desk_of c.args.desk.now) (desk_of c.loop-name.desk) (desk_of c.glean_one.new.desk) inv.2 onward,
+      continues_then c.args.desk.now c.loop-name.desk c.glean_one.new.desk inv.2 onward,
       took_past c.args.desk.now.limit (length c.loop-name.gleaned.items) c.args.desk.now.granted
           c.loop-name.desk.granted c.glean_one.new.desk.granted inv.3 c.glean_one.ensures.onward.granted,
     )
@@ -56,7 +56,7 @@ loop-name-preserved-in-Continue-branch-3 g c =
           c.loop-name.name-iterator.rest.items c.next.new.self.rest.items next
           inv.0 c.in-Some.ensures.steps.0 one c.in_ok-push.ensures.items,
       onward.region ∙ inv.1 ∙ sym (like_one now w name next one).of_it,
-      continues_then (desk_of c.args.desk.now) (desk_of c.loop-name.desk) (desk_of c.glean_one.new.desk) inv.2 onward,
+      continues_then c.args.desk.now c.loop-name.desk c.glean_one.new.desk inv.2 onward,
       subst (λ (l : List (List ℕ)). EachTook c.args.desk.now.limit (length l) c.args.desk.now.granted
           c.glean_one.new.desk.granted) (sym c.in_ok-push.ensures.items)
           (took_next c.args.desk.now.limit c.loop-name.gleaned.items name c.args.desk.now.granted

@@ -1,6 +1,5 @@
 use Rattle.std.proofs.Common.{◌≡◌, length}
 use Rattle.event_core.specs.Kept.{state_of}
-use Rattle.search_traits.specs.Alone.{state_of as desk_of}
 use Rattle.search_traits.specs.Desks.{Continues}
 use Rattle.gathering.specs.Gathered.{EachTook}
 use Rattle.gathering.proofs.GleanLemmas.{IsGleaning}
@@ -9,5 +8,5 @@ use Rattle.gathering.proofs.gleaning.glean.Given as goal
 abbrev pub invariant-loop-name : goal.invariant-loop-name
 invariant-loop-name g l =
     IsGleaning (state_of l.fn.core) l.caller l.gleaned.items (state_of l.core) l.name-iterator.rest.items
-    × (l.desk.cover.region ≡ l.core.region) × Continues (desk_of l.fn.desk) (desk_of l.desk)
+    × (l.desk.region ≡ l.core.region) × Continues l.fn.desk l.desk
     × EachTook l.fn.desk.limit (length l.gleaned.items) l.fn.desk.granted l.desk.granted

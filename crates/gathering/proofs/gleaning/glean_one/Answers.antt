@@ -26,16 +26,23 @@ finish-requires g c =
     (steps_are_events k0 (Take w name) k1 done
     (subst (λ (n : List ℕ). StepsTo k0 (Take w n) k1 done) c.in_ok-try_clone.ensures c.in_ok-step.ensures.done)) in
     let like = like_step s0 (Take w name) true s1 takes in let of_it = c.in-Ok.ensures.closed.of_it in
-    let cover = c.in_ok-cover-in-Ok.ensures ∙ c.cover.ensures.cover in
+    let cover = c.in_ok-cover-in-Ok.ensures in
     let size = ap (λ (x : Covering). length x.places) cover in
     record {
       known = omega (arith, c.requires.known, like.workers);
       holds = subst (λ (p : Subproblem). HasPart s1 p.name p.chosen p.barred (held w)) (sym of_it)
           (taken_piece s0 w name s1 piece waits takes);
       piece_of_it = ap (λ (p : Subproblem). p.region) of_it ∙ waits.0 ∙ sym like.of_it;
-      cover_of_it = ap (λ (x : Covering). x.region) cover ∙ c.in-Ok.ensures.onward.region ∙ c.requires.of_it
-          ∙ sym like.of_it;
-      reaches = omega (arith, size, c.cover.ensures.kept.not_above, c.in-Ok.ensures.closed.reached);
+      cover_of_it = ap (λ (x : Covering). x.region) cover ∙ c.cover.ensures.of_it
+          ∙ c.in-Ok.ensures.onward.region ∙ c.requires.of_it ∙ sym like.of_it;
+      reaches = omega (
+        arith,
+        size,
+        c.requires.aimed,
+        like.aimed,
+        c.cover.ensures.kept,
+        c.in-Ok.ensures.closed.reached,
+      );
     }
 
 pub returns-in-Ok-clause-gleans : goal.returns-in-Ok-clause-gleans

@@ -1,9 +1,6 @@
-use Rattle.std.proofs.Common.{◌≡◌, ◌∙◌, ℕ, Bool, List, length, ap, subst, sym, arith}
-use Rattle.search_pool.specs.Rows.{AreSpendings, all_granted, counted, is_spent}
-use Rattle.search_pool.specs.Turns.{AreGranted}
+use Rattle.std.proofs.Common.{◌≡◌, ◌∙◌, List, length, ap, sym, arith}
 use Rattle.search_pool.proofs.SlotLemmas.{in_a_row, length-map, owned_long}
 use Rattle.search_pool.proofs.CrewLemmas.{few_workers}
-use Rattle.search_pool.proofs.TurnLemmas.{granted_of}
 use Rattle.worker_results.specs.Naming.{numbers_from}
 use Rattle.worker_results.specs.Results.{Handed}
 use Rattle.worker_results.specs.Holdings.{work_of}
@@ -22,36 +19,30 @@ run_scope-requires-clause-count g c κs within =
 pub close_up-requires-clause-all : goal.close_up-requires-clause-all
 close_up-requires-clause-all g c =
     let results = c.in_ok-results.results.items in
-    let are = c.in_ok-results.ensures.0 in
+    let are = c.in_ok-results.ensures in
     let owned = c.in_ok-passes.passes.owned.items in
     let long = owned_long owned g.B.Naming.workers c.in_ok-passes.ensures.numbers in
     let each = c.in_ok-slots.ensures.each in
     let slice = c.as_slice.ensures.len in
-    let count : length results ≡ g.B.Naming.workers = (let l = c.in_ok-results.ensures.1 in
-    omega (arith, l, long, each, slice)) in
-    in_a_row 0 are.own are.each results are.row ∙ ap (numbers_from 0) count
+    let count : length results ≡ g.B.Naming.workers = (let l = are.1 in omega (arith, l, long, each, slice)) in
+    in_a_row 0 results are.0 ∙ ap (numbers_from 0) count
 
 pub returns : goal.returns
 returns g c =
     let joined = c.in_ok-joined.ensures in
     let results = c.in_ok-results.results.items in
     let workers = c.args.run.workers.number in
-    let turns = c.args.run.turns in
-    let now = c.deref-2.ensures.value in
-    let each = subst AreSpendings now c.spent_by-turns.ensures.each in
-    let sum = c.spent_by-turns.ensures.granted ∙ ap (λ (l : List Handed). counted (all_granted l)) now in
-    let asked = c.spent_by-turns.ensures.spent ∙ ap is_spent now in
     let long = owned_long c.in_ok-passes.passes.owned.items g.B.Naming.workers c.in_ok-passes.ensures.numbers in
     let count : length results ≡ workers = (let l = c.in_ok-results.ensures.1 in
     let each = c.in_ok-slots.ensures.each in let same = c.requires.few.0 in
     let slice = c.as_slice.ensures.len in omega (arith, l, long, each, same, slice)) in
     record {
       run = record {
-        joined = joined.joined c.args.run.root.now c.requires.root.1 c.requires.dealt.stocked;
+        joined = joined.joined c.requires.dealt.stocked;
         each = (let w = ap length joined.works in
             let m = length-map (λ (done : Handed). work_of done.holdings done.cover) results in
             omega (arith, w, m, count));
       };
-      granted = subst (λ (n : ℕ × Bool). AreGranted workers turns n.0 n.1) (λ i. (sym sum i, sym asked i))
-          (granted_of workers turns results c.in_ok-results.ensures.0 each count);
+      within = c.within-turns.ensures.within;
+      fits = c.within-turns.ensures.fits;
     }

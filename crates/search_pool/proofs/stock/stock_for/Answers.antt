@@ -1,4 +1,4 @@
-use Rattle.std.proofs.Common.{List, subst}
+use Rattle.std.proofs.Common.{[], ◌∷◌, ◌++◌, ◌∙◌, List, ap, subst}
 use Rattle.proof_tree.specs.Piece.{Subproblem}
 use Rattle.worker_results.specs.Joining.{StartWith}
 use Rattle.search_pool.specs.Deques.{AreThievesOf, pushed_at}
@@ -10,13 +10,15 @@ pub returns-clause-dealt : goal.returns-clause-dealt
 returns-clause-dealt c =
     let owners = c.in_ok-owners.owners.items in
     let thieves = c.in_ok-thieves.thieves.items in
-    let pieces = c.in_ok-kids.kids.items in
+    let pieces = c.push.new.self.items in
     record {
       ends = owners_named pieces owners c.in_ok-owners.ensures.stocked;
       at_ends = thieves_named pieces owners thieves c.in_ok-owners.ensures.stocked
           (subst (λ (l : List Owner). AreThievesOf l thieves) c.deref.ensures.value c.in_ok-thieves.ensures);
       stocked = subst (λ (l : List Subproblem). StartWith (pushed_at owners) c.args.workers.number l)
-          c.in_ok-kids.ensures
+          (c.in_ok-push.ensures.items
+          ∙ ap (λ (l : List Subproblem). l ++ c.in_ok-root.root ∷ []) c.new-pieces.ensures.items
+          ∙ ap (λ (p : Subproblem). p ∷ []) c.in_ok-root.ensures)
           (subst (λ n. StartWith (pushed_at owners) n pieces) c.in_ok-owners.ensures.each
           (start_with pieces owners c.in_ok-owners.ensures.stocked));
     }

@@ -25,14 +25,14 @@ close-requires g c =
     (p.seat ∙ sym r.beacon, p.apart.first, omega arith)
 
 pub returns-clause-joined : goal.returns-clause-joined
-returns-clause-joined g c = λ root is_root start.
+returns-clause-joined g c = λ start.
     let f = c.in_ok-first.field-0 in
     let w = c.close.ensures in
     let r = c.requires in
-    joined g.B.Naming.region g.B.Naming.start g.B.Naming.workers root c.close.result c.args.best.now.places
+    joined g.B.Naming.region g.B.Naming.start g.B.Naming.workers c.args._goal c.close.result
     c.args.first.knows f.first.knows f.owners.items c.take_rows.new.owners.items f.rows.items f.works.items
     c.in_ok-left.left.items c.in_ok-first.ensures.apart c.take_rows.ensures.sums c.in_ok-left.ensures
-    r.seat.told w.told w.seen (c.in_ok-first.ensures.each.numbers ∙ r.all) is_root start
+    r.seat.told w.told w.seen (c.in_ok-first.ensures.each.numbers ∙ r.all) start
 
 pub returns-clause-works : goal.returns-clause-works
 returns-clause-works g c = c.in_ok-first.ensures.each.heaps

@@ -14,6 +14,7 @@ invariant_of-self c =
     let v : Kept = record {
       region = arc_value inside.region;
       best = inside.best.places;
+      aim = inside.aim;
       seen = inside.seen.items;
       root = shape_of inside.root;
     } in

@@ -12,7 +12,7 @@ invariant_of-self-in-Got g c =
       ap (λ (d : Dealt). d.out) now ∙ c.self.invariant.0,
       took_now g.B.Naming.region (g.B.Naming.start i.own.worker) (g.B.Naming.start own.worker) i.own own i.passes
           i.passes i.closed.items i.opened.items i.held.items c.reserve.new.self.items
-          c.push_reserved.new.self.items i.refused.items p
+          c.push_reserved.new.self.items i.kept.items p
           (ap g.B.Naming.start c.in-Got.ensures.same) c.reserve.ensures.items c.push_reserved.ensures.items
           (own_took i.own own i.passes p now) c.self.invariant.1,
     )

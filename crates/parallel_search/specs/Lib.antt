@@ -1,2 +1,0 @@
--- private
-pub mod Sharing
