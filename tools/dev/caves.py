@@ -148,6 +148,36 @@ def ledge(seed, size):
     return open_from(heights, size, 3)
 
 
+def noise(rng, size, step):
+    """A number for each cell of the box: smooth noise, from numbers drawn every so many cells of each side."""
+    def along(side, every):
+        shares = [side_at % every / every for side_at in range(side)]
+        return [(at // every, share * share * (3 - 2 * share)) for at, share in enumerate(shares)]
+
+    def between(low, high, share):
+        return low + (high - low) * share
+
+    counts = [side // every + 2 for side, every in zip(size, step)]
+    drawn = [[[rng.random() for _ in range(counts[2])] for _ in range(counts[1])] for _ in range(counts[0])]
+    found = {}
+    for x, (i, a) in enumerate(along(size[0], step[0])):
+        for y, (j, b) in enumerate(along(size[1], step[1])):
+            for z, (k, c) in enumerate(along(size[2], step[2])):
+                rows = [[between(drawn[i + p][j + q][k], drawn[i + p][j + q][k + 1], c) for q in (0, 1)] for p in (0, 1)]
+                found[x, y, z] = between(between(*rows[0], b), between(*rows[1], b), a)
+    return found
+
+
+def crags(seed, size):
+    """Ledges in rock, by noise in three dimensions: a quarter of the box is open."""
+    rng = random.Random(seed)
+    coarse, fine = noise(rng, size, (12, 8, 12)), noise(rng, size, (5, 3, 5))
+    inner = [at for at in coarse if all(0 < side_at < side - 1 for side_at, side in zip(at, size))]
+    height = {at: coarse[at] + 0.35 * fine[at] for at in inner}
+    cut = sorted(height.values())[int(len(height) - 0.28 * size[0] * size[1] * size[2])]
+    return {at: AIR for at in inner if height[at] > cut}
+
+
 def pillars(seed, size):
     """A hall with a pillar here and there."""
     rng = random.Random(seed)
