@@ -6,6 +6,7 @@ mod branching;
 mod covers;
 mod leaves;
 mod moves;
+mod progress;
 mod strategy;
 
 pub use moves::Moves;

@@ -6,8 +6,9 @@ ghost use Rattle.search_traits.specs.Planning.{IsRegionPlan};
 
 use crate::resources::Resources;
 use instance_regions::{Cover, Region};
+use node_search::BranchAndBound;
 use plan_options::Workers;
-use search_core::{BranchAndBound, ByMany, plan_by};
+use search_core::{ByMany, plan_by};
 use search_pool::{PoolFault, run_round};
 use search_traits::{BestPlan, Observer, RegionFault, RegionPlan, SharedSearch, Strategy};
 use std::sync::{Arc, Wait};

@@ -1,10 +1,11 @@
 //! Reports of many workers, and their numbers.
 use super::planning::workers;
-use super::ring_caves::{corridor, stone_ring};
+use super::ring_caves::{corridor, hall, stone_ring};
 use instance_regions::Region;
+use node_search::{BranchAndBound, Ground};
 use pack_bound::Node;
 use proof_tree::Proof;
-use search_core::{BranchAndBound, Ground, at_root, first_cover};
+use search_core::{at_root, first_cover};
 use search_moves::Moves;
 use search_pool::{PoolFault, Report, run_round};
 use search_traits::{Proposal, Proposer, SharedSearch, Task};
@@ -111,5 +112,16 @@ fn eight_workers_find_two_torches_200_times(rt: HostRuntime) -> Result<(), Fail>
         let report = report_of(&rt, alloc, &region, 8, &Unobserved)?;
         assert_eq!(rt; report.cover.size(), 2);
     }
+    Ok(())
+}
+
+#[test]
+fn each_piece_of_a_hall_is_closed_once(rt: HostRuntime) -> Result<(), Fail> {
+    let alloc = rt.alloc();
+    let report = report_of(&rt, alloc, &hall(alloc)?, 4, &Unobserved)?;
+    assert_eq!(rt; report.cover.size(), 10);
+    assert!(rt; report.opened > 0);
+    let all = closed(&report).wrapping_add(report.gleaned);
+    assert_eq!(rt; all, report.pushed.wrapping_sub(report.opened));
     Ok(())
 }

@@ -1,7 +1,7 @@
-//! Regions of the worked rings, and of a corridor.
+//! Regions of the worked rings, of a corridor, and of a hall.
 use super::worlds::world_by;
-use cave_files::Structure;
-use cave_files::caves::{CORRIDOR_27, FELT_TABLE, RING, TWO_FELT_RINGS};
+use cave_files::caves::{AIR, CORRIDOR_27, FELT_TABLE, RING, STONE, TWO_FELT_RINGS};
+use cave_files::{Fill, Structure};
 use cave_model::Rule;
 use cave_problem::Problem;
 use cave_regions::{split, whole};
@@ -26,6 +26,22 @@ fn region(alloc: Global, structure: &Structure<'_>) -> Result<Arc<Region>, Fail>
 /// One torch lights it all.
 pub(crate) fn corridor(alloc: Global) -> Result<Arc<Region>, Fail> {
     region(alloc, &CORRIDOR_27)
+}
+
+/// A hall of 46 by 46 cells, three high: ten places are fewest.
+pub(crate) fn hall(alloc: Global) -> Result<Arc<Region>, Fail> {
+    region(
+        alloc,
+        &Structure {
+            size: [48, 5, 48],
+            palette: &[STONE, AIR],
+            fills: &[
+                Fill([0, 0, 0], [47, 4, 47], Some(0)),
+                Fill([1, 1, 1], [46, 3, 46], Some(1)),
+            ],
+            more: &[],
+        },
+    )
 }
 
 /// Torches may hang all about it: each cell is lit by 52 places, and two places are fewest.

@@ -1,0 +1,3 @@
+pub mod AtNodeLemmas
+pub mod PieceLemmas
+pub mod StepRules

@@ -1,0 +1,4 @@
+-- public clauses cite
+pub mod AtNode
+-- private
+pub mod Stepped
