@@ -4,7 +4,6 @@ ghost use Rattle.event_core.specs.Events.{MayClose};
 ghost use Rattle.event_core.specs.Kept.{IsKept, StepsTo, state_of};
 ghost use Rattle.event_core.specs.Moving.{IsHeldAs};
 ghost use Rattle.event_core.specs.declared.event.Event.TheVariants.{Close};
-ghost use Rattle.event_core.specs.declared.tracing.Standing.TheVariants.{Held};
 
 use crate::event_state::Core;
 use crate::node::PieceNode;
@@ -58,21 +57,14 @@ impl Core {
 fn is_held(traced: &Traced, worker: u32, piece: &Piece) -> bool
     ensures { IsTrue result ↔ IsHeldAs traced.now worker piece.now }
 {
-    if !is_held_by(traced.standing, worker) {
+    let Standing::Held(by) = traced.standing else {
+        return false;
+    };
+    if by != worker {
         return false;
     }
     if traced.chosen.as_slice() != piece.chosen() {
         return false;
     }
     traced.barred.as_slice() == piece.barred()
-}
-
-fn is_held_by(standing: Standing, worker: u32) -> bool
-    ensures { IsTrue result ↔ (standing ≡ Held worker) }
-{
-    match standing {
-        Standing::Waiting => false,
-        Standing::Held(by) => by == worker,
-        Standing::Past => false,
-    }
 }

@@ -1,5 +1,5 @@
 //! The pieces that wait or are held.
-ghost use Rattle.std.specs.Prelude.{◌≡◌, ◌↔◌, ◌++◌, IfOk, IsTrue};
+ghost use Rattle.std.specs.Prelude.{◌≡◌, ◌++◌, IfOk};
 ghost use Rattle.event_core.specs.Kept.{IsKept, state_of};
 ghost use Rattle.event_core.specs.Moving.{IsLeftPiece};
 ghost use Rattle.event_core.specs.NodeShape.{shape_of, shapes_of};
@@ -7,7 +7,6 @@ ghost use Rattle.event_core.specs.State.{piece_of};
 ghost use Rattle.event_core.specs.Waiting.{AreAllWaiting, IsWaitingPiece};
 ghost use Rattle.event_core.specs.WaitingNames.{waiting_in, waiting_below};
 ghost use Rattle.proof_tree.specs.Piece.{IsPiece};
-ghost use Rattle.event_core.specs.declared.tracing.Standing.TheVariants.{Past, Waiting};
 
 use crate::event_state::Core;
 use crate::node::PieceNode;
@@ -34,9 +33,9 @@ impl Core {
         let Some(traced) = self.traced(name.as_slice())? else {
             return Ok(None);
         };
-        if !is_waiting(traced.standing) {
+        let Standing::Waiting = traced.standing else {
             return Ok(None);
-        }
+        };
         Ok(Some(self.named(name, traced)?))
     }
 
@@ -48,7 +47,7 @@ impl Core {
         let Some(traced) = self.traced(name.as_slice())? else {
             return Ok(None);
         };
-        if is_past(traced.standing) {
+        if let Standing::Past = traced.standing {
             return Ok(None);
         }
         Ok(Some(self.named(name, traced)?))
@@ -64,26 +63,6 @@ impl Core {
         let name = name.try_clone()?;
         let Traced { chosen, barred, .. } = traced;
         Ok(Piece::new(region, name, chosen, barred))
-    }
-}
-
-fn is_waiting(standing: Standing) -> bool
-    ensures { IsTrue result ↔ (standing ≡ Waiting) }
-{
-    match standing {
-        Standing::Waiting => true,
-        Standing::Held(_) => false,
-        Standing::Past => false,
-    }
-}
-
-fn is_past(standing: Standing) -> bool
-    ensures { IsTrue result ↔ (standing ≡ Past) }
-{
-    match standing {
-        Standing::Waiting => false,
-        Standing::Held(_) => false,
-        Standing::Past => true,
     }
 }
 

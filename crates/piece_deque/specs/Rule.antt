@@ -1,6 +1,6 @@
 -- What always holds of the pieces in a deque and those that passes pushed and took. This is this project's own.
 -- Pieces are compared by weights: two lists that weigh the same, however pieces are weighed, hold the same pieces.
-use Rattle.std.specs.Prelude.{◌≡◌, ℕ, ◌+◌, Bool, true, false, List, [], ◌∷◌}
+use Rattle.std.specs.Prelude.{◌≡◌, ℕ, ◌+◌, Bool, true, false, List, [], ◌∷◌, length}
 use mathlib.Core.Option.{some}
 use lib.ListN.{get_elem?}
 use Rattle.proof_tree.specs.Piece.{Subproblem}
@@ -43,12 +43,22 @@ pub record Balances (items : List Subproblem) (passes : List Dealt) : Type 0 whe
       ≡ passes_total (λ pass. weigh weight pass.taken) passes + weigh weight items
   pub fit : AllFit chief (unspent passes) passes
 
--- at one moment the deque was empty, and the pass as it is
-pub record WasEmpty (pass : Dealt) : Type 0 where
+-- at one moment these pieces lay in the deque, and the pass was as it is
+pub record HeldPieces (pass : Dealt) (items : List Subproblem) : Type 0 where
   pub passes : List Dealt
   pub number : ℕ
-  pub rule : Balances [] passes
+  pub rule : Balances items passes
   pub there : get_elem? passes number ≡ some pass
+
+-- at one moment the deque was empty, and the pass as it is
+abbrev pub WasEmpty : Dealt → Type 0
+WasEmpty pass = HeldPieces pass []
+
+-- at one moment so many pieces lay in the deque, and the pass was as it is
+pub record HeldCount (pass : Dealt) (count : ℕ) : Type 0 where
+  pub items : List Subproblem
+  pub held : HeldPieces pass items
+  pub counted : length items ≡ count
 
 -- each piece that was pushed was taken by this pass or one that it took back
 abbrev pub AllTaken : Dealt → Type 0

@@ -6,7 +6,7 @@ ghost use Rattle.crossbeam_deque.specs.Handles.{view, taken, IsPassOf, SamePass,
 ghost use Rattle.crossbeam_deque.specs.Handles.{worker_flavor, worker_view, worker_index, worker_capacity};
 ghost use Rattle.piece_deque.specs.Deals.{pushed_too};
 ghost use Rattle.piece_deque.specs.Owners.{IsNew};
-ghost use Rattle.piece_deque.specs.Rule.{WasEmpty, Answers};
+ghost use Rattle.piece_deque.specs.Rule.{Answers, HeldCount, WasEmpty};
 ghost use Rattle.piece_deque.specs.declared.answer.Take.TheVariants.{Again};
 
 use crate::answer::Take;
@@ -50,6 +50,7 @@ pub fn push(owner: &mut Owner, piece: Piece) -> Result<(), Piece>
 pub fn count(owner: &mut Owner) -> usize
     ensures same { SameWorker owner.old owner.new }
     ensures pass { worker_view owner.new ≡ worker_view owner.old }
+    ensures count { HeldCount (worker_view owner.old) result }
 {
     owner.len_as::<Counts>()
 }

@@ -60,9 +60,11 @@ impl Join<Dealt> for Lends {
     ghost spent = { nobody };
 }
 
-/// A look at how many pieces there are, which tells nothing else.
+/// A look at how many pieces there are.
 pub(crate) struct Counts;
 
 impl Lesson<Piece, Dealt> for Counts {
-    ghost fact = { λ _ _. Unit {0} };
+    ghost use Rattle.piece_deque.specs.Rule.{HeldPieces};
+
+    ghost fact = { HeldPieces };
 }

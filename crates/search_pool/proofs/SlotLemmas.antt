@@ -5,13 +5,13 @@ use Rattle.std.specs.Prelude.{map}
 use Rattle.std.proofs.lemmas.List.Elements.{All-head, All-tail, All-cons, All-push}
 use Rattle.worker_results.specs.Naming.{numbers_from}
 use Rattle.worker_results.specs.Results.{Handed}
-use Rattle.worker_results.specs.Joining.{workers_of}
+use Rattle.worker_results.specs.Joining.{numbers_of, workers_of}
 use Rattle.search_pool.specs.Rows.{AreFrom}
 use Rattle.search_pool.specs.Deques.{AreStocked, HasPushed}
 use Rattle.proof_tree.specs.Piece.{Subproblem}
 use Rattle.piece_deque.specs.Deals.{one_more_out}
 use Rattle.worker_results.specs.Passes.{Owned, deques, all_taken}
-use Rattle.search_pool.specs.Slots.{IsReady, Owner, lent, numbers_of, lent_pass}
+use Rattle.search_pool.specs.Slots.{IsReady, Owner, lent, lent_pass}
 
 -- the workers stay who they are
 pub numbers_out : (owned : List Owned) → numbers_of (map lent owned) ≡ numbers_of owned

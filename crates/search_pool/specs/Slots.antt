@@ -1,5 +1,5 @@
 -- What the workers' slots are filled with. This is this project's own.
-use Rattle.std.specs.Prelude.{◌≡◌, ℕ, ◌+◌, true, false, List, [], ◌∷◌, map}
+use Rattle.std.specs.Prelude.{◌≡◌, ℕ, ◌+◌, true, false, List, [], ◌∷◌}
 use Rattle.std.specs.declared.alloc.Global.{Global}
 use Rattle.crossbeam_deque.specs.Handles.{worker_deque, worker_flavor, worker_view}
 use Rattle.crossbeam_deque.specs.declared.handles.Worker.{Worker}
@@ -32,10 +32,6 @@ pub record AreDealt (deque : ℕ → DequeId) (start : ℕ → List Subproblem) 
   pub ends : AreOwners deque start 0 owners
   pub at_ends : AreThieves deque 0 thieves
   pub stocked : StartWith start workers pieces
-
--- the workers' numbers
-abbrev pub numbers_of : List Owned → List ℕ
-numbers_of owned = map (λ own. own.worker) owned
 
 -- this count of passes at its deque is out, and else all is as at the start
 abbrev pub IsReady : (ℕ → List Subproblem) → ℕ → Owned → Type 0

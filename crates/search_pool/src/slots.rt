@@ -3,7 +3,8 @@
 ghost use Rattle.std.specs.Prelude.{◌≡◌, ◌+◌, ◌≤◌, [], true, All, IfOk, length, map};
 ghost use Rattle.plan_options.specs.Crew.{most_workers};
 ghost use Rattle.search_pool.specs.Seats.{SplitsOff};
-ghost use Rattle.search_pool.specs.Slots.{AreOwners, IsReady, lent, lent_pass, numbers_of};
+ghost use Rattle.search_pool.specs.Slots.{AreOwners, IsReady, lent, lent_pass};
+ghost use Rattle.worker_results.specs.Joining.{numbers_of};
 ghost use Rattle.worker_results.specs.Naming.{numbers_from};
 ghost use Rattle.worker_results.specs.Passes.{all_taken};
 ghost use Rattle.worker_results.specs.Results.{IsNewSeatAt};

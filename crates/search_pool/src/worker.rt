@@ -60,40 +60,32 @@ impl<'e, M> Clone for Common<'e, M> {
 
 impl<'e, M> Copy for Common<'e, M> {}
 
-/// What a look for a piece gave.
-#[derive(Clone, Copy)]
-enum Found {
-    Piece,
-    Nothing,
-    /// Other threads were first each time, so there may be one.
-    Busy,
-}
-
-/// Takes the newest kid that the worker keeps, else a piece of its own deque, else one of the others in order.
-fn next<B: Naming>(holdings: &mut Holdings<B>, thieves: &[Thief]) -> Found
+/// Takes the newest kid that the worker keeps, else a piece of its own deque, else one of the others in order. `Again`
+/// is answered where other threads were first each time, so there may be one.
+fn next<B: Naming>(holdings: &mut Holdings<B>, thieves: &[Thief]) -> Tried
     requires { AreThieves B.deque 0 thieves.now }
     ensures worker { holdings.new.worker ≡ holdings.old.worker }
     ensures closed { holdings.new.closed ≡ holdings.old.closed }
 {
     if holdings.take_kept() {
-        return Found::Piece;
+        return Tried::Got;
     }
     if let Tried::Got = holdings.take() {
-        return Found::Piece;
+        return Tried::Got;
     }
-    let mut found = Found::Nothing;
+    let mut found = Tried::Empty;
     for deque in 0..thieves.len() {
         match steal_from(holdings, thieves, deque) {
-            Found::Piece => return Found::Piece,
-            Found::Busy => found = Found::Busy,
-            Found::Nothing => {}
+            Tried::Got => return Tried::Got,
+            Tried::Again => found = Tried::Again,
+            Tried::Empty | Tried::OutOfMemory => {}
         }
     }
     found
 }
 
 /// Steals a piece, and tries again where other threads are first.
-fn steal_from<B: Naming>(holdings: &mut Holdings<B>, thieves: &[Thief], deque: usize) -> Found
+fn steal_from<B: Naming>(holdings: &mut Holdings<B>, thieves: &[Thief], deque: usize) -> Tried
     requires thieves { AreThieves B.deque 0 thieves.now }
     requires number { deque < length thieves.now }
     ensures worker { holdings.new.worker ≡ holdings.old.worker }
@@ -101,13 +93,11 @@ fn steal_from<B: Naming>(holdings: &mut Holdings<B>, thieves: &[Thief], deque: u
 {
     for _ in 0..TRIES {
         match holdings.steal(thieves, deque) {
-            Tried::Got => return Found::Piece,
             Tried::Again => {}
-            Tried::Empty => return Found::Nothing,
-            Tried::OutOfMemory => return Found::Nothing,
+            tried => return tried,
         }
     }
-    Found::Busy
+    Tried::Again
 }
 
 /// Shows the oldest kids that the worker keeps to thieves, but for the newest.
@@ -219,9 +209,9 @@ where
         for _ in 0..u64::MAX {
             let shows = common.ledger.shows(rt);
             match next(&mut holdings, common.thieves) {
-                Found::Piece => {}
-                Found::Busy => continue,
-                Found::Nothing => {
+                Tried::Got => {}
+                Tried::Again => continue,
+                Tried::Empty | Tried::OutOfMemory => {
                     if common.ledger.wait(rt, shows) {
                         continue;
                     }

@@ -1,7 +1,7 @@
 //! The desk of a search in one thread that is after a size below that of its cover: what is proved then is a floor.
-ghost use Rattle.std.specs.Prelude.{◌≡◌, ◌≤◌, IfOk, IsTrue, OnErr, OnOk, length, min};
+ghost use Rattle.std.specs.Prelude.{◌≡◌, ◌≤◌, ◌↔◌, IsTrue, OnErr, OnOk, length, min};
 ghost use Rattle.search_traits.specs.Aimed.{aimed_state};
-ghost use Rattle.search_traits.specs.Desks.{Continues, Enters, Looks, Takes};
+ghost use Rattle.search_traits.specs.Desks.{Enters, Looks, Takes};
 
 use crate::alone::AloneDesk;
 use crate::desk::Desk;
@@ -33,36 +33,10 @@ impl AimedDesk {
         }
     }
 
-    /// A desk for a part of the search: it shows what this one showed last, and grants any number of turns.
-    pub fn apart(&self) -> Result<AimedDesk, OutOfMemory>
-        ensures shown { IfOk result (λ desk. desk.shown ≡ self.now.shown) }
-        ensures region { IfOk result (λ desk. desk.desk.cover.region ≡ self.now.desk.cover.region) }
-    {
-        let cover = self.desk.cover().try_clone()?;
-        Ok(AimedDesk::new(AloneDesk::new(cover, None), self.shown))
-    }
-
-    /// Takes over what a part of the search came to: its turns, its cover where that is smaller, and that no more was
-    /// shown than there.
-    #[tactic(auto, using(crate::proofs::DeskRules::desk_steps))]
-    pub fn take(&mut self, part: AimedDesk) -> Result<(), OutOfMemory>
-        requires { part.desk.cover.region ≡ self.old.desk.cover.region }
-        ensures less { OnOk result (self.new.shown ≤ part.shown) }
-        ensures onward { Continues (aimed_state self.old.shown self.old.desk)
-            (aimed_state self.new.shown self.new.desk) }
-    {
-        let AimedDesk { desk, shown, .. } = part;
-        count_turns(self, desk.granted());
-        self.offer(desk.cover())?;
-        if shown < self.shown {
-            self.aim_at(shown);
-        }
-        Ok(())
-    }
-
     /// From now on it shows at most this size.
     pub fn aim_at(&mut self, aim: u64)
         ensures desk { self.new.desk ≡ self.old.desk }
+        ensures aim { self.new.aim ≡ aim }
         ensures shown { self.new.shown ≡ aim }
     {
         self.aim = aim;
@@ -85,13 +59,15 @@ impl AimedDesk {
     }
 
     /// The size of its smallest cover.
-    pub fn size(&self) -> u64 {
+    pub fn size(&self) -> u64
+        ensures { result ≡ length self.now.desk.cover.places }
+    {
         self.desk.size()
     }
 
     /// Whether its cover has no more places than it showed last.
     pub fn is_met(&self) -> bool
-        ensures { IsTrue result → length self.now.desk.cover.places ≤ self.now.shown }
+        ensures { IsTrue result ↔ length self.now.desk.cover.places ≤ self.now.shown }
     {
         self.desk.size() <= self.shown
     }
@@ -102,16 +78,6 @@ impl AimedDesk {
     {
         let AimedDesk { desk, .. } = self;
         desk
-    }
-}
-
-/// Asks the desk for so many turns that were taken elsewhere.
-#[tactic(auto, using(crate::proofs::DeskRules::desk_steps))]
-pub fn count_turns<D: Desk>(desk: &mut D, turns: u64)
-    ensures { Continues (D.state desk.old) (D.state desk.new) }
-{
-    for _ in 0..turns {
-        desk.enter();
     }
 }
 

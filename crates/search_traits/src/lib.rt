@@ -18,7 +18,7 @@ mod shared_search;
 mod two_searches;
 mod worked;
 
-pub use aimed::{AimedDesk, count_turns};
+pub use aimed::AimedDesk;
 pub use alone::AloneDesk;
 pub use close_fault::CloseFault;
 pub use closer::Closer;

@@ -1,7 +1,7 @@
 //! The desk of a round that others may take up: they begin with its cover and its turns, and it counts theirs.
 ghost use Rattle.std.specs.Prelude.{◌≡◌};
 ghost use Rattle.search_traits.specs.Desks.{Continues, IsSpent};
-ghost use Rattle.search_traits.specs.Turns.{AreSpent, rest};
+ghost use Rattle.search_traits.specs.Turns.{AreSpent, counted_on, rest};
 
 use crate::desk::Desk;
 use instance_regions::Cover;
@@ -18,6 +18,8 @@ pub trait RoundDesk: Desk {
 
     /// Counts so many turns as granted, as far as they are left.
     fn count(&mut self, turns: u64)
+        ensures counted { (Self.state self.new).granted
+            ≡ counted_on (Self.state self.old).limit (Self.state self.old).granted turns }
         ensures spent { AreSpent (rest (Self.state self.old).limit (Self.state self.old).granted) turns
             → IsSpent (Self.state self.new) }
         ensures onward { Continues (Self.state self.old) (Self.state self.new) };

@@ -4,6 +4,7 @@ ghost use Rattle.std.specs.Arc.{arc_value};
 ghost use Rattle.std.specs.Prelude.{◌≡◌, ◌≤◌, ◌+◌, ◌⊎◌, ◌↔◌, IfSome, IsTrue, Some, length};
 ghost use Rattle.search_traits.specs.Planned.{IsFloor};
 ghost use Rattle.search_traits.specs.Planning.{IsRegionPlan};
+ghost use Rattle.search_traits.specs.Sizes.{lesser};
 ghost use Rattle.search_traits.specs.Turns.{AreSpent, IsShareSpent, IsWithin, rest};
 
 use crate::planner::BestPlan;
@@ -13,7 +14,8 @@ use std::sync::Arc;
 
 /// The first turns, no more than the most, of so many or of any number.
 pub fn first_of(turns: Option<u64>, most: u64) -> u64
-    ensures { IsWithin turns result }
+    ensures within { IsWithin turns result }
+    ensures first { lesser turns most ≡ Some result }
 {
     match turns {
         None => most,

@@ -1,5 +1,7 @@
 -- What a worker holds still adds up after each of its steps.
-use Rattle.std.proofs.Common.{◌≡◌, ℕ, ◌+◌, List, [], ◌∷◌, ◌++◌, length, reverse, remove, slice_index_or, ◌<◌, sym, ap, ◌∙◌, subst, le_refl, refl, arith}
+use Rattle.std.proofs.Common.{◌≡◌, ℕ, ◌+◌, ◌<◌, List, [], ◌∷◌, ◌++◌, length, reverse, remove, take, drop, slice_index_or}
+use Rattle.std.proofs.Common.{refl, sym, ap, ◌∙◌, subst, le_refl, arith}
+use Rattle.std.proofs.Math.Seq.{drop-append_seam, take-append_seam}
 use Rattle.std.proofs.lemmas.Grind.{reverse_onto}
 use Rattle.std.proofs.lemmas.List.Elements.{All-push}
 use Rattle.set_cover.specs.Instance.{Instance}
@@ -43,6 +45,17 @@ pub weigh_first : (h : Subproblem → ℕ) (pieces : List Subproblem) (first : S
     → first ≡ slice_index_or pieces 0 first → weigh h pieces ≡ h first + weigh h (remove pieces 0)
 weigh_first h [] first some is = absurd (omega (arith, some))
 weigh_first h (piece ∷ pieces) first some is = (let e = ap h is in omega arith)
+
+-- the first of some pieces is put back behind the others, and then turned to the front
+pub put_back : (pieces rest more : List Subproblem) (first back : Subproblem) (last : ℕ) → 0 < length pieces
+    → first ≡ slice_index_or pieces 0 first → rest ≡ remove pieces 0 → back ≡ first → more ≡ rest ++ back ∷ []
+    → last + 1 ≡ length pieces → drop last more ++ take last more ≡ pieces
+put_back [] rest more first back last some is r b m l = absurd (omega (arith, some))
+put_back (piece ∷ pieces) rest more first back last some is r b m l =
+    let whole : more ≡ pieces ++ piece ∷ [] = m ∙ (λ i. r i ++ (b ∙ is) i ∷ []) in
+    let at : last ≡ length pieces = omega (arith, l) in
+    (λ i. drop (at i) (whole i) ++ take (at i) (whole i))
+    ∙ (λ i. drop-append_seam pieces (piece ∷ []) i ++ take-append_seam pieces (piece ∷ []) i)
 
 -- it is held
 took_one : (region : Instance) (start : List Subproblem) (own own_now : Owned) (rs rs_now : List KnownPass)
@@ -181,26 +194,6 @@ shows_kept region start start_now own own_now rs closed opened held kept rest p 
             let d = ap (λ (d : Dealt). weigh h d.pushed) now in
             let e = weigh_append h own.knows.pushed (p ∷ []) in
             let f = ap (λ (d : Dealt). weigh h (d.taken ++ all_taken rs)) now in omega arith;
-      };
-      all_closed = s.all_closed;
-      all_opened = s.all_opened;
-    })
-
--- kids that were kept are kept on, in another order
-pub keeps_on : (region : Instance) (start start_now : List Subproblem) (own own_now : Owned) (rs : List KnownPass)
-    (closed : List Fathomed) (opened : List Split) (held kept kept_now : List Subproblem)
-    → start_now ≡ start → own_now.knows ≡ own.knows → ((h : Subproblem → ℕ) → weigh h kept_now ≡ weigh h kept)
-    → HeldSoundly region start (held_of own rs closed opened held kept)
-    → HeldSoundly region start_now (held_of own_now rs closed opened held kept_now)
-keeps_on region start start_now own own_now rs closed opened held kept kept_now a same was s =
-    subst (λ (x : List Subproblem). HeldSoundly region x (held_of own_now rs closed opened held kept_now)) (sym a)
-    (record {
-      adds_up = record {
-        balance = λ h.
-            let k = s.adds_up.balance h in
-            let c = was h in
-            let d = ap (λ (d : Dealt). weigh h d.pushed) same in
-            let f = ap (λ (d : Dealt). weigh h (d.taken ++ all_taken rs)) same in omega arith;
       };
       all_closed = s.all_closed;
       all_opened = s.all_opened;

@@ -1,6 +1,7 @@
 -- A worker's passes after one of them tried to take a piece.
 use Rattle.std.proofs.Common.{◌≡◌, ℕ, zero, suc, ◌+◌, ◌<◌, List, [], ◌∷◌, length, set, get_or}
 use Rattle.std.proofs.Common.{refl, ap, ◌∙◌, arith}
+use Rattle.std.proofs.lemmas.List.Elements.{Contains-get_or}
 use Rattle.crossbeam_deque.specs.Handles.{stealer_deque, stealer_flavor}
 use Rattle.proof_tree.specs.Piece.{Subproblem}
 use Rattle.proof_tree.specs.Weights.{weigh}
@@ -60,10 +61,14 @@ set_same [] k r d e = refl
 set_same (x ∷ xs) zero r d e = ap (λ y. y ∷ xs) e
 set_same (x ∷ xs) (suc k) r d e = ap (λ l. x ∷ l) (set_same xs k r d e)
 
--- what is known of the passes after one of them tried to take
-pub tried : (rs : List KnownPass) (k : ℕ) (r d : KnownPass) (t : Take) → k < length rs
-    → r.deque ≡ (get_or rs k d).deque → Answers WasEmpty (get_or rs k d).knows t r.knows → TriedOne rs t (set rs k r)
-tried rs k r d (Got p) lt same done =
+-- what is known of the passes after one of them, at the deque of this number, tried to take
+pub tried : (deque : ℕ) (rs : List KnownPass) (k : ℕ) (r d : KnownPass) (t : Take) → k < length rs
+    → (get_or rs k d).deque ≡ deque → r.deque ≡ (get_or rs k d).deque
+    → Answers WasEmpty (get_or rs k d).knows t r.knows → TriedOne deque rs t (set rs k r)
+tried deque rs k r d (Got p) lt there same done =
     record { same = deques_set rs k r d same; more = λ h. taken_set h rs k r d p lt done }
-tried rs k r d Empty lt same done = set_same rs k r d (λ i. record { deque = same i; knows = done.0 i })
-tried rs k r d Again lt same done = set_same rs k r d (λ i. record { deque = same i; knows = done i })
+tried deque rs k r d Empty lt there same done = (
+  set_same rs k r d (λ i. record { deque = same i; knows = done.0 i }),
+  record { pass = get_or rs k d; has = Contains-get_or rs k d lt; at = there; empty = done.1 },
+)
+tried deque rs k r d Again lt there same done = set_same rs k r d (λ i. record { deque = same i; knows = done i })

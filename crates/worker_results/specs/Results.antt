@@ -1,5 +1,5 @@
 -- What a worker's desk keeps, and what a worker hands over. This is this project's own.
-use Rattle.std.specs.Prelude.{◌≡◌, ℕ, ◌≤◌, false, List, length, Option, Some, None, IfSome, refl}
+use Rattle.std.specs.Prelude.{◌≡◌, ℕ, ◌+◌, ◌-◌, ◌^◌, ◌≤◌, min, false, List, length, Option, Some, None, IfSome, refl}
 use Rattle.std.specs.Coded.{Coded, code_by, coded×, coded_ℕ, coded_option}
 use Rattle.atomic_table.specs.Seated.{TableId}
 use Rattle.set_cover.specs.Instance.{Instance, instance_coded}
@@ -46,6 +46,11 @@ desked_coded = code_by (Instance × (Known × (Option Covering × (Option ℕ ×
     (λ d. (d.region, (d.knows, (d.cover, (d.limit, d.granted)))))
     (λ p. record { region = p.0; knows = p.1.0; cover = p.1.1.0; limit = p.1.1.1.0; granted = p.1.1.1.1 })
     (λ _. refl)
+
+-- one turn more, as far as 64 bits count, where turns are limited
+abbrev pub one_more : Option ℕ → Option ℕ
+one_more None = None
+one_more (Some most) = Some (min (most + 1) (2 ^ 64 - 1))
 
 -- what it knows as any desk does: it showed what its seat saw last, and accepted what that told
 abbrev pub state_of : Desked → DeskState

@@ -2,10 +2,9 @@
 //! there.
 ghost use Rattle.std.specs.Prelude.{◌≡◌, IfSome};
 ghost use Rattle.schedule_law.specs.Worked.{IsCoverFor};
-ghost use Rattle.worker_results.specs.Naming.{numbers_from};
-ghost use Rattle.worker_results.specs.Passes.{deques};
-ghost use Rattle.worker_results.specs.Results.{IsHandedIn, IsSeatAt, KeepsTold};
-ghost use Rattle.worker_results.specs.Holdings.{AreClosedFrom, work_of};
+ghost use Rattle.worker_results.specs.Parting.{AreResultParts};
+ghost use Rattle.worker_results.specs.Results.{IsSeatAt, KeepsTold};
+ghost use Rattle.worker_results.specs.Holdings.{AreClosedFrom};
 
 use crate::holdings::Holdings;
 use crate::naming::Naming;
@@ -47,11 +46,11 @@ impl<B: Naming> Model for Done<B> {
 
 /// The parts of a result.
 #[derive(Drop)]
-pub struct Parts<B: Naming> {
-    pub seat: Seat,
-    pub own: Own<B>,
-    pub passes: PassRow<B>,
-    pub work: Work,
+pub(crate) struct Parts<B: Naming> {
+    pub(crate) seat: Seat,
+    pub(crate) own: Own<B>,
+    pub(crate) passes: PassRow<B>,
+    pub(crate) work: Work,
 }
 
 impl<B: Naming> Done<B> {
@@ -81,15 +80,10 @@ impl<B: Naming> Done<B> {
     }
 
     /// All that it hands over.
-    pub fn into_parts(self) -> Parts<B>
-        ensures seat { IsSeatAt B.beacon result.seat × (result.seat.knows ≡ self.knows) }
-        ensures own { (result.own.worker ≡ self.holdings.worker)
-            × (result.own.knows ≡ self.holdings.own)
-            × (result.own.knows.out ≡ B.workers) }
-        ensures passes { (result.passes ≡ self.holdings.passes)
-            × (deques result.passes ≡ numbers_from 0 B.workers) }
-        ensures work { result.work ≡ work_of self.holdings self.cover }
-        ensures done { IsHandedIn B.region (B.start self.holdings.worker) self }
+    pub(crate) fn into_parts(self) -> Parts<B>
+        ensures seat { (result.seat.beacon ≡ B.beacon) × (result.seat.knows ≡ self.knows) }
+        ensures parts { AreResultParts B.region B.start B.workers self
+            result.own result.passes result.work }
     {
         let Done {
             seat,

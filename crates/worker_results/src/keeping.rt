@@ -1,6 +1,7 @@
 //! The kids that a worker keeps to itself: it takes the newest, and shows the oldest to thieves, on its own deque.
-ghost use Rattle.std.specs.Prelude.{◌≡◌};
-ghost use Rattle.worker_results.specs.Steps.{TookKept};
+ghost use Rattle.std.specs.Prelude.{◌≡◌, ◌+◌, length};
+ghost use Rattle.piece_deque.specs.Rule.{HeldCount};
+ghost use Rattle.worker_results.specs.Steps.{Shows, TookKept};
 
 use crate::holdings::Holdings;
 use crate::naming::Naming;
@@ -26,18 +27,23 @@ impl<B: Naming> Holdings<B> {
     }
 
     /// How many kids it keeps.
-    pub fn kept_count(&self) -> usize {
+    pub fn kept_count(&self) -> usize
+        ensures { result ≡ length self.now.kept }
+    {
         self.kept.len()
     }
 
     /// How many pieces it holds or keeps.
-    pub fn count(&self) -> usize {
-        self.kept.len().saturating_add(self.held.len())
+    pub fn count(&self) -> usize
+        ensures { result ≡ length self.now.kept + length self.now.held }
+    {
+        self.kept_count() + self.held.len()
     }
 
     /// How many pieces lay on its own deque at one moment of the call.
     pub fn shown_count(&mut self) -> usize
         ensures same { self.new ≡ self.old }
+        ensures count { HeldCount self.old.own result }
     {
         self.own.count()
     }
@@ -47,8 +53,7 @@ impl<B: Naming> Holdings<B> {
     pub fn show_oldest(&mut self) -> bool
         ensures worker { self.new.worker ≡ self.old.worker }
         ensures closed { self.new.closed ≡ self.old.closed }
-        ensures held { self.new.held ≡ self.old.held }
-        ensures opened { self.new.opened ≡ self.old.opened }
+        ensures shows { Shows self.old result self.new }
     {
         if self.kept.is_empty() {
             return false;
@@ -58,6 +63,7 @@ impl<B: Naming> Holdings<B> {
             Ok(()) => true,
             Err(back) => {
                 self.kept.push_reserved(back);
+                self.kept.rotate_right(1);
                 false
             }
         }

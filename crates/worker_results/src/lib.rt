@@ -20,7 +20,7 @@ mod taking;
 mod working;
 
 pub use berth::Berth;
-pub use done::{Done, Parts};
+pub use done::Done;
 pub use holdings::Holdings;
 pub use joined::{Joined, close_up};
 pub use naming::Naming;

@@ -3,7 +3,7 @@
 ghost use Rattle.std.specs.Prelude.{◌≡◌, ◌≢◌, [], ◌∷◌, IfErr, OnOk};
 ghost use Rattle.crossbeam_deque.specs.Handles.{worker_deque, worker_flavor, worker_view};
 ghost use Rattle.piece_deque.specs.Deals.{one_more_out, pushed_too, thief_pass};
-ghost use Rattle.piece_deque.specs.Rule.{Answers, WasEmpty};
+ghost use Rattle.piece_deque.specs.Rule.{Answers, HeldCount, WasEmpty};
 ghost use Rattle.piece_deque.specs.declared.answer.Take.TheVariants.{Again};
 ghost use Rattle.worker_results.specs.Passes.{IsOwners, took_back};
 
@@ -78,7 +78,8 @@ impl<B: Naming> Own<B> {
 
     /// How many pieces lay there at one moment of the call.
     pub fn count(&mut self) -> usize
-        ensures { self.new ≡ self.old }
+        ensures same { self.new ≡ self.old }
+        ensures count { HeldCount self.old.knows result }
     {
         piece_deque::count(&mut self.owner)
     }

@@ -2,7 +2,7 @@
 //! in the order of the results, as `AreOfEach` says.
 ghost use Rattle.std.specs.Prelude.{◌≡◌, true, IfOk};
 ghost use Rattle.beacon.specs.Marks.{together};
-ghost use Rattle.worker_results.specs.Parting.{AreOfEach, AreParted, AreResultParts, IsOneMore};
+ghost use Rattle.worker_results.specs.Parting.{AreOfEach, AreParted, IsOneMore};
 
 use crate::done::{Done, Parts};
 use crate::naming::Naming;
@@ -75,7 +75,7 @@ fn part_one<B: Naming>(
         own,
         passes,
         work,
-    } = apart(done);
+    } = done.into_parts();
     beacon.join(&mut first, seat);
     owners.push(own)?;
     rows.push(passes)?;
@@ -86,13 +86,4 @@ fn part_one<B: Naming>(
         rows,
         works,
     })
-}
-
-/// The parts of a result.
-fn apart<B: Naming>(done: Done<B>) -> Parts<B>
-    ensures seat { (result.seat.beacon ≡ B.beacon) × (result.seat.knows ≡ done.knows) }
-    ensures parts { AreResultParts B.region B.start B.workers done
-        result.own result.passes result.work }
-{
-    done.into_parts()
 }

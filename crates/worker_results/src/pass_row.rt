@@ -53,7 +53,7 @@ impl<B: Naming> PassRow<B> {
     pub fn steal(&mut self, thieves: &[Thief], deque: usize) -> Take
         requires thieves { AreThieves B.deque 0 thieves.now }
         requires number { deque < length thieves.now }
-        ensures { TriedOne self.old result self.new }
+        ensures { TriedOne deque self.old result self.new }
     {
         if deque >= self.items.len() {
             return Take::Again;

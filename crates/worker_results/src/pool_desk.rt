@@ -3,7 +3,7 @@
 ghost use Rattle.std.specs.Arc.{arc_value};
 ghost use Rattle.std.specs.Prelude.{◌≡◌, None, Some, IfSome, if◌then◌else◌};
 ghost use Rattle.schedule_law.specs.Worked.{IsCoverFor};
-ghost use Rattle.worker_results.specs.Results.{IsNewSeatAt, IsSeatAt, KeepsTold, state_of};
+ghost use Rattle.worker_results.specs.Results.{IsNewSeatAt, IsSeatAt, KeepsTold, one_more, state_of};
 
 use crate::naming::Naming;
 use beacon::{Beacon, Seat};
@@ -79,7 +79,7 @@ impl<'a, B: Naming> PoolDesk<'a, B> {
 
     /// Allows one turn more, where they are limited.
     pub fn allow(&mut self)
-        ensures { self.new ≡ record self.old { limit = self.new.limit } }
+        ensures { self.new ≡ record self.old { limit = one_more self.old.limit } }
     {
         if let Some(limit) = self.limit {
             self.limit = Some(limit.saturating_add(1));

@@ -1,8 +1,8 @@
 //! A worker takes a piece from its own deque, or steals one from another's, and holds it until it is closed or opened:
-//! `HoldsMore` of specs/Steps.antt.
+//! `TakesOwn` and `StealsFrom` of specs/Steps.antt.
 ghost use Rattle.std.specs.Prelude.{◌≡◌, ◌<◌, length};
 ghost use Rattle.worker_results.specs.Naming.{AreThieves};
-ghost use Rattle.worker_results.specs.Steps.{HoldsMore};
+ghost use Rattle.worker_results.specs.Steps.{StealsFrom, TakesOwn};
 
 use crate::holdings::Holdings;
 use crate::naming::Naming;
@@ -14,7 +14,7 @@ impl<B: Naming> Holdings<B> {
     pub fn take(&mut self) -> Tried
         ensures worker { self.new.worker ≡ self.old.worker }
         ensures closed { self.new.closed ≡ self.old.closed }
-        ensures held { HoldsMore result self.old.held self.new.held }
+        ensures takes { TakesOwn self.old result self.new }
     {
         if self.held.reserve(1).is_err() {
             return Tried::OutOfMemory;
@@ -25,7 +25,7 @@ impl<B: Naming> Holdings<B> {
                 Tried::Got
             }
             Take::Empty => Tried::Empty,
-            Take::Again => Tried::Again,
+            Take::Again => unreachable!(),
         }
     }
 
@@ -35,7 +35,7 @@ impl<B: Naming> Holdings<B> {
         requires number { deque < length thieves.now }
         ensures worker { self.new.worker ≡ self.old.worker }
         ensures closed { self.new.closed ≡ self.old.closed }
-        ensures held { HoldsMore result self.old.held self.new.held }
+        ensures steals { StealsFrom deque self.old result self.new }
     {
         if self.held.reserve(1).is_err() {
             return Tried::OutOfMemory;

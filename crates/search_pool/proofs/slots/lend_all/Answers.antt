@@ -1,7 +1,8 @@
 use Rattle.std.proofs.Common.{◌≡◌, ◌+◌, ◌∙◌, [], All, List, length, subst, sym, ap, arith}
 use Rattle.std.proofs.lemmas.List.Elements.{All-push}
 use Rattle.worker_results.specs.Passes.{KnownPass, all_taken, deques}
-use Rattle.search_pool.specs.Slots.{IsReady, numbers_of}
+use Rattle.worker_results.specs.Joining.{numbers_of}
+use Rattle.search_pool.specs.Slots.{IsReady}
 use Rattle.search_pool.proofs.SlotLemmas.{deques_out, length-push, none_taken, numbers_out, one_more}
 use Rattle.search_pool.proofs.slots.lend_all.Goals as goal
 

@@ -1,7 +1,8 @@
 use Rattle.std.proofs.Common.{◌≡◌, [], All, length}
 use Rattle.worker_results.specs.Naming.{numbers_from}
 use Rattle.worker_results.specs.Passes.{all_taken}
-use Rattle.search_pool.specs.Slots.{IsReady, numbers_of}
+use Rattle.worker_results.specs.Joining.{numbers_of}
+use Rattle.search_pool.specs.Slots.{IsReady}
 use Rattle.search_pool.proofs.slots.lend_all.Given as goal
 
 -- this count of rows was lent, and no pass took anything

@@ -2,7 +2,8 @@ use Rattle.std.proofs.Common.{◌+◌, ◌∷◌, ◌++◌, [], ℕ, List, ◌�
 use Rattle.std.proofs.lemmas.List.Elements.{All-push}
 use Rattle.worker_results.specs.Naming.{numbers_from}
 use Rattle.worker_results.specs.Passes.{Owned}
-use Rattle.search_pool.specs.Slots.{AreOwners, IsReady, Owner, numbers_of, ready}
+use Rattle.worker_results.specs.Joining.{numbers_of}
+use Rattle.search_pool.specs.Slots.{AreOwners, IsReady, Owner, ready}
 use Rattle.search_pool.proofs.SlotLemmas.{numbers_push}
 use Rattle.search_pool.proofs.slots.owned.Goals as goal
 

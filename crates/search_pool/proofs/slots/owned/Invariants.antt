@@ -1,6 +1,7 @@
 use Rattle.std.proofs.Common.{◌≡◌, ◌+◌, ◌++◌, All, length}
 use Rattle.worker_results.specs.Naming.{numbers_from}
-use Rattle.search_pool.specs.Slots.{AreOwners, IsReady, numbers_of}
+use Rattle.worker_results.specs.Joining.{numbers_of}
+use Rattle.search_pool.specs.Slots.{AreOwners, IsReady}
 use Rattle.search_pool.proofs.slots.owned.Given as goal
 
 -- the ends so far have their numbers, and those that are left follow

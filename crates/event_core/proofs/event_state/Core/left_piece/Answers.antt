@@ -1,4 +1,4 @@
-use Rattle.std.proofs.Common.{List, [], ℕ, Option, Some, true≢false, refl, sym, subst, ◌∙◌}
+use Rattle.std.proofs.Common.{List, [], ℕ, Option, Some, refl, sym, subst}
 use Rattle.proof_tree.specs.Piece.{Subproblem}
 use Rattle.event_core.specs.Kept.{state_of}
 use Rattle.event_core.specs.Moving.{IsLeftPiece}
@@ -25,7 +25,6 @@ returns-clause-left c =
     c.in_ok-traced.ensures.traced in
     let there = traced_there kept name t.chosen.items t.barred.items t.standing (part_in [] [] kept.root name) refl
     (subst (λ (o : Option Traced). IsTraced [] [] kept.root name o) c.in-Some.is traced) in
-    let left = left_where t.standing there.0 there.2
-    (λ past. true≢false (sym (c.is_past.ensures.1 past) ∙ c.if-is_past.false)) in
+    let left = left_where t.standing there.0 there.2 c.in_default-standing.not-Past in
     subst (λ (p : Subproblem). IsLeftPiece (state_of kept) name (Some p)) (sym c.in_ok-named.ensures)
     (refl, there.0, there.1, left)

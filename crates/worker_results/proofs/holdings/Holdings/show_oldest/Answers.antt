@@ -1,8 +1,10 @@
-use Rattle.std.proofs.Common.{ℕ, ◌<◌, [], ◌∷◌, length, ap, ◌∙◌, arith}
+use Rattle.std.proofs.Common.{◌≡◌, ◌<◌, List, length, sym, ap, ◌∙◌, subst, arith}
+use Rattle.proof_tree.specs.Piece.{Subproblem}
 use Rattle.proof_tree.specs.Weights.{weigh}
 use Rattle.piece_deque.specs.declared.dealt.Dealt.{Dealt}
-use Rattle.piece_deque.proofs.TotalLemmas.{weigh_append}
-use Rattle.worker_results.proofs.HoldingLemmas.{keeps_on, shows_kept, weigh_first}
+use Rattle.worker_results.specs.Holdings.{held_of, HeldSoundly}
+use Rattle.worker_results.specs.Passes.{Owned}
+use Rattle.worker_results.proofs.HoldingLemmas.{put_back, shows_kept, weigh_first}
 use Rattle.worker_results.proofs.holdings.Holdings.show_oldest.Goals as goal
 
 pub invariant_of-self : goal.invariant_of-self
@@ -26,13 +28,15 @@ invariant_of-self-in-Err g c =
     let took = c.remove-oldest.ensures in
     let err = c.in-Err.ensures.err in
     let own = c.push.new.self in
-    let rest = c.remove-oldest.new.self.items in
-    let some : 0 < length i.kept.items = (let l = took.len in omega arith) in (
+    let more = c.push_reserved.ensures in
+    let turned = c.rotate_right.ensures in
+    let some : 0 < length i.kept.items = (let l = took.len in omega arith) in
+    let back : c.rotate_right.new.self.items ≡ i.kept.items = turned.items
+    ∙ put_back i.kept.items c.remove-oldest.new.self.items c.push_reserved.new.self.items c.remove-oldest.result
+    c.in-Err.back _ some took.value took.items err.0 more.items (omega (arith, took.len, more.len)) in
+    let same : own ≡ i.own = (λ k. record { worker = c.in-Err.ensures.same k; knows = err.1 k }) in (
       ap (λ (d : Dealt). d.out) err.1 ∙ c.self.invariant.0,
-      keeps_on g.B.Naming.region (g.B.Naming.start i.own.worker) (g.B.Naming.start own.worker) i.own own i.passes
-          i.closed.items i.opened.items i.held.items i.kept.items c.push_reserved.new.self.items
-          (ap g.B.Naming.start c.in-Err.ensures.same) err.1
-          (λ h. let w = weigh_first h i.kept.items c.remove-oldest.result some took.value in
-          let e = ap (weigh h) took.items in let f = ap (weigh h) c.push_reserved.ensures.items in
-          let k = weigh_append h rest (c.in-Err.back ∷ []) in let b = ap h err.0 in omega arith) c.self.invariant.1,
+      subst (λ (x : Owned × List Subproblem). HeldSoundly g.B.Naming.region (g.B.Naming.start x.0.worker)
+          (held_of x.0 i.passes i.closed.items i.opened.items i.held.items x.1))
+          (λ k. (sym same k, sym back k)) c.self.invariant.1,
     )

@@ -1,4 +1,4 @@
-use Rattle.std.proofs.Common.{ap, sym, ◌∙◌, ◌≡◌, ◌<◌, ◌+◌, length, List, set, subst, arith}
+use Rattle.std.proofs.Common.{ap, sym, ◌∙◌, ◌≡◌, ◌<◌, ◌+◌, length, get_or, List, set, subst, arith}
 use Rattle.crossbeam_deque.specs.Handles.{stealer_deque, stealer_flavor}
 use Rattle.piece_deque.specs.Rule.{Answers, WasEmpty}
 use Rattle.worker_results.specs.Naming.{Thief}
@@ -37,6 +37,8 @@ returns g c =
     let near : k < length rs = omega (arith, c.self.inside.items.ok.0, c.len.ensures, c.if-deque-len.false) in
     let was = c.index_mut.ensures.value in
     let now = c.steal.new.self in
-    subst (λ (old : List KnownPass). TriedOne old c.steal.result (set rs k now)) c.self.view_is
-    (tried rs k now r c.steal.result near (c.steal.ensures.same ∙ ap (λ (r : KnownPass). r.deque) was)
+    let there : (get_or rs k r).deque ≡ k = omega (arith, deque_at rs 0 g.B.Naming.workers k r near c.self.invariant) in
+    subst (λ (old : List KnownPass). TriedOne k old c.steal.result (set rs k now)) c.self.view_is
+    (tried k rs k now r c.steal.result near there
+    (c.steal.ensures.same ∙ ap (λ (r : KnownPass). r.deque) was)
     (subst (λ (y : KnownPass). Answers WasEmpty y.knows c.steal.result now.knows) was c.steal.ensures.done))
