@@ -34,16 +34,9 @@ def light_area(told, world, extent, place, own, version, began):
     about = sources.extent_about(world, extent)  # as of a box, the walk may go some layers beyond the area
     is_reached = box_runs.reached_by(told, area_walks.Walk(world, about, terms.rows).reached_from)
     area = box_runs.Context(is_reached, area=extent)
-    pieces, caves, stand, unknown = area_runs.pieces_in(world, extent, terms.rows, int(told.headroom))
-    if unknown:
-        refuse_unknown(unknown, place, own)
-    cut = sum(not piece.seeds for piece in pieces)
-    note(f"{counted(caves, 'cave lies', 'caves lie')} apart, in {counted(len(pieces), 'piece', 'pieces')} to plan"
-         + (f", {cut:,} of them parts of caves that are cut" if cut else ""))
     context_of = lambda piece: area._replace(piece=piece)
-    key = [version, terms.rule, told.headroom, terms.table.data.decode("utf-8", "replace"), told.turns, told.to_the_end,
-           told.as_planned, told.only, told.barred, told.move, told.reachable, told.walk or told.around, extent,
-           area_runs.files_key(world)]
+    pieces, stand = cut_up(told, terms, world, extent, place, own)
+    key = key_of(told, terms, version, world, extent)
     plan_piece = lambda piece, *given: planned_piece(told, terms, version, context_of(piece), *given)
     run = AreaRun(plan_piece, place + ".pieces", key, note, told.progress or sys.stderr.isatty())
     line_of = lambda name, piece: piece_jobs.line_of(name, told, terms, version, context_of(piece))
@@ -52,7 +45,7 @@ def light_area(told, world, extent, place, own, version, began):
         raise Refusal(f"{counted(len(run.failed), 'piece', 'pieces')} of {len(pieces):,} failed; the others are kept in"
                       f" {run.work}: the same command goes on with what is missing")
     look_through(told, terms, area, pieces, results, run.work)
-    whole = Whole(pieces, results, stand if told.move else {})
+    whole = Whole(pieces, results, stand)
     with new_folder(place, told.force) as folder:
         write(folder, world, extent, whole, told, terms, version, os.path.join(run.work, LOG))
     shutil.rmtree(run.work, ignore_errors=True)
@@ -63,6 +56,24 @@ def light_area(told, world, extent, place, own, version, began):
             f"in {place}: open index.html (README.txt says what is what)",
             f"took {time.monotonic() - began:,.1f} seconds"])
     return 0 if whole.at_least is None else answers.STOPPED
+
+
+def cut_up(told, terms, world, extent, place, own):
+    """The pieces of an area, and the torches that may be taken away: their states by their places."""
+    pieces, caves, stand, unknown = area_runs.pieces_in(world, extent, terms.rows, int(told.headroom))
+    if unknown:
+        refuse_unknown(unknown, place, own)
+    cut = sum(not piece.seeds for piece in pieces)
+    note(f"{counted(caves, 'cave lies', 'caves lie')} apart, in {counted(len(pieces), 'piece', 'pieces')} to plan"
+         + (f", {cut:,} of them parts of caves that are cut" if cut else ""))
+    return pieces, stand if told.move else {}
+
+
+def key_of(told, terms, version, world, extent):
+    """What the pieces of an area depend on, beside where they lie."""
+    table = terms.table.data.decode("utf-8", "replace")
+    return [version, terms.rule, told.headroom, table, told.turns, told.to_the_end, told.as_planned, told.only,
+            told.barred, told.move, told.reachable, told.walk or told.around, extent, area_runs.files_key(world)]
 
 
 def look_through(told, terms, area, pieces, results, work):

@@ -3,7 +3,6 @@ takes is that of the chunks one gets to: of each cell a few bits."""
 import extents
 import worlds
 from chunks import SIDE
-from extents import Extent
 from reaching import JUMP, Ground, Reached, bytes_of, nearest
 
 NONE = [0] * (JUMP + 1)

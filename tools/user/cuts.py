@@ -46,8 +46,8 @@ class Cells:
 
 
 def counts_of(numbers):
-    """How many of these numbers have a bit, told by its place. The counts of all bits are added up at once: those digits
-    of them that stand for 1, for 2, for 4 and so on are a number each."""
+    """How many of these numbers have a bit, told by its place. The counts of all bits are added up at once: their digits
+    for 1, for 2, for 4 and so on are a number each."""
     digits = []
     for carry in numbers:
         for place, digit in enumerate(digits):

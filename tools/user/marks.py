@@ -1,4 +1,4 @@
-"""What the cells of a box are, a byte for each: whether light passes them, a mob could spawn there, or a torch stands."""
+"""What the cells of a box are, a byte for each: whether light passes, a mob could spawn there, or a torch stands."""
 from fields import OPAQUE
 from rows import class_of
 from standing import is_torch

@@ -117,7 +117,8 @@ class OnFoot(Areas):
         plain = self.run_light(1_500, *self.EXTENT)
         area = self.run_light(1_500, *self.EXTENT, "--walk", 3, 2, 3)
         self.assertEqual(sorted(area.torches), sorted(plain.torches))
-        told = int(re.search(r"(\d+) torches light only cells where nobody gets to on foot, last in the list", area.err)[1])
+        line = r"(\d+) torches light only cells where nobody gets to on foot, last in the list"
+        told = int(re.search(line, area.err)[1])
         others, apart = area.torches[:-told], area.torches[-told:]
         self.assertTrue(all(at[0] > 13 for at in apart))
         self.assertEqual([at for at in self.dark(others) if at[0] < 13], [])
@@ -125,8 +126,8 @@ class OnFoot(Areas):
         self.assertEqual(area.placed, area.torches)
         for name in ("README.txt", "index.html"):
             self.assertIn(f"{told} torches light only cells where nobody gets to on foot", area.text(name))
-        self.assertEqual(sum(map(int, re.findall(r"</a>: .*, (\d+) only where nobody gets to</li>", area.text("index.html")))),
-                         told)
+        by_piece = re.findall(r"</a>: .*, (\d+) only where nobody gets to</li>", area.text("index.html"))
+        self.assertEqual(sum(map(int, by_piece)), told)
 
     def test_a_way_that_leads_from_one_part_into_another_and_back(self):
         # two chambers in the west, joined by a way through the east; a third one is seen through a window
@@ -141,11 +142,12 @@ class OnFoot(Areas):
         self.assertTrue(any(at[0] < 9 and at[2] > 11 for at in area.torches))
 
     def test_torches_of_a_part_that_others_are_planned_by_are_not_listed_apart(self):
-        # one walks in the east alone, and the cut lies at the window
-        self.make({**block((2, 57), (2, 3), (3, 3)), **block((29, 29), (2, 3), (3, 3), GLASS)})
-        area = self.run_light(400, (1, 1, 1), (58, 4, 5), "--walk", 55, 2, 3)
+        # one walks in the east alone, and the cut lies at the window, through which a torch of the west shines
+        self.make({**block((2, 63), (2, 3), (3, 3)), **block((32, 32), (2, 3), (3, 3), GLASS)})
+        area = self.run_light(500, (1, 1, 1), (64, 4, 5), "--walk", 60, 2, 3)
+        self.assertEqual([at[0] > 32 for at in sorted(area.torches)], [False, False, True])
         told = int(re.search(r"(\d+) torch(es)? lights? only cells where nobody", area.err)[1])
-        self.assertEqual([at for at in self.dark(area.torches[:-told]) if at[0] > 29], [])
+        self.assertEqual([at for at in self.dark(area.torches[:-told]) if at[0] > 32], [])
         self.assertEqual(self.dark(area.torches), [])
 
     def test_nobody_stands_there(self):
@@ -156,8 +158,8 @@ class OnFoot(Areas):
 
 class Moved(Areas):
     def test_torches_of_parts_that_light_each_other(self):
-        # a corridor that is cut, with torches on both sides of each place where that could be, one that stands outside
-        # of the area, and one in a hole in which nobody spawns
+        # a corridor that is cut, with torches on both sides of where that is, one that stands outside of the area, and
+        # one in a hole in which nobody spawns
         corridor = {**block((2, 70), (2, 3), (2, 4)), **block((20, 22), (2, 2), (8, 8))}
         stand = [(x, 2, 3) for x in (10, 26, 28, 31, 33, 50)] + [(21, 2, 8)]
         self.make({**corridor, **dict.fromkeys([*stand, (60, 2, 3)], TORCH)})
@@ -178,16 +180,15 @@ class Moved(Areas):
             self.assertEqual(len(re.findall(r"^  take away ", readme, re.MULTILINE)), len(area.away))
 
     def test_closed_caves_change_by_as_many_as_in_one_box(self):
-        # the first room is dark in part, in the second a lantern lights all, in the third one torch stands where another
-        # cave's piece sees it
-        rooms = {**block((2, 14), (2, 4), (2, 10)), **block((30, 36), (2, 4), (2, 8)), **block((48, 58), (2, 4), (3, 12))}
-        torches = [(3, 2, 3), (4, 2, 3), (13, 2, 9), (31, 2, 3), (35, 2, 7), (48, 2, 3)]
-        self.make({**rooms, **dict.fromkeys(torches, TORCH), (33, 4, 5): LANTERN})
+        # the first room is dark in part; in the second a lantern lights all, and a torch beyond the area in the third
+        rooms = {**block((2, 14), (2, 4), (2, 10)), **block((30, 36), (2, 4), (2, 8)), **block((54, 62), (2, 4), (3, 8))}
+        torches = [(3, 2, 3), (4, 2, 3), (13, 2, 9), (31, 2, 3), (35, 2, 7), (55, 2, 3)]
+        self.make({**rooms, **dict.fromkeys([*torches, (61, 2, 5)], TORCH), (33, 4, 5): LANTERN})
         extent = (1, 1, 1), (59, 6, 14)
-        box, area = (self.run_light(limit, *extent, "--move") for limit in (ONE_BOX, 1_500))
+        box, area = (self.run_light(limit, *extent, "--move") for limit in (ONE_BOX, 1_400))
         change = lambda run: len(run.placed) - len(run.away)
         self.assertEqual((len(area.torches), change(area)), (len(box.torches), change(box)))
-        self.assertEqual({(31, 2, 3), (35, 2, 7)} & set(area.away), {(31, 2, 3), (35, 2, 7)})
+        self.assertLessEqual({(31, 2, 3), (35, 2, 7), (55, 2, 3)}, set(area.away))
         self.assertEqual(self.dark(area.placed, area.away), [])
         self.assertIn(": 0 torches, 0 dark cells, take away 2</li>", area.text("index.html"))
 
