@@ -78,7 +78,7 @@ class AreaRun:
                     process = context.Process(target=self.aside, args=(waiting.pop(0),))
                     process.start()
                     running[process.sentinel] = process
-                for ended in wait(list(running)):
+                for ended in wait(list(running), 1):  # as lines_of, it looks up for signals
                     running.pop(ended).join()
                     self.tell(len(pieces) - len(waiting) - len(running), pieces)
         finally:

@@ -179,6 +179,18 @@ class Moved(Areas):
             self.assertIn(f"Take away {len(area.away)} that stand there, place {len(area.placed)}:\n  take away ", readme)
             self.assertEqual(len(re.findall(r"^  take away ", readme, re.MULTILINE)), len(area.away))
 
+    def test_torches_that_stand_where_they_are_planned_stay(self):
+        # a corridor that is cut, and a room
+        cells, extent = {**block((2, 56), (2, 3), (2, 4)), **block((20, 30), (2, 3), (10, 16))}, ((1, 1, 1), (57, 5, 18))
+        self.make(cells)
+        plain = self.run_light(900, *extent)
+        stand = {at for at in plain.torches if at[2] > 9} | {at for at in plain.torches if at[0] < 30 or at[0] > 50}
+        self.assertEqual((len(plain.placed) - len(stand) > 0, len(stand) > 2), (True, True))
+        self.make({**cells, **dict.fromkeys([*stand, (40, 2, 2)], TORCH)})
+        area = self.run_light(900, *extent, "--move")
+        self.assertEqual((area.torches, area.away), (plain.torches, [(40, 2, 2)]))
+        self.assertEqual(set(area.placed), set(plain.torches) - stand)
+
     def test_closed_caves_change_by_as_many_as_in_one_box(self):
         # the first room is dark in part; in the second a lantern lights all, and a torch beyond the area in the third
         rooms = {**block((2, 14), (2, 4), (2, 10)), **block((30, 36), (2, 4), (2, 8)), **block((54, 62), (2, 4), (3, 8))}
