@@ -163,6 +163,12 @@ class OnHosts(Commands):
         with open(begun, encoding="utf-8") as file:
             self.assertRaises(ProcessLookupError, os.kill, int(file.read()), 0)
 
+    def test_ctrl_c_before_any_host_answers(self):
+        self.put_parallel(PARALLEL.format(folder=self.tools).replace("while", "exec sleep 9; while"))
+        with unittest.mock.patch("program.select.select", side_effect=[([], [], []), KeyboardInterrupt]):
+            out, err = self.run_light("--world", self.world, *WORDS, "--hosts", "one", status=130)
+        self.assertEqual(err.splitlines()[-1], "light: stopped")
+
     def test_without_gnu_parallel(self):
         told = "light: --hosts takes GNU parallel, which isn't installed here"
         words = ["--world", self.world, *WORDS, "--hosts", "one"]
