@@ -22,11 +22,11 @@ import worlds
 
 PARTS = os.path.join(kit.HERE, "page")
 TABLES = os.path.join(kit.TOP, "examples", "tables")
-WORKER = ["host.js", "bytes.js", "names.js", "nbt.js", "structures.js", "tables.js", "fields.js", "places.js",
-          "plans.js", "walks.js", "edges.js", "plan_page.js", "packs.js", "schematics.js", "schematic_files.js",
-          "wrong_files.js", "unknowns.js", "certificates.js", "brightening.js", "rearranging.js", "outputs.js",
-          "extents.js", "region_files.js", "chunks.js", "dimensions.js", "worlds.js", "shells.js", "world_files.js",
-          "world_caves.js", "slabs.js", "planning.js", "worker.js"]
+WORKER = ["host.js", "refusals.js", "bytes.js", "names.js", "nbt.js", "structures.js", "tables.js", "fields.js",
+          "places.js", "plans.js", "walks.js", "edges.js", "plan_page.js", "packs.js", "schematics.js",
+          "schematic_files.js", "wrong_files.js", "unknowns.js", "certificates.js", "brightening.js", "rearranging.js",
+          "outputs.js", "extents.js", "region_files.js", "chunks.js", "dimensions.js", "worlds.js", "shells.js",
+          "world_files.js", "world_caves.js", "slabs.js", "planning.js", "worker.js"]
 SCRIPTS = ["chosen.js", "world_form.js", "page.js"]
 
 

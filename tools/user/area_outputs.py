@@ -41,7 +41,7 @@ path {{ pointer-events: none; }}
 <h2>Pieces, in the order of a walk</h2>
 <ol>
 {pieces}
-</ol>
+</ol>{left}
 </body>
 </html>
 """
@@ -59,12 +59,12 @@ class Area:
         return self.states.get(tuple(at))
 
 
-def write(folder, area, plan, told, summary, notes, pieces):
-    """Writes an area's folder. `pieces` are the extent and the result of each that has torches, in the order of a walk;
-    `summary` is what is known of the whole, `told` what `outputs.how` tells of how it was made, with "log", the file
-    that tells what other machines did, or None."""
+def write(folder, area, plan, told, whole):
+    """Writes an area's folder. `plan` has the torches of the whole from the area's corner on. `told` is what `outputs.how`
+    tells of how it was made; with "away" and "placed", the torches that change, told as those of the plan; and with
+    "log", the file that tells what other machines did, or None."""
     os.mkdir(os.path.join(folder, "pieces"))
-    for number, (_, result) in enumerate(pieces, 1):
+    for number, (_, result) in enumerate(whole.parts, 1):
         kept = shutil.ignore_patterns(DONE)
         shutil.copytree(result.folder, os.path.join(folder, "pieces", str(number)), ignore=kept)
     if told["log"] is not None:
@@ -72,35 +72,49 @@ def write(folder, area, plan, told, summary, notes, pieces):
     name = f"{names.plain(area.name)}-torches"
     text = plans.with_corner(plans.text_of_torches(plan), area.corner, area.dimension)
     put(folder, "plan.txt", text.encode())
-    put(folder, f"{name}.zip", packs.pack(area, plan))
-    put(folder, "index.html", page(area, summary, notes, pieces).encode("utf-8", "replace"))
-    put(folder, "README.txt", "".join(line + "\n" for line in readme(area, name, summary, notes, told)).encode())
+    put(folder, f"{name}.zip", packs.pack(area, plan._replace(torches=told["placed"]), told["away"]))
+    put(folder, "index.html", page(area, whole).encode("utf-8", "replace"))
+    put(folder, "README.txt", "".join(line + "\n" for line in readme(area, name, whole, told)).encode())
 
 
-def page(area, summary, notes, pieces):
+def page(area, whole):
     """The text of the page."""
     found = [(extent, result.torches, f"pieces/{number}/index.html", counts(result))
-             for number, (extent, result) in enumerate(pieces, 1)]
+             for number, (extent, result) in enumerate(whole.parts, 1)]
     line = '<li><a href="{}">{}</a>: {}</li>'
     listed = [line.format(page, html.escape(" ".join(map(str, [*extent.low, "to", *extent.high]))), html.escape(told))
               for extent, _, page, told in found]
-    title, told = html.escape(f"Torches for {area.name}"), "".join(f"<li>{html.escape(note)}</li>" for note in notes)
-    return PAGE.format(title=title, told=html.escape(summary), pieces="\n".join(listed), notes=told,
-                       overview=overviews.svg(area.extent, found) if found else "")
+    title = html.escape(f"Torches for {area.name}")
+    told = "".join(f"<li>{html.escape(note)}</li>" for note in [*whole.changes(), *whole.notes])
+    return PAGE.format(title=title, told=html.escape(whole.told()), pieces="\n".join(listed), notes=told,
+                       overview=overviews.svg(area.extent, found) if found else "", left=left_over(whole.left))
+
+
+def left_over(places):
+    """The torches to take away that stand where no piece is planned, for the page."""
+    told = "".join(f"<li>{' '.join(map(str, at))}</li>" for at in places)
+    return f"\n<h2>Take away beside the pieces</h2>\n<ul>{told}</ul>" if places else ""
 
 
 def counts(result):
-    """How many torches a piece has, and for how many dark cells."""
+    """How many torches a piece has, for how many dark cells, and how many of those that stand are taken away."""
     least = "" if result.at_least is None else f", at least {result.at_least:,} needed"
-    return f"{torches.load(len(result.torches))}, {counted(len(result.dark), 'dark cell', 'dark cells')}{least}"
+    away = f", take away {len(result.away):,}" if result.away else ""
+    apart = f", {len(result.apart):,} only where nobody gets to" if result.apart else ""
+    return (f"{torches.load(len(result.torches))}, {counted(len(result.dark), 'dark cell', 'dark cells')}"
+            f"{least}{away}{apart}")
 
 
-def readme(area, name, summary, notes, told):
+def readme(area, name, whole, told):
     """The lines of README.txt."""
     function = f"{packs.NAMESPACE}:{names.plain(area.name)}"
-    yield f"Torches for {''.join(letter if letter.isprintable() else '?' for letter in area.name)}: {summary}"
+    yield f"Torches for {''.join(letter if letter.isprintable() else '?' for letter in area.name)}: {whole.told()}"
     yield f"The corner of the area is {' '.join(map(str, area.corner))} in {area.dimension}."
-    yield from notes
+    if whole.changes():
+        count = f"{len(whole.placed):,}{':' if whole.away else '.'}"
+        yield f"Take away {len(whole.away):,} that stand there, place {count}"
+        yield from (f"  take away {' '.join(map(str, at))}" for at in whole.away)
+    yield from whole.notes
     yield ""
     yield "index.html  a map of the pieces, each of which leads to its own map and list; for a browser; needs no network"
     yield "plan.txt    the torches of all pieces as text, told from the corner of the area"

@@ -20,10 +20,10 @@ from refusals import Refusal
 FAR = 27  # a torch lights two cells only where fewer steps lie between them
 DONE, FAILED = "piece.json", "piece.failed"
 
-# What came of a piece: its folder, its torches by the world's coordinates with the blocks that they replace, how many
-# cells were dark and which (by the world's coordinates), how many torches it needs at least (None where its number is
-# the least), what has to be known of it, and the cells that get a slab.
-Result = namedtuple("Result", "folder torches before dark at_least notes slabs")
+# What came of a piece, by the world's coordinates: its folder, its torches, the blocks that they replace, the cells that
+# were dark, how many torches it needs at least (None where its number is the least), what has to be known of it, the
+# cells that get a slab, where torches are taken away, and the torches that light only what nobody gets to.
+Result = namedtuple("Result", "folder torches before dark at_least notes slabs away apart", defaults=([], []))
 
 
 class AreaRun:
@@ -78,7 +78,7 @@ class AreaRun:
                     process = context.Process(target=self.aside, args=(waiting.pop(0),))
                     process.start()
                     running[process.sentinel] = process
-                for ended in wait(list(running)):
+                for ended in wait(list(running), 1):  # as lines_of, it looks up for signals
                     running.pop(ended).join()
                     self.tell(len(pieces) - len(waiting) - len(running), pieces)
         finally:
@@ -201,6 +201,7 @@ def files_key(world):
 
 
 def pieces_in(world, extent, rows, headroom):
-    """The pieces of an area, how many caves it has, and the names of blocks that no row fits."""
+    """The pieces of an area, how many caves it has, the states of the torches that stand there by their places, and the
+    names of blocks that no row fits."""
     caves, unknown = caves_of(world, extent, rows, headroom)
-    return pieces_of(caves), len(caves), unknown
+    return pieces_of(caves), len(caves), dict(torch for cave in caves for torch in cave.torches), unknown

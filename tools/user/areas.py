@@ -1,20 +1,20 @@
 """The caves of an area of a world: what no light crosses lies apart. They are found a row of chunks at a time, so the
 memory that this takes is that of a row of chunks, and of what is told of the caves."""
 import re
+from array import array
 from collections import namedtuple
 
 import worlds
 from chunks import SIDE
 from extents import Extent, about
-from rows import class_of
+from marks import marked
 from unknowns import unknown_names
 
-LIGHT_PASSES, SPAWNS = 1, 2
 RUN = re.compile(rb"\x01+")
 
-# A cave: the extent about it, one of its cells, the blocks of 16 x 16 x 16 that it has cells of (told by their places
-# over 16), and whether a mob could spawn in it if it is dark.
-Cave = namedtuple("Cave", "extent seed blocks has_room")
+# A cave: the extent about it, one of its cells, the runs of its cells along x (of each the first x, the last, y and z,
+# one behind the other), whether a mob could spawn in it if it is dark, and where torches stand in it: places with states.
+Cave = namedtuple("Cave", "extent seed runs has_room torches")
 
 
 class Labels:
@@ -30,20 +30,21 @@ class Labels:
 
     def begin(self, at):
         self.parents.append(len(self.parents))
-        self.caves.append(Cave(Extent(at, at), at, set(), False))
+        self.caves.append(Cave(Extent(at, at), at, array("i"), False, []))
         return len(self.parents) - 1
 
     def join(self, one, other):
         one, other = self.root(one), self.root(other)
         if one != other:
             # the smaller goes into the larger
-            if len(self.caves[one].blocks) < len(self.caves[other].blocks):
+            if len(self.caves[one].runs) < len(self.caves[other].runs):
                 one, other = other, one
             self.parents[other] = one
             cave, more = self.caves[one], self.caves[other]
-            cave.blocks.update(more.blocks)
+            cave.runs.extend(more.runs)
+            cave.torches.extend(more.torches)
             extent = about(cave.extent, more.extent)
-            self.caves[one] = Cave(extent, cave.seed, cave.blocks, cave.has_room or more.has_room)
+            self.caves[one] = cave._replace(extent=extent, has_room=cave.has_room or more.has_room)
             self.caves[other] = None
         return one
 
@@ -52,8 +53,13 @@ class Labels:
         label = self.root(label)
         cave = self.caves[label]
         extent = about(cave.extent, Extent((first, y, z), (last, y, z)))
-        cave.blocks.update((x, y // SIDE, z // SIDE) for x in range(first // SIDE, last // SIDE + 1))
-        self.caves[label] = Cave(extent, cave.seed, cave.blocks, cave.has_room or has_room)
+        cave.runs.extend((first, last, y, z))
+        self.caves[label] = Cave(extent, cave.seed, cave.runs, cave.has_room or has_room, cave.torches)
+
+    def stands(self, label, at, state):
+        """Adds a torch to a cave. One that a table calls opaque stands in none."""
+        if label is not None:
+            self.caves[self.root(label)].torches.append((at, state))
 
 
 def caves_of(world, extent, rows, headroom):
@@ -65,7 +71,8 @@ def caves_of(world, extent, rows, headroom):
         last = min(first + SIDE - 1, south)
         box = worlds.read_box(world, Extent((left, low - 1, first), (right, high + 1, last)))
         unknown.update(dict.fromkeys(unknown_names(box, rows)))
-        passes, spawns = marked(box, rows, headroom)
+        passes, spawns, torches = marked(box, rows, headroom)
+        has_torches = 1 in torches
         for z in range(first, last + 1):
             now = {}
             for y in range(low, high + 1):
@@ -74,6 +81,10 @@ def caves_of(world, extent, rows, headroom):
                 room = spawns[start : start + box.size[0]]
                 now[y] = [run(labels, found.span(), left, y, z, room, now.get(y - 1, ()), before.get(y, ()))
                           for found in RUN.finditer(line)]
+                for found in RUN.finditer(torches, start, start + box.size[0]) if has_torches else ():
+                    for number in range(*found.span()):
+                        at = box.position(number)
+                        labels.stands(label_at(now[y], at[0]), box.worldly(at), box.state_at(*at))
             before = now
         world.chunks.clear()
     return [cave for cave in labels.caves if cave is not None], list(unknown)
@@ -93,15 +104,6 @@ def run(labels, span, left, y, z, room, below, behind):
     return span, label
 
 
-def marked(box, rows, headroom):
-    """Which cells of a box let light through, and in which a mob could spawn, as a byte for each."""
-    classes = [class_of(rows, state) for state in box.palette]
-    flag = lambda test: [bool(row and test(row)) for row in classes] + [False]
-    of = lambda flags: bytes([flags[cell] for cell in box.cells])
-    passes = of(flag(lambda row: row.opacity < 15))
-    free, stands = of(flag(lambda row: row.free)), of(flag(lambda row: row.stand))
-    layer = box.size[0] * box.size[2]
-    number = lambda data: int.from_bytes(data, "little")
-    head = number(free) >> 8 * layer if headroom == 2 else -1
-    spawns = number(free) & head & number(stands) << 8 * layer
-    return passes, (spawns & (1 << 8 * len(free)) - 1).to_bytes(len(free), "little")
+def label_at(runs, x):
+    """The label of the run that has an x, or None."""
+    return next((label for (start, end), label in runs if start <= x < end), None)

@@ -1,5 +1,6 @@
 """The run of one box: what the planner is given of a cave, and what is made of its plan."""
 import os
+from collections import namedtuple
 
 import extents
 import matters
@@ -13,7 +14,6 @@ import structures
 import walks
 from dimensions import OVERWORLD
 from folders import put
-from reaching import reached_from
 from refusals import Refusal
 from saying import counted, note
 
@@ -24,6 +24,14 @@ OTHER_LEVELS = (
 OTHERWISE = "{} answers otherwise than torchplan"
 MANY = 10  # so many notes are said at the terminal
 APART = "{} only cells where nobody gets to on foot, last in the list: --reachable leaves them out"
+
+# What a run depends on beside its cave: where one gets to on foot, or None; of a piece of an area the piece, the area's
+# extent, and the torches of other pieces that stand already.
+Context = namedtuple("Context", "is_reached piece area there", defaults=(None, None, None, ()))
+
+# The torches to take away, by their places in the box, those to place, and those of them that light only what nobody
+# gets to.
+Changes = namedtuple("Changes", "away placed apart")
 
 
 def require_rows(cave, terms):
@@ -36,13 +44,13 @@ def require_rows(cave, terms):
         raise Refusal(f"{told.file}: light doesn't read this file, so it can't leave anything out")
 
 
-def reached_by(cave, terms):
-    """Where one gets to from the point that is told; None where none is, or where nobody can stand there."""
-    told = terms.told
+def reached_by(told, reached_from):
+    """Where one gets to from the point that is told, by a function of that point; None where none is told, or where
+    nobody can stand there."""
     point = told.walk or told.around
     if point is None:
         return None
-    is_reached = reached_from(cave.around or cave.box, terms.rows, point)
+    is_reached = reached_from(point)
     if is_reached is None:
         line = f"nobody can stand at {' '.join(map(str, point))}: name another place by --walk X Y Z"
         if told.walk or told.reachable:
@@ -51,53 +59,66 @@ def reached_by(cave, terms):
     return is_reached
 
 
-def layout_of(cave, terms, is_reached):
+def layout_of(cave, terms, context):
     """The cave as the planner reads it: a box of a world with its shell, without the torches that may be moved, and
     without what doesn't matter."""
-    told = terms.told
-    if cave.around is None:
+    told, has_shell = terms.told, cave.around is not None
+    moved = moved_in(cave, context) if told.move and cave.box else []
+    if not has_shell:
         data = structures.box_file(cave.box) if cave.data is None else cave.data
         layout = planning.Layout(cave.box, cave.box, [], data, False)
     else:
-        around = without_torches(cave) if told.move else cave.around
+        around = standing.without(cave.around, moved)
         read, rows = shells.shelled(cave.box, around, terms.rows, int(told.headroom))
         layout = planning.layout_of(cave.box, read, rows, True)
     if cave.box is None:
         return layout
     if told.move:
-        layout = planning.with_read(layout, standing.without(layout.read, standing_in(told, layout)))
+        layout = planning.with_read(layout, standing.without(layout.read, moved, int(has_shell)))
     if told.only or told.reachable:
-        is_inside, of_rows = matters.in_any(extents_of(told.only)), planning.rows_for(terms, layout)
-        may_stay = lambda at: bool(told.only) and not is_inside(at) or told.reachable and not is_reached(at)
-        layout = planning.with_read(layout, *matters.without_ground(layout.read, of_rows, may_stay))
+        is_due, of_rows = due_by(told, context), planning.rows_for(terms, layout)
+        layout = planning.with_read(layout, *matters.without_ground(layout.read, of_rows, lambda at: not is_due(at)))
     if told.barred:
         is_barred, of_rows = matters.in_any(extents_of(told.barred)), planning.rows_for(terms, layout)
         layout = planning.with_read(layout, *matters.without_places(layout.read, of_rows, is_barred))
     return layout
 
 
-def without_torches(cave):
-    """The larger box about a cave without the torches of the cave, whose light doesn't arrive from outside."""
-    own = lambda at: tuple(place - low for place, low in zip(cave.box.worldly(at), cave.around.corner))
-    return standing.without(cave.around, list(map(own, standing.torches_of(cave.box, 1))))
+def moved_in(cave, context):
+    """Where torches stand that are planned as if they didn't, by the world's coordinates or the box's own: those of the
+    box; of a piece all of its area that are known, but where another piece has one again."""
+    if context.area is None:
+        return list(map(cave.box.worldly, standing.torches_of(cave.box, int(cave.around is not None))))
+    there = {tuple(torch[:3]) for torch in context.there}
+    places = map(cave.around.worldly, standing.torches_of(cave.around))
+    return [at for at in places if extents.has(context.area, at) and at not in there]
+
+
+def due_by(told, context):
+    """Which cells may not stay dark."""
+    is_inside = matters.in_any(extents_of(told.only))
+    return lambda at: not (told.only and not is_inside(at) or told.reachable and not context.is_reached(at))
 
 
 def extents_of(corners):
     return [extents.between(numbers[:3], numbers[3:]) for numbers in corners]
 
 
-def standing_in(told, layout):
-    """Where the torches stand that are planned as if they didn't."""
-    return standing.torches_of(layout.box, int(layout.has_shell)) if told.move else []
+def own_torches(cave, told, context):
+    """Where the torches stand that this plan may take away, by their places in the box."""
+    if not told.move:
+        return []
+    places = moved_in(cave, context) if context.piece is None else context.piece.torches
+    return list(map(cave.box.own, places))
 
 
-def planned(program, folder, terms, cave, is_reached, seeds=()):
-    """What comes of a cave, with what has to be known of it. Of a world only the caves that have some cells may be
-    planned, told by the world's coordinates."""
+def planned(program, folder, terms, cave, context):
+    """What comes of a cave, with what has to be known of it. Of a piece only those caves may be planned that have some
+    cells."""
     try:
-        layout = layout_of(cave, terms, is_reached)
-        if seeds:
-            alone = matters.alone(layout.read, planning.rows_for(terms, layout), seeds)
+        layout = layout_of(cave, terms, context)
+        if context.piece and context.piece.seeds:
+            alone = matters.alone(layout.read, planning.rows_for(terms, layout), context.piece.seeds)
             layout = planning.with_read(layout, *alone)
         outcome = planning.planned(program, folder, terms, layout)
     except Refusal as why:
@@ -118,8 +139,8 @@ def say_notes(outcome):
         note(f"and {len(outcome.notes) - MANY:,} lines more, in README.txt and on the page")
 
 
-def filled(folder, cave, outcome, terms, version, is_reached):
-    """Writes what is made of a plan into its folder; the torches to take away and to place."""
+def filled(folder, cave, outcome, terms, version, context):
+    """Writes what is made of a plan into its folder; what changes in the world."""
     told, box = terms.told, outcome.layout.box
     said = {"command": told.command, "rule": terms.rule, "headroom": told.headroom, "table": terms.table.name}
     said.update(version=version, files={}, total=len(outcome.plan.torches))
@@ -132,25 +153,38 @@ def filled(folder, cave, outcome, terms, version, is_reached):
         os.remove(os.path.join(folder, "cave.nbt"))
     if box.corner is not None:
         tell_corner(folder, box)
-    away, placed = standing.compared(box, standing_in(told, outcome.layout), outcome.plan.torches)
-    apart = torches_apart(outcome, terms, placed, is_reached)
+    away, placed = standing.compared(box, own_torches(cave, told, context), outcome.plan.torches)
+    apart = torches_apart(cave, outcome, terms, placed, context)
     others = [torch for torch in placed if torch not in apart]
     plan = outcome.plan._replace(torches=walks.in_order(others) + walks.in_order(apart))
     said["apart"], said["away"] = len(apart), walks.in_order(away)
-    notes = outcome.notes + [APART.format(counted(len(apart), "torch lights", "torches light"))] * bool(apart)
-    outputs.write(folder, box, plan, outcome.dark, outcome.levels, outcome.verdict, said, notes)
-    return away, placed
+    outputs.write(folder, box, plan, outcome.dark, outcome.levels, outcome.verdict, said,
+                  outcome.notes + apart_lines(apart))
+    return Changes(away, placed, apart)
 
 
-def torches_apart(outcome, terms, placed, is_reached):
-    """The torches that light only cells where nobody gets to; they are told."""
-    if is_reached is None:
+def apart_lines(apart):
+    """What has to be known of torches that light only what nobody gets to: a line, where there are any."""
+    return [APART.format(counted(len(apart), "torch lights", "torches light"))] if apart else []
+
+
+def torches_apart(cave, outcome, terms, placed, context):
+    """The torches that light only cells where nobody gets to."""
+    if context.is_reached is None:
         return []
     rows, read = planning.rows_for(terms, outcome.layout), outcome.layout.read
-    found = matters.apart(read, rows, placed, outcome.dark, planning.NEEDS[terms.rule], is_reached)
-    if found:
-        note(APART.format(counted(len(found), "torch lights", "torches light")))
-    return found
+    need = planning.NEEDS[terms.rule]
+    found = matters.apart(read, rows, placed, outcome.dark, need, context.is_reached)
+    if not found or context.piece is None or context.piece.seeds:
+        return found
+    # a part of a cave: its torches may light what lies in other parts, which are planned by that light
+    is_due = due_by(terms.told, context)
+    is_wanted = lambda at: extents.has(context.area, at) and is_due(at) and context.is_reached(at)
+    around = standing.without(cave.around, moved_in(cave, context) if terms.told.move else [])
+    own = lambda torch: torch._replace(**dict(zip("xyz", around.own(cave.box.worldly(torch[:3])))))
+    dark = matters.dark_in(around, terms.rows, int(terms.told.headroom), need)
+    kept = set(matters.apart(around, terms.rows, list(map(own, found)), dark, need, is_wanted))
+    return [torch for torch in found if own(torch) in kept]
 
 
 def tell_corner(folder, box):

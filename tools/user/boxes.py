@@ -48,6 +48,10 @@ class Box:
         """A position by the world's coordinates, or the box's own where the corner isn't known."""
         return tuple(at) if self.corner is None else tuple(place + low for place, low in zip(at, self.corner))
 
+    def own(self, at):
+        """The box's own position of a place that is told by the world's coordinates, where the corner is known."""
+        return tuple(at) if self.corner is None else tuple(place - low for place, low in zip(at, self.corner))
+
     def state_at(self, x, y, z):
         """The block state there, or None where the box has no entry."""
         index = self.cells[self.number(x, y, z)]

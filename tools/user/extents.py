@@ -38,6 +38,11 @@ def within(extent, other):
     return Extent(low, high) if all(first <= last for first, last in zip(low, high)) else None
 
 
+def has(extent, at):
+    """Whether a cell lies in it."""
+    return all(low <= place <= high for low, place, high in zip(extent.low, at, extent.high))
+
+
 def is_small(extent):
     """Whether it keeps the limits with one layer more on each side."""
     size = size_of(grown(extent, 1))

@@ -3,6 +3,7 @@ import os
 import subprocess
 from contextlib import suppress
 
+from program import lines_of
 from refusals import FAILED, Refusal
 
 COMMAND = "~/torchplan/tools/user/plan-piece"
@@ -46,7 +47,7 @@ class Hosts:
                  "--block", BLOCK, "-N", "1", COMMAND]
         child = subprocess.Popen(words, stdin=lines, stdout=subprocess.PIPE)
         try:
-            yield from child.stdout
+            yield from lines_of(child.stdout)
         except BaseException:
             child.terminate()  # after the first it waits for what runs
             with suppress(subprocess.TimeoutExpired):

@@ -7,6 +7,7 @@ import answers
 import area_lighting
 import box_runs
 import extents
+import reaching
 import sources
 import tables
 import torches
@@ -66,7 +67,7 @@ def said_by(ended, place, own):
 
 
 def summary(outcome, changes, name, place, seconds):
-    """What the terminal says at the end, in lines. `changes` are the torches to take away and to place."""
+    """What the terminal says at the end, in lines."""
     plan, least = outcome.plan, outcome.plan.at_least
     cells = counted(len(outcome.dark), "dark cell", "dark cells")
     done = f"{counted(len(plan.torches), 'torch', 'torches')} for {cells}"
@@ -77,10 +78,9 @@ def summary(outcome, changes, name, place, seconds):
     else:
         needed = f"at least {least:,} {'is' if least == 1 else 'are'} needed"
         yield f"{name}: {done}, safe; {needed}; more time may find fewer"
-    away, placed = changes
-    if away or len(placed) < len(plan.torches):
-        yield f"take away {len(away)}, place {len(placed)}"
-    yield f"carry {torches.load(len(placed))}"
+    if changes.away or len(changes.placed) < len(plan.torches):
+        yield f"take away {len(changes.away)}, place {len(changes.placed)}"
+    yield f"carry {torches.load(len(changes.placed))}"
     yield f"in {place}: open index.html (README.txt says what is what)"
     yield f"took {seconds:,.1f} seconds"
 
@@ -120,10 +120,13 @@ def light_box(told, cave, place, own, version, began):
     box_runs.require_rows(cave, terms)
     try:
         with new_folder(place, told.force) as folder:
-            is_reached = box_runs.reached_by(cave, terms)
-            outcome = box_runs.planned(Program(), folder, terms, cave, is_reached)
+            reached_from = lambda point: reaching.reached_from(cave.around or cave.box, terms.rows, point)
+            context = box_runs.Context(box_runs.reached_by(told, reached_from))
+            outcome = box_runs.planned(Program(), folder, terms, cave, context)
             box_runs.say_notes(outcome)
-            changes = box_runs.filled(folder, cave, outcome, terms, version, is_reached)
+            changes = box_runs.filled(folder, cave, outcome, terms, version, context)
+            for line in box_runs.apart_lines(changes.apart):
+                note(line)
     except Ended as ended:
         return said_by(ended, place, own)
     answer(summary(outcome, changes, cave.box.name, place, time.monotonic() - began))

@@ -2,7 +2,9 @@
 may stay dark is read as no ground, a cell without a torch as no place: by rows of made names, alike in all else."""
 from boxes import Box
 from fields import OPAQUE, Field
+from marks import marked
 from rows import COLUMNS, Row, class_of
+from shells import light_of
 from windows import REACH, Window
 
 
@@ -77,6 +79,14 @@ def alone(box, rows, seeds):
     for number in is_open.values():
         found.cells[number] = len(box.palette)
     return found, [OTHER]
+
+
+def dark_in(box, rows, headroom, need):
+    """The cells of a box in which a mob could spawn, since they have less light than is needed."""
+    _, spawns, _ = marked(box, rows, headroom)
+    field = Field(box, rows)
+    levels = light_of(field)
+    return [box.position(number) for number, spawn in enumerate(spawns) if spawn and levels[field.place(number)] < need]
 
 
 def apart(box, rows, torches, dark, need, is_reached):

@@ -1,4 +1,5 @@
 """A piece of an area as a job for another machine: its cave, and all that its plan depends on."""
+import base64
 import hashlib
 import json
 import os
@@ -7,19 +8,23 @@ import shlex
 import tempfile
 
 import area_runs
+import extents
 import parcels
 import planning
 import sources
 import tables
+from box_runs import Context
 from boxes import Box
 from command_lines import parsed
 from extents import Extent
 from piece_runs import planned_cave, read_piece
 from pieces import Piece
 from program import Program
+from reaching import Reached
 from refusals import Refusal
 
 JOB = "job.json"
+NEAR = 2  # so many layers about a piece are those of which it asks whether one gets there
 HERE = os.path.dirname(os.path.abspath(__file__))
 
 
@@ -32,17 +37,33 @@ def sum_of_scripts():
     return whole.hexdigest()
 
 
-def line_of(name, told, terms, version, piece):
+def line_of(name, told, terms, version, context):
     """The line of a piece, under a name."""
-    cave = read_piece(told, piece.extent, [])
+    cave, piece = read_piece(told, context), context.piece
     told_box = [cave.around.size, cave.around.palette, list(cave.around.cells), cave.around.corner,
                 cave.around.dimension, cave.around.data_version]
     job = {
         "made": [version, sum_of_scripts()], "words": shlex.split(told.command)[1:], "rule": terms.rule,
-        "table": [terms.table.name, terms.table.data.decode("utf-8", "surrogateescape")],
-        "extent": piece.extent, "seeds": piece.seeds, "name": cave.box.name, "notes": cave.notes, "around": told_box,
+        "table": [terms.table.name, terms.table.data.decode("utf-8", "surrogateescape")], "piece": piece,
+        "area": context.area, "name": cave.box.name, "notes": cave.notes, "around": told_box,
+        "reached": context.is_reached and told_reached(context.is_reached.near(extents.grown(piece.extent, NEAR))),
     }
     return parcels.packed(name, {JOB: json.dumps(job).encode()})
+
+
+def told_reached(reached):
+    """What one gets to, as JSON has it."""
+    tiles = [[*at, base64.b64encode(tile).decode()] for at, tile in reached.tiles.items()]
+    return [reached.low, reached.size, tiles]
+
+
+def read_reached(told):
+    low, size, tiles = told
+    return Reached(low, size, {(x, z): base64.b64decode(tile) for x, z, tile in tiles})
+
+
+def read_extent(told):
+    return Extent(*map(tuple, told))
 
 
 def planned(job, folder):
@@ -53,12 +74,13 @@ def planned(job, folder):
     name, text = job["table"]
     told, table = parsed(job["words"]), tables.Table(name, text.encode("utf-8", "surrogateescape"), None)
     terms = planning.Terms(told, table, tables.rows_of(table), job["rule"])
-    extent = Extent(*map(tuple, job["extent"]))
+    extent, seeds, torches = job["piece"]
+    piece = Piece(read_extent(extent), list(map(tuple, seeds)), list(map(tuple, torches)))
     size, palette, cells, corner, dimension, data_version = job["around"]
     around = Box(tuple(size), [tuple(state) for state in palette], cells, tuple(corner), dimension, data_version)
-    cave = sources.cave_within(around, extent, job["name"], job["notes"])
-    result = planned_cave(told, terms, version, cave, folder, Piece(extent, list(map(tuple, job["seeds"]))))
-    area_runs.keep(folder, result)
+    cave = sources.cave_within(around, piece.extent, job["name"], job["notes"])
+    context = Context(job["reached"] and read_reached(job["reached"]), piece, read_extent(job["area"]))
+    area_runs.keep(folder, planned_cave(terms, version, cave, folder, context))
 
 
 def files_of(folder):

@@ -2,13 +2,13 @@
 fit is cut where it is narrowest."""
 from collections import namedtuple
 
+import cuts
 import extents
-from chunks import SIDE
-from extents import Extent, about
+from extents import about
 
 # An extent to plan, and a cell of each cave that is planned in it; none where it is a part of caves that are cut, and
-# all that lies in it is planned.
-Piece = namedtuple("Piece", "extent seeds")
+# all that lies in it is planned. Its torches are those that stand in its caves, told by their places.
+Piece = namedtuple("Piece", "extent seeds torches")
 
 
 def pieces_of(caves):
@@ -22,59 +22,30 @@ def together(caves):
     """Caves that fit, those near to each other in one piece."""
     found, group = [], None
     for cave in sorted(caves, key=lambda cave: [at // 64 for at in cave.extent.low] + list(cave.seed)):
-        joint = group and about(group.extent, cave.extent)
+        joint, torches = group and about(group.extent, cave.extent), [at for at, _ in cave.torches]
         if group and extents.is_small(joint):
-            group = Piece(joint, [*group.seeds, cave.seed])
+            group = Piece(joint, [*group.seeds, cave.seed], group.torches + torches)
         else:
             found += [group] if group else []
-            group = Piece(cave.extent, [cave.seed])
+            group = Piece(cave.extent, [cave.seed], torches)
     return found + ([group] if group else [])
 
 
 def parts(caves):
     """The parts of caves that don't fit."""
-    blocks = set().union(*(cave.blocks for cave in caves))
-    found = []
-    for extent in cut(blocks, joint_extent(caves)):
-        found.append(Piece(extent, []))
-    return found
+    if not caves:
+        return []
+    torches = [at for cave in caves for at, _ in cave.torches]
+    return [Piece(extent, [], [at for at in torches if extents.has(extent, at)]) for extent in cut(cuts.cells_of(caves))]
 
 
-def joint_extent(caves):
-    found = None
-    for cave in caves:
-        found = about(found, cave.extent) if found else cave.extent
-    return found
-
-
-def cut(blocks, extent):
-    """The extents of the parts of what has these blocks, within an extent."""
-    if not blocks:
-        return
-    low = tuple(SIDE * min(block[axis] for block in blocks) for axis in range(3))
-    high = tuple(SIDE * max(block[axis] for block in blocks) + SIDE - 1 for axis in range(3))
-    extent = extents.within(extent, Extent(low, high))
+def cut(cells):
+    """The extents of the parts of these cells."""
+    extent = cells.extent()
     if extents.is_small(extent):
         yield extent
         return
     size = extents.size_of(extent)
     axis = size.index(max(size))
-    at = narrowest(blocks, axis, extent)
-    before = tuple(SIDE * at - 1 if place == axis else last for place, last in enumerate(extent.high))
-    behind = tuple(SIDE * at if place == axis else first for place, first in enumerate(extent.low))
-    yield from cut({block for block in blocks if block[axis] < at}, Extent(extent.low, before))
-    yield from cut({block for block in blocks if block[axis] >= at}, Extent(behind, extent.high))
-
-
-def narrowest(blocks, axis, extent):
-    """Between which blocks along an axis fewest of them touch, in the middle half of an extent."""
-    first, last = extent.low[axis] // SIDE, extent.high[axis] // SIDE
-    quarter = (last - first + 1) // 4
-    places = range(first + max(1, quarter), last + 1 - quarter)
-    beside = lambda block: tuple(place - (way == axis) for way, place in enumerate(block))
-    touching = {at: 0 for at in places}
-    for block in blocks:
-        if block[axis] in touching and beside(block) in blocks:
-            touching[block[axis]] += 1
-    middle = (first + last + 1) / 2
-    return min(places, key=lambda at: (touching[at], abs(at - middle)))
+    for part in cells.parted(axis, cuts.narrowest(cells, axis, extent)):
+        yield from cut(part)

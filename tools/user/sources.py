@@ -77,13 +77,18 @@ def name_of(world, extent, between=" "):
     return between.join([world.name, *dimensions.plain(world.dimension), *low, "to", *high])
 
 
-def read_world(world, extent, name, torches=()):
-    """The cave of an extent: its box has one layer more on each side. Torches are as if they stood in the world, each
-    told by the world's coordinates and how it hangs."""
+def extent_about(world, extent):
+    """The larger extent about one of which something has to be known, within the heights of the world."""
     around, shelled = extents.grown(extent, shells.MARGIN), extents.grown(extent, 1)
     low, high = world.heights()
     bottom, top = min(shelled.low[1], max(around.low[1], low)), max(shelled.high[1], min(around.high[1], high))
-    around = extents.Extent((around.low[0], bottom, around.low[2]), (around.high[0], top, around.high[2]))
+    return extents.Extent((around.low[0], bottom, around.low[2]), (around.high[0], top, around.high[2]))
+
+
+def read_world(world, extent, name, torches=()):
+    """The cave of an extent: its box has one layer more on each side. Torches are as if they stood in the world, each
+    told by the world's coordinates and how it hangs."""
+    around = extent_about(world, extent)
     larger = worlds.read_box(world, around)
     put_in(larger, torches)
     return cave_within(larger, extent, name, list(missing_lines(world, extent, around)))

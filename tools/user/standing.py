@@ -5,18 +5,27 @@ from torches import AIR, state_of
 NAMES = ("minecraft:torch", "minecraft:wall_torch")
 
 
-def torches_of(box, layers):
+def is_torch(state):
+    return state[0] in NAMES
+
+
+def torches_of(box, layers=0):
     """Where torches stand in a box, but in so many layers at each side."""
-    kinds = {index for index, (name, _) in enumerate(box.palette) if name in NAMES}
+    kinds = {index for index, state in enumerate(box.palette) if is_torch(state)}
     places = (box.position(number) for number, cell in enumerate(box.cells) if cell in kinds)
     return [at for at in places if all(layers <= place < side - layers for place, side in zip(at, box.size))]
 
 
-def without(box, places):
-    """The box with air in these places."""
+def without(box, places, layers=0):
+    """The box with air in these places, which are told by the world's coordinates or its own; but in so many layers at
+    each side."""
+    own = [at for at in map(box.own, places)
+           if all(layers <= place < side - layers for place, side in zip(at, box.size))]
+    if not own:
+        return box
     palette = box.palette if AIR in box.palette else [*box.palette, AIR]
     found = Box(box.size, palette, box.cells[:], box.corner, box.dimension, box.data_version, box.name)
-    for at in places:
+    for at in own:
         found.cells[box.number(*at)] = palette.index(AIR)
     return found
 

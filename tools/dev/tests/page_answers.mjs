@@ -113,8 +113,8 @@ for (const asked of questions) {
   try {
     found.push({ answer: await answers[asked.what](asked) });
   } catch (fault) {
-    const { message, more, line, stack } = fault;
-    found.push({ fault: message, more, line, kind: fault.constructor.name, trace: stack });
+    const { message, more, line, hasPlace, stack } = fault;
+    found.push({ fault: message, more, line, hasPlace, kind: fault.constructor.name, trace: stack });
   }
 }
 process.stdout.write(JSON.stringify(found));

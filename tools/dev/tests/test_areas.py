@@ -4,10 +4,12 @@ import os
 import random
 import tempfile
 import unittest
+import unittest.mock
 
 import paths
 import area_runs
 import areas
+import cuts
 import extents
 import matters
 import pieces
@@ -67,7 +69,7 @@ class Caves(unittest.TestCase):
                 part = by_cell[cave.seed]
                 low, high = tuple(map(min, zip(*part))), tuple(map(max, zip(*part)))
                 self.assertEqual(cave.extent, (low, high))
-                self.assertEqual(cave.blocks, {tuple(at // 16 for at in cell) for cell in part})
+                self.assertEqual(cells_of(cave), sorted(part))
                 room = any(is_air((x, y, z)) and (headroom == 1 or is_air((x, y + 1, z))) and is_stone((x, y - 1, z))
                            for x, y, z in part)
                 self.assertEqual(cave.has_room, room)
@@ -93,10 +95,23 @@ class Caves(unittest.TestCase):
         self.assertEqual((found, unknown), ([], ["mod:b0", "mod:b1"]))
 
 
+def cells_of(cave):
+    """The cells of a cave, by its runs."""
+    runs = list(zip(*[iter(cave.runs)] * 4))
+    return sorted((x, y, z) for first, last, y, z in runs for x in range(first, last + 1))
+
+
 def cave(low, size, has_room=True):
     extent = extents.sized(low, size)
-    blocks = set(itertools.product(*(range(a // 16, b // 16 + 1) for a, b in zip(*extent))))
-    return areas.Cave(extent, low, blocks, has_room)
+    (first, bottom, north), (last, top, south) = extent
+    runs = [number for y in range(bottom, top + 1) for z in range(north, south + 1) for number in (first, last, y, z)]
+    return areas.Cave(extent, low, runs, has_room, [])
+
+
+def cave_of_cells(cells):
+    """A cave of cells, each a run of its own."""
+    extent = Extent(tuple(map(min, zip(*cells))), tuple(map(max, zip(*cells))))
+    return areas.Cave(extent, min(cells), [number for x, y, z in sorted(cells) for number in (x, x, y, z)], True, [])
 
 
 class Pieces(unittest.TestCase):
@@ -116,14 +131,30 @@ class Pieces(unittest.TestCase):
         self.assertEqual(sum(extents.count_of(extents.size_of(part)) for part in parts), 400 * 90 * 300)
         self.assertFalse(any(extents.within(one, other) for one, other in itertools.combinations(parts, 2)))
 
-    def test_it_is_cut_between_two_blocks_where_there_are_but_few(self):
-        for count in range(2, 9):
-            at = pieces.narrowest({(x, 0, 0) for x in range(count)}, 0, Extent((0, 0, 0), (16 * count - 1, 15, 15)))
-            self.assertIn(at, range(1, count))
+    def test_it_is_cut_in_the_middle_half_wherever_that_is(self):
+        for side in range(2, 20):
+            for axis in range(3):
+                size = [3, 3, 3]
+                size[axis] = side
+                found = cave((-5, -5, -5), tuple(size))
+                plane = cuts.narrowest(cuts.cells_of([found]), axis, found.extent)
+                self.assertEqual(plane, -5 + side // 2)
 
-    def test_it_is_cut_where_it_is_narrowest(self):
-        blocks = {(x, 0, z) for x in range(16) for z in range(4) if x != 9 or z == 2}
-        self.assertIn(pieces.narrowest(blocks, 0, Extent((0, 0, 0), (255, 15, 63))), (9, 10))
+    def test_it_is_cut_where_fewest_cells_touch(self):
+        # two halls and a passage between them, which is thinnest in one place: not at a multiple of 16
+        for axis in range(3):
+            turned = lambda at: at[-axis:] + at[:-axis]
+            is_open = lambda x, y, z: (2 <= x <= 40 or 60 <= x <= 97) and y < 9 or 3 <= y < (4 if x == 51 else 6) and z < 4
+            cells = {turned((x, y, z)) for x in range(100) for y in range(9) for z in range(9) if is_open(x, y, z)}
+            found = cave_of_cells(cells)
+            held = cuts.cells_of([found])
+            self.assertEqual(cuts.narrowest(held, axis, found.extent), 51)
+            due = {plane: sum(turned((plane, *at)) in cells and turned((plane - 1, *at)) in cells
+                              for at in itertools.product(range(9), repeat=2)) for plane in range(25, 76)}
+            self.assertEqual(held.touching(axis, range(25, 76)), due)
+            with unittest.mock.patch("extents.CELLS", 9_000):
+                parts = [piece.extent for piece in pieces.pieces_of([found])]
+            self.assertIn(51, {part.low[axis] for part in parts})
 
     def test_other_caves_of_the_same_box_are_left_out(self):
         for seed in range(20):
@@ -148,7 +179,7 @@ class Bounds(unittest.TestCase):
         self.assertEqual(area_runs.scattered([(0, 0, 0), (13, 1, 13)]), 2)
 
     def test_an_area_is_least_where_all_its_caves_are_whole_and_proved(self):
-        whole, cut = Piece(Extent((0, 0, 0), (9, 9, 9)), [[1, 1, 1]]), Piece(Extent((20, 0, 0), (29, 9, 9)), [])
+        whole, cut = Piece(Extent((0, 0, 0), (9, 9, 9)), [[1, 1, 1]], []), Piece(Extent((20, 0, 0), (29, 9, 9)), [], [])
         one = Result("", [[1, 1, 1, "floor"]], [], [[1, 1, 1]], None, [], [])
         self.assertTrue(area_runs.is_least([whole], [one]))
         self.assertFalse(area_runs.is_least([whole], [one._replace(at_least=1)]))
@@ -163,8 +194,8 @@ class Runs(unittest.TestCase):
         self.addCleanup(room.cleanup)
         self.work, self.lines = os.path.join(room.name, "work"), []
         self.calls = os.path.join(room.name, "calls")
-        self.whole = [Piece(extents.sized((40 * at, 0, 0), (9, 9, 9)), [[40 * at, 0, 0]]) for at in range(4)]
-        self.cut = [Piece(extents.sized((20 * at, 90, 0), (20, 9, 9)), []) for at in range(3)]
+        self.whole = [Piece(extents.sized((40 * at, 0, 0), (9, 9, 9)), [[40 * at, 0, 0]], []) for at in range(4)]
+        self.cut = [Piece(extents.sized((20 * at, 90, 0), (20, 9, 9)), [], []) for at in range(3)]
 
     def run_over(self, pieces, fails=(), jobs=1, key="key"):
         """The results of a run, and which pieces were planned with which torches beside them."""
@@ -196,7 +227,7 @@ class Runs(unittest.TestCase):
         self.assertEqual(calls, ["0 90 [] []", "20 90 [] [0]", "40 90 [] [20]"])
 
     def test_a_part_sees_the_torches_of_whole_caves_that_lie_in_it(self):
-        whole = Piece(extents.sized((25, 93, 0), (5, 5, 5)), [[25, 93, 0]])
+        whole = Piece(extents.sized((25, 93, 0), (5, 5, 5)), [[25, 93, 0]], [])
         _, _, calls = self.run_over([whole, *self.cut])
         self.assertEqual(calls, ["0 90 [25] []", "20 90 [25] [0]", "25 93 [] []", "40 90 [25] [20]"])
 

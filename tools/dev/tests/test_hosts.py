@@ -93,6 +93,21 @@ class OnHosts(Commands):
         words, = self.words()
         self.assertIn("--sshlogin one,me@two --jobs 3 --joblog +", words)
 
+    def test_a_host_is_told_where_one_gets_to_and_which_torches_may_go(self):
+        def block(x, y, z):
+            if (x, y, z) in ((3, 4, 5), (205, 4, 5)):
+                return "minecraft:torch", {}
+            return room(x - 2, y - 3, z - 4) if x < 100 else room(x - 202, y - 3, z - 4)
+
+        Saved(self.world, version=V1_21).fill(block, [0], [(x, z) for x in range(-1, 14) for z in (-1, 0, 1)], V1_21)
+        for words in (["--walk", "4", "4", "5"], ["--walk", "4", "4", "5", "--reachable"], ["--move"]):
+            out, err = self.run_light("--world", self.world, *WORDS, *words, "--force")
+            due, said = self.files(), (out.splitlines()[:-1], err)
+            out, err = self.run_light("--world", self.world, *WORDS, *words, "--hosts", "one", "--force")
+            self.assertEqual((out.splitlines()[:-1], err), said)
+            found = self.files()
+            self.assertEqual([name for name in {**due, **found} if found.get(name) != due.get(name)], [])
+
     def test_how_far_the_run_is_is_told(self):
         out, err = self.run_light("--world", self.world, *WORDS, "--hosts", "one", "--progress")
         self.assertEqual(err.splitlines()[1:3], ["light: 1 of 2 pieces", "light: 2 of 2 pieces"])
@@ -147,6 +162,12 @@ class OnHosts(Commands):
         self.assertEqual((child.returncode, out, err.splitlines()[-1]), (130, "", "light: stopped"))
         with open(begun, encoding="utf-8") as file:
             self.assertRaises(ProcessLookupError, os.kill, int(file.read()), 0)
+
+    def test_ctrl_c_before_any_host_answers(self):
+        self.put_parallel(PARALLEL.format(folder=self.tools).replace("while", "exec sleep 9; while"))
+        with unittest.mock.patch("program.select.select", side_effect=[([], [], []), KeyboardInterrupt]):
+            out, err = self.run_light("--world", self.world, *WORDS, "--hosts", "one", status=130)
+        self.assertEqual(err.splitlines()[-1], "light: stopped")
 
     def test_without_gnu_parallel(self):
         told = "light: --hosts takes GNU parallel, which isn't installed here"

@@ -817,12 +817,21 @@ class OfWorlds(Commands):
             self.run_light("--world", self.world, *words)
             self.assertIn(f"My World_{name}-torches", os.listdir(self.folder))
 
-    def test_what_an_area_does_not_take(self):
-        self.fill()
-        corners = ["--from", "0", "0", "0", "--to", "299", "99", "299"]
-        for words in (["--move"], ["--walk", "1", "2", "3"]):
-            told = self.refused("--world", self.world, *corners, *words, status=1)
-            self.assertEqual(told, "light: an area of more than a box has no --move, --walk or --reachable: name a smaller one")
+    def test_pieces_are_kept_for_a_run_that_asks_for_what_they_were_made_by(self):
+        block = lambda x, y, z: room(x - 2, y - 3, z - 4) if x < 100 else room(x - 202, y - 3, z - 4)
+        self.saved.fill(block, [0], [(x, z) for x in range(-1, 14) for z in (-1, 0, 1)], V1_21)
+        self.answers["plan"].update(out="torches 1\ndark 3\nT 2 1 1 floor\n")
+        words = ["--world", self.world, "--from", "2", "3", "4", "--to", "206", "6", "6"]
+        ways = [[], ["--walk", "3", "4", "5"], ["--walk", "203", "4", "5"], ["--walk", "203", "4", "5", "--reachable"],
+                ["--move"]]
+        planned = lambda: [call[0] for call in self.calls()].count("plan")
+        for more in ways:  # the first piece fails, so that the second is kept
+            self.answers["plan"]["first"] = "exit 6"
+            self.run_light(*words, *more, status=1)
+            self.assertEqual(planned(), 2, more)
+        del self.answers["plan"]["first"]
+        self.run_light(*words, *ways[-1])
+        self.assertEqual(planned(), 1)
 
     def test_refusals(self):
         corners = ["--from", "0", "0", "0", "--to", "1", "1", "1"]

@@ -79,7 +79,8 @@ class PageWorlds(unittest.TestCase):
             due = self.by_light(ask)
             if isinstance(due, str):
                 refused += 1
-                self.assertEqual((answer.get("kind"), answer.get("fault")), ("Refused", sentence(due)))
+                seen = [answer.get(name) for name in ("kind", "hasPlace", "fault")]
+                self.assertEqual(seen, ["Refusal", True, sentence(due)])
                 continue
             read += 1
             self.assertIn("answer", answer, answer)

@@ -289,7 +289,8 @@ class PlanningPage(unittest.TestCase):
         for (file, data), answer in zip(found.items(), asked_page(asked)):
             due = self.by_light(file, data)
             if isinstance(due, str):
-                self.assertEqual((answer.get("kind"), answer.get("fault")), ("Damaged", due), file)
+                seen = [answer.get(name) for name in ("kind", "hasPlace", "fault")]
+                self.assertEqual(seen, ["Refusal", False, due], file)
                 continue
             self.assertIn("answer", answer, f"{file}: {answer}")
             structure = box_file(due.box) if due.data is None else due.data
@@ -306,7 +307,7 @@ class PlanningPage(unittest.TestCase):
         asked = [{"what": "cave", "file": name, "bytes": text_of_bytes(data)} for name, data in found.items()]
         for (name, data), answer in zip(found.items(), asked_page(asked)):
             due = self.by_light(name, data).split(":")[0].split(", which isn't")[0]
-            self.assertEqual(answer["kind"], "Refused", name)
+            self.assertEqual((answer["kind"], answer["hasPlace"]), ("Refusal", True), name)
             self.assertTrue(answer["fault"].startswith(f"This is {due}."), f"{answer['fault']} tells {due}")
         cut = gzip.compress(read(example("hall.nbt")))[:-9]
         answer, = asked_page([{"what": "cave", "file": "hall.nbt", "bytes": text_of_bytes(cut)}])

@@ -1,9 +1,18 @@
-"""Where one gets to on foot."""
+"""Where one gets to on foot, in a box and over an area."""
+import random
+import tempfile
 import unittest
 
 import paths
+import area_walks
+import extents
+import made_worlds
+import reaching
+import sources
+import worlds
+from extents import Extent
 from reaching import reached_from
-from rows import Row
+from rows import Row, class_of
 from test_levels import box_of
 
 STATES = {"#": ("minecraft:stone", {}), ".": ("minecraft:air", {}), "~": ("minecraft:water", {}),
@@ -72,6 +81,77 @@ class Reaching(unittest.TestCase):
         found = reached_from(box, ROWS, (101, -19, 7))
         self.assertTrue(found((106, -19, 7)))
         self.assertFalse(found((6, 1, 0)))
+
+
+def reached_apart(box, rows, start):
+    """The cells that one gets to from a cell, one after the other, each with the steps in the air that are left."""
+    flags = {}
+    for number, cell in enumerate(box.cells):
+        flags[box.position(number)] = reaching.flags_of(class_of(rows, box.palette[cell])) if cell >= 0 else 0
+    beside = lambda at, x, y, z: (at[0] + x, at[1] + y, at[2] + z)
+    is_through = lambda at: flags.get(at, 0) & reaching.THROUGH
+    is_held = lambda at: flags[at] & reaching.HOLDS or not is_through(beside(at, 0, -1, 0))
+    found, waiting = {}, [(start, 0)]
+    while waiting:
+        at, steps = waiting.pop()
+        if not (is_through(at) and is_through(beside(at, 0, 1, 0))):
+            continue
+        steps = reaching.JUMP if is_held(at) else steps
+        if steps <= found.get(at, -1):
+            continue
+        found[at] = steps
+        waiting.append((beside(at, 0, -1, 0), steps))
+        if is_held(at):
+            waiting.append((beside(at, 0, 1, 0), reaching.JUMP - 1))
+        if steps > 0:
+            waiting += [(beside(at, x, 0, z), steps - 1) for x, z in ((1, 0), (-1, 0), (0, 1), (0, -1))]
+    return set(found)
+
+
+class Random(unittest.TestCase):
+    def test_boxes_as_by_a_calculation_apart(self):
+        count = 0
+        for seed in range(60):
+            rng = random.Random(seed)
+            size = rng.randrange(1, 12), rng.randrange(2, 12), rng.randrange(1, 12)
+            states = [STATES[sign] for sign in rng.choice(["#.", "#..~", "##...H=_", "#....."])]
+            box = box_of(size, {(x, y, z): rng.choice(states) for x in range(size[0]) for y in range(size[1])
+                                for z in range(size[2])})
+            for number in rng.sample(range(len(box.cells)), len(box.cells) // 40):
+                box.cells[number] = box.NO_ENTRY
+            point = tuple(map(rng.randrange, size))
+            found = reached_from(box, ROWS, point)
+            if found is not None:
+                places = list(map(box.position, range(len(box.cells))))
+                is_room = lambda at: box.has(*at) and reached_apart(box, ROWS, at)
+                start = next(filter(is_room, reaching.nearest(point)))
+                due = reached_apart(box, ROWS, start)
+                self.assertEqual({at for at in places if found(at)}, due)
+                count += len(due)
+        self.assertGreater(count, 1_000)
+
+    def test_areas_as_the_box_that_has_them(self):
+        count = 0
+        for seed in range(2):
+            rng, names = random.Random(seed), ["minecraft:air"] * 5 + ["minecraft:water", "minecraft:ladder"]
+            open_part = rng.uniform(0.4, 0.8)
+            cells = {(x, y, z): rng.choice(names) for x in range(-22, 44) for z in range(-20, 40) for y in range(12)
+                     if rng.random() < open_part}
+            with tempfile.TemporaryDirectory() as folder:
+                made_worlds.write_world(folder, cells, [(x, z) for x in range(-2, 4) for z in range(-2, 3)], [0, 1])
+                world = worlds.World(folder)
+                extent = Extent((rng.randrange(-5, 1), 2, 1), (rng.randrange(18, 26), 8, rng.randrange(18, 23)))
+                about, point = sources.extent_about(world, extent), (9, 5, 9)
+                box = worlds.read_box(world, about)
+                due, found = reached_from(box, [], point), area_walks.Walk(world, about, []).reached_from(point)
+            part = found.near(extents.grown(extent, 2))
+            for at in map(box.worldly, map(box.position, range(len(box.cells)))):
+                self.assertEqual(found(at), due(at))
+                if extents.has(extents.grown(extent, 2), at):
+                    self.assertEqual(part(at), due(at))
+                count += due(at)
+            self.assertIsNone(area_walks.Walk(world, about, []).reached_from((9, 90, 9)))
+        self.assertGreater(count, 3_000)
 
 
 if __name__ == "__main__":

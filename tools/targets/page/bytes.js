@@ -2,9 +2,6 @@
 
 // Bytes and texts as the scripts of tools/user have them: base64, sums, packing, and how Python prints JSON.
 
-/** Why a file is refused, in one line. */
-class Damaged extends Error {}
-
 const MOST_BYTES = 67_108_864; // of a file, and of what it unpacks to
 const utf8 = (text) => new TextEncoder().encode(text);
 
@@ -32,7 +29,7 @@ async function through(bytes, stream, most = Infinity) {
     count += value.length;
     if (count > most) {
       reader.cancel();
-      throw new Damaged(`it unpacks to more than ${grouped(most)} bytes`);
+      throw damaged(`it unpacks to more than ${grouped(most)} bytes`);
     }
   }
 }
@@ -46,13 +43,13 @@ async function unpackedBy(packing, bytes) {
   try {
     return await through(bytes, new DecompressionStream(packing), MOST_BYTES);
   } catch (fault) {
-    throw fault instanceof Damaged ? fault : new Damaged("its packed data is damaged");
+    throw isDamage(fault) ? fault : damaged("its packed data is damaged");
   }
 }
 
 /** The bytes of a file of the game, which is packed by gzip or not at all. */
 async function plain(bytes) {
-  if (bytes.length > MOST_BYTES) throw new Damaged(`it has more than ${grouped(MOST_BYTES)} bytes`);
+  if (bytes.length > MOST_BYTES) throw damaged(`it has more than ${grouped(MOST_BYTES)} bytes`);
   return isPacked(bytes) ? unpackedBy("gzip", bytes) : bytes;
 }
 

@@ -32,7 +32,7 @@ class NbtReader {
   /** Where the next bytes begin, so many of which are there. */
   take(count) {
     const at = this.at;
-    if (this.data.length - at < count) throw new Damaged(`nbt: truncated at ${this.data.length}`);
+    if (this.data.length - at < count) throw damaged(`nbt: truncated at ${this.data.length}`);
     this.at = at + count;
     return at;
   }
@@ -48,13 +48,13 @@ class NbtReader {
 
   kind() {
     const at = this.take(1), kind = this.data[at];
-    if (kind > LONGS) throw new Damaged(`nbt: bad tag ${kind} at ${at}`);
+    if (kind > LONGS) throw damaged(`nbt: bad tag ${kind} at ${at}`);
     return kind;
   }
 
   array(width) {
     const at = this.take(4), count = this.view.getInt32(at);
-    if (count < 0) throw new Damaged(`nbt: bad length at ${at}`);
+    if (count < 0) throw damaged(`nbt: bad length at ${at}`);
     return this.part(count * width);
   }
 
@@ -72,13 +72,13 @@ class NbtReader {
 
   /** The list or compound that begins here: what it holds, its items' kind, and how many are to come. */
   opened(kind, depth, isKept) {
-    if (depth > DEEPEST) throw new Damaged(`nbt: too deep at ${this.at}`);
+    if (depth > DEEPEST) throw damaged(`nbt: too deep at ${this.at}`);
     this.kept += isKept;
-    if (this.kept > MOST_KEPT) throw new Damaged(`nbt: more than ${grouped(MOST_KEPT)} lists and compounds`);
+    if (this.kept > MOST_KEPT) throw damaged(`nbt: more than ${grouped(MOST_KEPT)} lists and compounds`);
     if (kind === COMPOUND) return { holds: new Map(), kind: null, left: 0, isKept };
     kind = this.kind();
     const at = this.take(4), count = this.view.getInt32(at);
-    if (kind === END && count > 0) throw new Damaged(`nbt: bad length at ${at}`);
+    if (kind === END && count > 0) throw damaged(`nbt: bad length at ${at}`);
     if (count <= 0) return { holds: [], kind, left: 0, isKept };
     if (kind in WIDTHS) return { holds: this.numbers(kind, count), kind, left: 0, isKept };
     return { holds: [], kind, left: count, isKept };
@@ -135,9 +135,9 @@ const held = (kind, inner) => (kind === COMPOUND ? inner.holds : [inner.kind, in
 
 /** The entries of the root; what stands behind it isn't looked at. */
 function rootOf(data, leftOut) {
-  if (isPacked(data)) throw new Damaged("nbt: compressed");
+  if (isPacked(data)) throw damaged("nbt: compressed");
   const reader = new NbtReader(data, leftOut);
-  if (data[reader.take(1)] !== COMPOUND) throw new Damaged("nbt: root is no compound");
+  if (data[reader.take(1)] !== COMPOUND) throw damaged("nbt: root is no compound");
   reader.text();
   return reader.compound();
 }
@@ -183,21 +183,21 @@ function textOf(text) {
 /** What the entry of that name holds, or null where there is none; one of another kind is a fault. */
 function heldIn(entries, name, kind) {
   const found = entries.get(name);
-  if (found && found[0] !== kind) throw new Damaged(`its ${name} has the wrong type`);
+  if (found && found[0] !== kind) throw damaged(`its ${name} has the wrong type`);
   return found ? found[1] : null;
 }
 
 /** What the entry of that name holds, which has to be there. */
 function needed(entries, name, kind) {
   const found = heldIn(entries, name, kind);
-  if (found === null) throw new Damaged(`it has no ${name}`);
+  if (found === null) throw damaged(`it has no ${name}`);
   return found;
 }
 
 /** The compounds of a list; none where there is no such list. */
 function compoundsIn(entries, name) {
   const [kind, items] = heldIn(entries, name, LIST) || [COMPOUND, []];
-  if (items.length > 0 && kind !== COMPOUND) throw new Damaged(`its ${name} has the wrong type`);
+  if (items.length > 0 && kind !== COMPOUND) throw damaged(`its ${name} has the wrong type`);
   return items;
 }
 

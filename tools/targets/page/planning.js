@@ -12,17 +12,6 @@ const EDGE = "torchplan: free cells lie at the box's edge: ";
 // Turns a region where a search went deeper than the engine's stack, or took more memory than there is.
 const FEWER_TURNS = [100, 10, 1];
 
-/** Why there is no plan: a sentence, and the program's own line where it said one. */
-class Refused extends Error {
-  constructor(sentence, line = null, more = []) {
-    super(sentence);
-    Object.assign(this, { line, more });
-  }
-}
-
-/** Why there is no plan, by a line as `light` has it. */
-const refusedLine = (line) => new Refused(`${line[0].toUpperCase()}${line.slice(1)}.`);
-
 /** What a cave of that file is called. */
 function nameOfFile(name) {
   const hasMore = (found, ending) => found.endsWith(ending) && found !== ending;
@@ -34,13 +23,13 @@ function nameOfFile(name) {
  * box of a world has; and what has to be known of it, in lines. */
 async function caveOfFile(file, bytes) {
   const name = nameOfFile(file), wrong = wrongFile(file, bytes);
-  if (wrong !== null) throw new Refused(wrong);
+  if (wrong !== null) throw new Refusal(wrong);
   const data = await plain(bytes);
   let root = null;
   try {
     root = rootOf(data, new Set([...NO_STRUCTURE, ...NO_BLOCKS]));
   } catch (fault) {
-    if (!(fault instanceof Damaged)) throw fault;
+    if (!isDamage(fault)) throw fault;
     return caveAs(null, data, name, false);
   }
   return caveOfRoot(root, data, name);
@@ -51,7 +40,7 @@ const caveAs = (box, data, name, isMade) => ({ box, data, name, isMade, around: 
 /** The cave of a file by its root. */
 function caveOfRoot(root, data, name) {
   const wrong = wrongRoot(root);
-  if (wrong !== null) throw new Refused(wrong);
+  if (wrong !== null) throw new Refusal(wrong);
   const made = (box) => caveAs(box, boxFile(box), name, true);
   if (isLitematic(root)) return made(readLitematic(root, name));
   const schematic = spongeOf(root);
@@ -59,7 +48,7 @@ function caveOfRoot(root, data, name) {
   try {
     return caveAs(structureOfRoot(root, name), data, name, false);
   } catch (fault) {
-    if (!(fault instanceof Damaged)) throw fault;
+    if (!isDamage(fault)) throw fault;
     return caveAs(null, data, name, false);
   }
 }
@@ -95,10 +84,10 @@ class Planner {
 /** The sentence for a status that leaves no plan, by the program's line. */
 function refusalOf(status, line) {
   const unknown = /^torchplan: unknown block (.*)$/.exec(line);
-  if (unknown) return new Refused(`The table of blocks doesn't know ${unknown[1]}. Add a row for it.`, line);
-  if (/^torchplan: table/.test(line)) return new Refused("The table of blocks isn't one that the program takes.", line);
+  if (unknown) return new Refusal(`The table of blocks doesn't know ${unknown[1]}. Add a row for it.`, line);
+  if (/^torchplan: table/.test(line)) return new Refusal("The table of blocks isn't one that the program takes.", line);
   if (/^torchplan: nbt:/.test(line)) {
-    return new Refused("This is no structure file as Minecraft's Java Edition saves it, or it is damaged.", line);
+    return new Refusal("This is no structure file as Minecraft's Java Edition saves it, or it is damaged.", line);
   }
   const sentences = {
     1: "The program refuses this file.",
@@ -106,7 +95,7 @@ function refusalOf(status, line) {
     4: "The check doesn't accept the proof, so nothing is shown. Please report this cave.",
     7: "The plan takes more memory than this browser gives a page. Save a smaller part, or use the program.",
   };
-  return new Refused(sentences[status] || "The program ended in an unexpected way.", line || `status ${status}`);
+  return new Refusal(sentences[status] || "The program ended in an unexpected way.", line || `status ${status}`);
 }
 
 /** Whether the engine itself ended the program: its stack or its memory didn't suffice. */
@@ -124,7 +113,7 @@ async function planDeep(planner, words, turns, tell) {
       tell({ note: "The search went deeper than this browser's stack; it is planned with fewer turns." });
     }
   }
-  throw new Refused("The search goes deeper than this browser's stack allows. Use the program for this cave.");
+  throw new Refusal("The search goes deeper than this browser's stack allows. Use the program for this cave.");
 }
 
 /** The level of each cell of the planner's cave, by the cells' numbers; with the torches of a plan's bytes where there
@@ -140,7 +129,7 @@ async function demandCave(file, bytes) {
   try {
     return await caveOfFile(file, bytes);
   } catch (fault) {
-    throw fault instanceof Damaged ? new Refused(`The file can't be read: ${fault.message}.`) : fault;
+    throw isDamage(fault) ? new Refusal(`The file can't be read: ${fault.message}.`) : fault;
   }
 }
 
@@ -151,7 +140,7 @@ function demandRows(box, rows, own) {
   const listed = `No table has ${names.length === 1 ? "1 block" : `${grouped(names.length)} blocks`} of the cave`;
   const how = "These lines have a row for each, as full and solid. Look them over, keep them in a file that ends in" +
     " .toml, and choose it as your own blocks.";
-  throw new Refused(`${listed}: ${names.join(", ")}. ${how}`, null, tableForUnknown(names, own).split("\n"));
+  throw new Refusal(`${listed}: ${names.join(", ")}. ${how}`, null, tableForUnknown(names, own).split("\n"));
 }
 
 /** The cells that are dark, and what the program says of free cells at the box's edge, or null. */
@@ -186,7 +175,7 @@ async function answersOf(planner, { dark, edge }, told, tell) {
 function laidOut(cave, rows, told) {
   if (cave.around === null) return { ...cave, read: cave.box, rows: [] };
   if (rows === null) {
-    throw new Refused("A box of a world takes rows of its own, and this page doesn't read your table: write its rows as" +
+    throw new Refusal("A box of a world takes rows of its own, and this page doesn't read your table: write its rows as" +
       " tables [[row]].");
   }
   return withShell(cave, rows, told.headroom);
@@ -241,7 +230,7 @@ async function planCave(module, found, told, tell) {
   if (found.box !== null && tableRows !== null) demandRows(found.box, tableRows, told.table && told.table.text);
   const done = await planned(module, found, { table, tableRows, rule }, told, tell);
   const { cave, planner, rows, text, answers } = done, { box, read, name } = cave;
-  if (box === null) throw new Refused("The program reads this file, but this page doesn't.");
+  if (box === null) throw new Refusal("The program reads this file, but this page doesn't.");
   if (rows !== null) tell({ step: "Moving torches to where they shine best" });
   const best = rows === null ? answers : await rearranged(planner, read, rows, NEEDED_LEVEL[rule], answers);
   const { dark, plan, verdict, edge, turns, peak, memory } = best;

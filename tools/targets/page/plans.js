@@ -10,7 +10,7 @@ const AIR = ["minecraft:air", new Map()];
  * search was stopped (else null), and the rows of each layer that it draws, by its height. */
 function readPlan(text) {
   const lines = text.split("\n"), words = lines[0].split(" ");
-  if (words[0] !== "torches") throw new Damaged("the program answers otherwise than torchplan");
+  if (words[0] !== "torches") throw damaged("the program answers otherwise than torchplan");
   const dark = Number((lines[1] || "").split(" ")[1] || 0), atLeast = words[2] === "at-least" ? Number(words[3]) : null;
   const plan = { torches: [], dark, atLeast, layers: new Map() };
   let rows = null;
@@ -19,7 +19,7 @@ function readPlan(text) {
     else if (rows !== null && line !== "") rows.push(line);
     else if (line.startsWith("T ")) {
       const [, x, y, z, hang] = line.split(" ");
-      if (!HANGS_OF_PLANS.includes(hang)) throw new Damaged(`a torch hangs ${hang}`);
+      if (!HANGS_OF_PLANS.includes(hang)) throw damaged(`a torch hangs ${hang}`);
       plan.torches.push({ x: Number(x), y: Number(y), z: Number(z), hang });
     }
   }
@@ -59,7 +59,7 @@ function withCorner(text, { corner, dimension }) {
 /** The dark cells that a text names: three numbers each. */
 function readDark(text) {
   const [first, ...rest] = text.split("\n").filter((line) => line !== "");
-  if (!/^dark /.test(first || "")) throw new Damaged("the program answers otherwise than torchplan");
+  if (!/^dark /.test(first || "")) throw damaged("the program answers otherwise than torchplan");
   return rest.map((line) => line.split(" ").map(Number));
 }
 
@@ -68,7 +68,7 @@ function readLevels(text) {
   const [first, ...rows] = text.split("\n"), [word, ...sides] = first.split(" "), digits = rows.join("");
   const count = sides.reduce((product, side) => product * Number(side), 1);
   if (word !== "levels" || digits.length !== count || !/^[0-9a-f]*$/.test(digits)) {
-    throw new Damaged("the program answers otherwise than torchplan");
+    throw damaged("the program answers otherwise than torchplan");
   }
   return Uint8Array.from(digits, (digit) => parseInt(digit, 16));
 }

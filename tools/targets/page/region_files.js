@@ -39,30 +39,30 @@ class RegionFile {
   /** The chunk's NBT, by its first sector and how many it has; `outside` is the file that it may have of its own. */
   async read(file, first, count, outside) {
     const start = first * SECTOR;
-    if (start < REGION_HEADER) throw new Damaged(`its sector ${first} is one of the header`);
-    if (start + 5 > file.size) throw new Damaged(`its sector ${first} lies behind the file's end`);
+    if (start < REGION_HEADER) throw damaged(`its sector ${first} is one of the header`);
+    if (start + 5 > file.size) throw damaged(`its sector ${first} lies behind the file's end`);
     const head = await bytesOfPart(file, start, 5), length = new DataView(head.buffer).getUint32(0), packing = head[4];
     if (length === 0 || length + 4 > count * SECTOR) {
       const sectors = `${count} of ${grouped(SECTOR)}`;
-      throw new Damaged(`its length of ${grouped(length)} bytes doesn't fit its sectors, ${sectors}`);
+      throw damaged(`its length of ${grouped(length)} bytes doesn't fit its sectors, ${sectors}`);
     }
     const end = start + 4 + length;
     if (end > file.size) {
-      throw new Damaged(`it is cut off: the file ends at ${grouped(file.size)}, the chunk at ${grouped(end)}`);
+      throw damaged(`it is cut off: the file ends at ${grouped(file.size)}, the chunk at ${grouped(end)}`);
     }
     if (packing < OUTSIDE) return unpackedChunk(await bytesOfPart(file, start + 5, length - 1), packing);
     const whole = this.files.get(outside);
-    if (!whole) throw new Damaged(`its file ${outside} isn't there`);
-    if (whole.size > MOST_BYTES) throw new Damaged(`it has more than ${grouped(MOST_BYTES)} bytes`);
+    if (!whole) throw damaged(`its file ${outside} isn't there`);
+    if (whole.size > MOST_BYTES) throw damaged(`it has more than ${grouped(MOST_BYTES)} bytes`);
     return unpackedChunk(await bytesOfPart(whole, 0, whole.size), packing - OUTSIDE);
   }
 }
 
 /** The bytes of a chunk's NBT. */
 async function unpackedChunk(bytes, packing) {
-  if (packing === LZ4) throw new Damaged(LZ4_TOLD);
+  if (packing === LZ4) throw damaged(LZ4_TOLD);
   if (packing === NOT_PACKED) return bytes;
-  if (!(packing in PACKINGS)) throw new Damaged(`its compression ${packing} is none of 1 to 4`);
+  if (!(packing in PACKINGS)) throw damaged(`its compression ${packing} is none of 1 to 4`);
   return unpackedBy(PACKINGS[packing], bytes);
 }
 

@@ -21,7 +21,7 @@ const isNumbered = (root) => root.has("Materials") && root.has("Blocks");
 function emptyBox(size, palette, dataVersion, name) {
   if (!isSmall(size)) {
     const limits = `${LONGEST_SIDE} a side or ${grouped(MOST_CELLS)} in all`;
-    throw new Damaged(`it has ${size.join(" x ")} cells, more than ${limits}: save parts of it`);
+    throw damaged(`it has ${size.join(" x ")} cells, more than ${limits}: save parts of it`);
   }
   return new Box(size, palette, new Int32Array(countOf(size)).fill(NO_ENTRY), { dataVersion, name });
 }
@@ -33,7 +33,7 @@ function vectorIn(entries, name) {
 
 /** So many numbers of so many bits in longs, the first in the lowest bits; one may lie across two longs. */
 function unpackedIndices(bytes, bits, count) {
-  if (bytes.length * 8 < bits * count) throw new Damaged("a region has fewer block states than cells");
+  if (bytes.length * 8 < bits * count) throw damaged("a region has fewer block states than cells");
   const found = new Uint32Array(count), bit = (at) => (bytes[(at >> 6) * 8 + 7 - ((at >> 3) & 7)] >> (at & 7)) & 1;
   for (let index = 0; index < count; index += 1) {
     for (let at = 0; at < bits; at += 1) found[index] |= bit(index * bits + at) << at;
@@ -44,7 +44,7 @@ function unpackedIndices(bytes, bits, count) {
 /** A region of a schematic of Litematica: its lowest corner, its sides, its states, and the longs of its cells. */
 function regionOfLitematic(entries) {
   const at = vectorIn(entries, "Position"), told = vectorIn(entries, "Size");
-  if (told.includes(0)) throw new Damaged("a region has no cells");
+  if (told.includes(0)) throw damaged("a region has no cells");
   // a side that is negative leads from the position downwards
   const low = at.map((place, axis) => place + Math.min(0, told[axis] + 1)), size = told.map(Math.abs);
   const palette = compoundsIn(entries, "BlockStatePalette").map(stateOfEntries);
@@ -56,7 +56,7 @@ function cellsOfRegion({ size, palette, data }) {
   const bits = Math.max(2, 32 - Math.clz32(Math.max(0, palette.length - 1)));
   const found = unpackedIndices(data, bits, countOf(size));
   const most = found.reduce((one, other) => Math.max(one, other), 0);
-  if (most >= palette.length) throw new Damaged(`a region has state ${most} of a palette of ${palette.length}`);
+  if (most >= palette.length) throw damaged(`a region has state ${most} of a palette of ${palette.length}`);
   return found;
 }
 
@@ -64,7 +64,7 @@ function cellsOfRegion({ size, palette, data }) {
 function readLitematic(root, name) {
   const told = [...needed(root, "Regions", COMPOUND).values()].filter(([kind]) => kind === COMPOUND);
   const regions = told.map(([, entries]) => regionOfLitematic(entries));
-  if (regions.length === 0) throw new Damaged("it has no region");
+  if (regions.length === 0) throw damaged("it has no region");
   const least = (axis) => regions.reduce((low, region) => Math.min(low, region.low[axis]), Infinity);
   const most = (axis) => regions.reduce((high, { low, size }) => Math.max(high, low[axis] + size[axis]), -Infinity);
   const low = [0, 1, 2].map(least), size = [0, 1, 2].map((axis) => most(axis) - low[axis]);
@@ -93,7 +93,7 @@ function varints(bytes, count) {
     number = shift = 0;
   }
   if (found.length !== count || shift > 0) {
-    throw new Damaged(`it has ${grouped(found.length)} block states for ${grouped(count)} cells`);
+    throw damaged(`it has ${grouped(found.length)} block states for ${grouped(count)} cells`);
   }
   return found;
 }
@@ -103,7 +103,7 @@ function stateOfText(text) {
   const found = /^([^[\]]+)(?:\[([^[\]]*)\])?$/.exec(text);
   const pairs = found ? (found[2] || "").split(",").filter((pair) => pair !== "") : [];
   if (found === null || !pairs.every((pair) => pair.includes("="))) {
-    throw new Damaged(`its palette has '${text}', which is no block state`);
+    throw damaged(`its palette has '${text}', which is no block state`);
   }
   return [found[1], new Map(pairs.map((pair) => pair.split(/=(.*)/s).slice(0, 2)))];
 }
@@ -113,7 +113,7 @@ function readSponge(schematic, name) {
   const version = heldIn(schematic, "Version", INT);
   if (version !== 2 && version !== 3) {
     const told = version === null ? "None" : version;
-    throw new Damaged(`it is a schematic of Sponge's version ${told}; versions 2 and 3 are read`);
+    throw damaged(`it is a schematic of Sponge's version ${told}; versions 2 and 3 are read`);
   }
   const size = ["Width", "Height", "Length"].map((side) => needed(schematic, side, SHORT) & 0xffff);
   const blocks = version === 3 ? needed(schematic, "Blocks", COMPOUND) : schematic, names = new Map();
@@ -125,7 +125,7 @@ function readSponge(schematic, name) {
   const palette = indices.map((index) => stateOfText(names.get(index)));
   const box = emptyBox(size, palette, heldIn(schematic, "DataVersion", INT), name);
   const found = varints(needed(blocks, version === 3 ? "Data" : "BlockData", BYTES), box.cells.length);
-  if (!found.every((index) => places.has(index))) throw new Damaged("a cell has a state that its palette hasn't");
+  if (!found.every((index) => places.has(index))) throw damaged("a cell has a state that its palette hasn't");
   box.cells.set(found.map((index) => places.get(index)));
   return box;
 }

@@ -59,14 +59,14 @@ function isSmall(size) {
 /** The three numbers of a list. */
 function three(entries, name) {
   const [kind, numbers] = needed(entries, name, LIST);
-  if (kind !== INT || numbers.length !== 3) throw new Damaged(`its ${name} has the wrong type`);
+  if (kind !== INT || numbers.length !== 3) throw damaged(`its ${name} has the wrong type`);
   return numbers;
 }
 
 /** The box of a structure by its root. What the program refuses is a fault here too, but in other words. */
 function structureOfRoot(root, name) {
   const size = three(root, "size");
-  if (!isSmall(size)) throw new Damaged("its size is beyond the limits");
+  if (!isSmall(size)) throw damaged("its size is beyond the limits");
   const palette = compoundsIn(root, "palette").map(stateOfEntries);
   const cells = new Int32Array(countOf(size)).fill(NO_ENTRY);
   const box = new Box(size, palette, cells, { dataVersion: heldIn(root, "DataVersion", INT), name });
@@ -74,7 +74,7 @@ function structureOfRoot(root, name) {
     const at = three(entry, "pos"), state = needed(entry, "state", INT);
     const isInside = at.every((place, axis) => place >= 0 && place < size[axis]);
     if (!isInside || state < 0 || state >= palette.length) {
-      throw new Damaged("a block lies outside of the box or has no state");
+      throw damaged("a block lies outside of the box or has no state");
     }
     cells[box.number(...at)] = state;
   }

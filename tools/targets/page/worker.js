@@ -15,7 +15,7 @@ onmessage = async ({ data: { tables, ...asked } }) => {
     postMessage(await answerTo(asked));
   } catch (error) {
     const { message, line = null, more = [] } = error;
-    const sentence = error instanceof Refused ? message : isOfEngine(error)
+    const sentence = error instanceof Refusal && error.hasPlace ? message : isOfEngine(error)
       ? "This cave takes more stack or memory than this browser gives a page. Use the program for it."
       : `Something went wrong in this page: ${error}`;
     postMessage({ refused: { sentence, line, more } });

@@ -40,10 +40,10 @@ async function caveOfExtent(world, extent) {
 /** The cave of a box of the world of these files, told by two corners. */
 async function caveOfWorld(files, dimension, corners, rule) {
   const extent = extentBetween(...corners), { world } = await worldOf(files, dimension);
-  if (world.dimension !== OVERWORLD && rule === null) throw new Refused(OTHER_RULE);
+  if (world.dimension !== OVERWORLD && rule === null) throw new Refusal(OTHER_RULE);
   if (!isSmallExtent(extent)) {
     const most = `sides up to ${LONGEST_SIDE - 2}, and ${grouped(MOST_CELLS)} cells with one layer more on each side`;
-    throw new Refused(`The box has ${sizeOfExtent(extent).join(" x ")} cells. A page plans boxes with ${most}; light on a` +
+    throw new Refusal(`The box has ${sizeOfExtent(extent).join(" x ")} cells. A page plans boxes with ${most}; light on a` +
       " computer plans larger areas in pieces.");
   }
   await requireBlocks(world, extent);

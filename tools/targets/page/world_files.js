@@ -16,7 +16,7 @@ function rootFolder(paths) {
   const nearest = found.filter((_, at) => depths[at] === least);
   if (nearest.length > 1) {
     const names = nearest.map((folder) => folder.split("/").pop()).sort(byCharacters);
-    throw new Refused(`There are ${nearest.length} worlds here (${names.slice(0, 5).join(", ")}). Choose one of them.`);
+    throw new Refusal(`There are ${nearest.length} worlds here (${names.slice(0, 5).join(", ")}). Choose one of them.`);
   }
   return nearest.length === 1 ? nearest[0] : null;
 }
@@ -38,7 +38,7 @@ function worldAmong(files) {
     if (!folders.has(folder)) folders.set(folder, new Map());
     folders.get(folder).set(own, file);
   }
-  if (found.size === 0) throw new Refused(NO_REGIONS);
+  if (found.size === 0) throw new Refusal(NO_REGIONS);
   const dimensions = new Map([...found].map(([dimension, folders]) => [dimension, firstOf(dimension, folders)]));
   return { name: name || ALONE, level, dimensions };
 }
@@ -70,7 +70,7 @@ async function worldOf(files, told = null) {
   const { name, level, dimensions } = worldAmong(files), tells = await levelOf(level), { player } = tells;
   const names = [...dimensions.keys()], only = names.length === 1 ? names[0] : OVERWORLD;
   const dimension = told || (player && dimensions.has(player.dimension) ? player.dimension : only);
-  if (!dimensions.has(dimension)) throw new Refused(`This world has no region files of ${dimension}. ${NO_REGIONS}`);
+  if (!dimensions.has(dimension)) throw new Refusal(`This world has no region files of ${dimension}. ${NO_REGIONS}`);
   return { world: new World(name, dimension, dimensions.get(dimension), tells), names };
 }
 

@@ -16,7 +16,7 @@ async function levelOf(file) {
     const dataVersion = heldIn(data, "DataVersion", INT);
     return { dataVersion, player: playerOf(heldIn(data, "Player", COMPOUND) || new Map()) };
   } catch (fault) {
-    throw fault instanceof Damaged ? refusedLine(`level.dat: ${fault.message}`) : fault;
+    throw withPlace("level.dat", fault);
   }
 }
 
@@ -52,21 +52,16 @@ class World {
       const data = await file.chunk(x, z);
       found = data === null ? null : new Chunk(data, x, z);
     } catch (fault) {
-      if (fault instanceof NotWhole) throw new NotWhole(`${where}: ${fault.message}`);
-      throw fault instanceof Damaged ? refusedLine(`${where}: ${fault.message}`) : fault;
+      throw withPlace(where, fault);
     }
-    if (found && this.level.dataVersion === null) this.dataVersion = Math.max(this.dataVersion, found.dataVersion);
+    if (found && found.isWhole && this.level.dataVersion === null) this.dataVersion = Math.max(this.dataVersion, found.dataVersion);
     return found;
   }
 
   /** A chunk that the game has made and finished, or null. */
   async whole(x, z) {
-    try {
-      return await this.chunk(x, z);
-    } catch (fault) {
-      if (fault instanceof NotWhole) return null;
-      throw fault;
-    }
+    const found = await this.chunk(x, z);
+    return found && found.isWhole ? found : null;
   }
 
   /** The lowest and the highest layer in which blocks can be. */
@@ -136,13 +131,12 @@ async function grownChunks(world, home, wanted) {
 /** Refuses places none of whose chunks is there and finished. */
 async function requireChunks(world, places) {
   for (const at of places) if ((await world.whole(...at)) !== null) return;
-  try {
-    await world.chunk(...places[0]);
-  } catch (fault) {
-    throw fault instanceof NotWhole ? refusedLine(fault.message) : fault;
-  }
   const [x, z] = places[0], more = places.length - 1, also = more ? `, nor are ${more} more of the box` : "";
-  const { name } = new RegionFile(world.files, x, z);
+  const { name } = new RegionFile(world.files, x, z), found = await world.chunk(x, z);
+  if (found) {
+    throw refusedLine(`region file ${name}: chunk ${x} ${z}: the game hasn't finished it (Status ${found.status}): walk` +
+      " there first");
+  }
   throw refusedLine(`region file ${name}: chunk ${x} ${z} isn't there${also}: walk there in the game first`);
 }
 
@@ -170,8 +164,7 @@ async function readBox(world, extent) {
     try {
       if (found !== null) fillChunk(box, states, found, world.heights(), x, z);
     } catch (fault) {
-      if (!(fault instanceof Damaged)) throw fault;
-      throw refusedLine(`region file ${new RegionFile(world.files, x, z).name}: chunk ${x} ${z}: ${fault.message}`);
+      throw withPlace(`region file ${new RegionFile(world.files, x, z).name}: chunk ${x} ${z}`, fault);
     }
   }
   box.dataVersion = world.dataVersion;
