@@ -1,5 +1,5 @@
-"""The page that plans by itself, of its parts in page/, of what tools/user has (the page of a plan, releases, how blocks
-are drawn), of the shipped rows in docs/FORMATS.md and the vanilla tables. So each of these stands once."""
+"""The page that plans by itself, of its parts in page/, of what tools/user has (the page of a plan, releases, how
+blocks are drawn), of the shipped rows in docs/FORMATS.md and the vanilla tables. So each of these stands once."""
 import base64
 import gzip
 import json
