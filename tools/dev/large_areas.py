@@ -10,7 +10,7 @@ import areas, caves, made_worlds, pieces, plans, worlds
 from extents import Extent
 from meaning import Cave
 from repository import TOOLS
-from rows import class_of
+from shipped import Apart, class_of
 from timing import timed
 
 SIZE = WIDE, TALL, LONG = 512, 128, 512
@@ -129,7 +129,7 @@ def tried(program, rows, seed):
 def measure_reading(world, rows, say):
     """Tells how long it takes to find the caves of the area, and to cut them into pieces."""
     began = time.process_time()
-    found, _ = areas.caves_of(worlds.World(world), EXTENT, rows, 2)
+    found, _ = areas.caves_of(worlds.World(world), EXTENT, Apart(rows), 2)
     read = time.process_time() - began
     cut = pieces.pieces_of(found)
     seconds, each = time.process_time() - began - read, read / (WIDE * TALL * LONG / 1e6)

@@ -6,7 +6,8 @@ import repository  # it makes the modules of ../user known
 from nbt_reader import root_of
 from nbt_writer import COMPOUND, INT, LIST, TEXT
 from refusals import Refusal as Fault
-from rows import COLUMNS, Row, row_of
+from rows import COLUMNS, Row
+from shipped import row_of
 
 SIDE, CELLS = 128, 262_144
 I64 = range(-(2**63), 2**63)

@@ -1,5 +1,5 @@
-"""The page that plans by itself, of its parts in page/ and of what tools/user has: the page of a plan, releases,
-shipped rows, how blocks are drawn, the vanilla tables. So each of these stands once in the repository."""
+"""The page that plans by itself, of its parts in page/, of what tools/user has (the page of a plan, releases, how
+blocks are drawn), of the shipped rows in docs/FORMATS.md and the vanilla tables. So each of these stands once."""
 import base64
 import gzip
 import json
@@ -8,7 +8,7 @@ import sys
 
 import kit
 
-sys.path.insert(1, os.path.join(kit.TOP, "tools", "user"))
+sys.path[1:1] = [os.path.join(kit.TOP, "tools", folder) for folder in ("user", "dev")]
 import box_runs
 import chunks
 import dimensions
@@ -16,6 +16,7 @@ import looks
 import page
 import rows
 import shells
+import shipped
 import unknowns
 import versions
 import worlds
@@ -50,7 +51,8 @@ def data(version):
         "version": version,
         "releases": versions.RELEASES,
         "renamed": versions.RENAMED,
-        "shipped": rows.SHIPPED,
+        "shipped": [[" ".join(names), opacity, emission, " ".join(columns)]
+                    for names, opacity, emission, columns in shipped.listed()],
         "unknown": unknowns.HEAD,
         "columns": rows.COLUMNS,
         "chunks": {"earliest": chunks.EARLIEST, "leftOut": sorted(name.decode() for name in chunks.LEFT_OUT)},

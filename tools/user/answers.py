@@ -1,11 +1,15 @@
-"""What the planner answers of a cave: its dark cells, its levels, its plan, and the verdict on the plan's proof."""
+"""What the planner answers of a cave: its dark cells, its levels, its plan, and the verdict on the plan's proof; and of
+block states: the rows that serve them."""
 import os
 import sys
+import tempfile
 from collections import namedtuple
 
-from plans import read_dark, read_levels, read_plan
+from folders import put
+from plans import read_dark, read_levels, read_plan, read_rows
 from program import EDGE
 from refusals import Refusal, unwritable
+from structures import structure_file
 
 REJECTED, STOPPED = 4, 5  # the status of a proof that isn't accepted, of a plan that may have more torches than needed
 # A turn takes up to 30 microseconds for each dark cell of its region. With these turns, over the number of dark cells,
@@ -53,6 +57,15 @@ def levels(program, folder, *plan):
     _, text, _ = answer(program, "levels", list(map(path, ["cave.nbt", *plan])), path("plan.levels"))
     os.remove(path("plan.levels"))
     return read_levels(text)
+
+
+def rows(program, states, table):
+    """Has it tell the row of each of these block states by a table, None where none fits."""
+    with tempfile.TemporaryDirectory() as folder:
+        palette = put(folder, "states.nbt", structure_file((0, 0, 0), states, []))
+        words = [palette, "--table", table.path or put(folder, "table.toml", table.data)]
+        _, text, _ = answer(program, "rows", words, os.path.join(folder, "states.rows"))
+    return read_rows(text, states)
 
 
 def planned(program, folder, told, dark):

@@ -29,8 +29,6 @@ def light_area(told, world, extent, place, own, version, began):
     if told.hosts is not None:
         require_parallel()
     terms = terms_for(told, world.data_version, own)
-    if terms.rows is None:
-        raise Refusal(f"light can't read {terms.table.name}: write its rows as tables [[row]], or use Python 3.11")
     about = sources.extent_about(world, extent)  # as of a box, the walk may go some layers beyond the area
     is_reached = box_runs.reached_by(told, area_walks.Walk(world, about, terms.rows).reached_from)
     area = box_runs.Context(is_reached, area=extent)

@@ -14,6 +14,7 @@ import structures
 import walks
 from dimensions import OVERWORLD
 from folders import put
+from program import OTHERWISE
 from refusals import Refusal
 from saying import counted, note
 
@@ -21,7 +22,6 @@ OTHER_LEVELS = (
     "in the Nether and the End mobs spawn at other levels than in the Overworld, some at any: by this rule torches"
     " don't keep all of them away"
 )
-OTHERWISE = "{} answers otherwise than torchplan"
 MANY = 10  # so many notes are said at the terminal
 APART = "{} only cells where nobody gets to on foot, last in the list: --reachable leaves them out"
 
@@ -34,12 +34,8 @@ Context = namedtuple("Context", "is_reached piece area there", defaults=(None, N
 Changes = namedtuple("Changes", "away placed apart")
 
 
-def require_rows(cave, terms):
-    """Refuses what asks for the rows of a table that Python can't read."""
-    told = terms.told
-    asks = cave.around is not None or told.walk or told.only or told.barred
-    if terms.rows is None and asks:
-        raise Refusal(f"light can't read {terms.table.name}: write its rows as tables [[row]], or use Python 3.11")
+def require_box(cave, told):
+    """Refuses what asks for the blocks of a file that is read by the planner alone."""
     if cave.box is None and (told.walk or told.only or told.barred or told.move):
         raise Refusal(f"{told.file}: light doesn't read this file, so it can't leave anything out")
 

@@ -1,5 +1,4 @@
 """A box with a border about it, which nothing enters: that saves asking where the box ends."""
-from rows import class_of
 
 OPAQUE = 15  # the opacity that stops light
 CLOSED = 255  # what it costs to enter a cell without a row, or what lies about the box
@@ -14,7 +13,7 @@ class Field:
         self.box = box
         self.wide, self.tall, self.long = box.size
         self.row, self.layer = self.wide + 2, (self.wide + 2) * (self.long + 2)
-        self.classes = [class_of(rows, state) for state in box.palette]
+        self.classes = rows.rows_of(box.palette)
         self.costs = self.told(lambda row: max(1, row.opacity), CLOSED)
 
     def told(self, value, other):

@@ -100,8 +100,16 @@ def light(told):
         name = sources.name_of_file(told.file)
     place = os.path.normpath(os.path.join(told.into, f"{name}-torches"))
     require_place(place, told.force)
-    if told.file is not None:
-        return light_box(told, sources.read_file(told.file, name), place, own, version, began)
+    try:
+        if told.file is not None:
+            return light_box(told, sources.read_file(told.file, name), place, own, version, began)
+        return light_world(told, world, extent, place, own, version, began)
+    except Ended as ended:
+        return said_by(ended, place, own)
+
+
+def light_world(told, world, extent, place, own, version, began):
+    """The run of a box of a world, or of an area; the status."""
     worlds.require_blocks(world, extent)
     if not extents.is_small(extent):
         return area_lighting.light_area(told, world, extent, place, own, version, began)
@@ -114,20 +122,17 @@ def light(told):
 def light_box(told, cave, place, own, version, began):
     """The run of one box, or of a file; the status."""
     terms = terms_for(told, cave.box and cave.box.data_version, own)
-    names = unknowns.unknown_names(cave.box, terms.rows) if cave.box and terms.rows is not None else []
+    names = unknowns.unknown_names(cave.box, terms.rows) if cave.box else []
     if names:
         refuse_unknown(names, place, own)
-    box_runs.require_rows(cave, terms)
-    try:
-        with new_folder(place, told.force) as folder:
-            reached_from = lambda point: reaching.reached_from(cave.around or cave.box, terms.rows, point)
-            context = box_runs.Context(box_runs.reached_by(told, reached_from))
-            outcome = box_runs.planned(Program(), folder, terms, cave, context)
-            box_runs.say_notes(outcome)
-            changes = box_runs.filled(folder, cave, outcome, terms, version, context)
-            for line in box_runs.apart_lines(changes.apart):
-                note(line)
-    except Ended as ended:
-        return said_by(ended, place, own)
+    box_runs.require_box(cave, told)
+    with new_folder(place, told.force) as folder:
+        reached_from = lambda point: reaching.reached_from(cave.around or cave.box, terms.rows, point)
+        context = box_runs.Context(box_runs.reached_by(told, reached_from))
+        outcome = box_runs.planned(Program(), folder, terms, cave, context)
+        box_runs.say_notes(outcome)
+        changes = box_runs.filled(folder, cave, outcome, terms, version, context)
+        for line in box_runs.apart_lines(changes.apart):
+            note(line)
     answer(summary(outcome, changes, cave.box.name, place, time.monotonic() - began))
     return 0 if outcome.plan.at_least is None else answers.STOPPED

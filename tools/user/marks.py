@@ -1,6 +1,5 @@
 """What the cells of a box are, a byte for each: whether light passes, a mob could spawn there, or a torch stands."""
 from fields import OPAQUE
-from rows import class_of
 from standing import is_torch
 
 PASSES, FREE, STANDS, TORCH = 1, 2, 4, 8
@@ -9,7 +8,7 @@ TABLES = [bytes(kind // one & 1 for kind in range(256)) for one in (PASSES, FREE
 
 def marked(box, rows, headroom):
     """Which cells of a box let light through, in which a mob could spawn, and which have a torch: a byte for each."""
-    kinds = bytes(map(kind_of, box.palette, [class_of(rows, state) for state in box.palette])) + b"\0"
+    kinds = bytes(map(kind_of, box.palette, rows.rows_of(box.palette))) + b"\0"
     told = bytes([kinds[cell] for cell in box.cells])
     passes, free, stands, torches = (told.translate(table) for table in TABLES)
     layer = box.size[0] * box.size[2]

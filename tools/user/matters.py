@@ -3,7 +3,7 @@ may stay dark is read as no ground, a cell without a torch as no place: by rows 
 from boxes import Box
 from fields import OPAQUE, Field
 from marks import marked
-from rows import COLUMNS, Row, class_of
+from rows import COLUMNS, Row
 from shells import light_of
 from windows import REACH, Window
 
@@ -12,13 +12,12 @@ def changed(box, rows, cells, column, word):
     """The box in which a column is false in these cells, and the rows that are new. The names of their states begin
     with a word."""
     found = Box(box.size, list(box.palette), box.cells[:], box.corner, box.dimension, box.data_version, box.name)
-    made, new = {}, []
+    made, new, classes = {}, [], rows.rows_of(box.palette)
     for number in cells:
         index = box.cells[number]
         if index not in made:
-            row = class_of(rows, box.palette[index])
             made[index] = len(found.palette)
-            new.append(row._replace(name=f"{word}:{len(new) + 1}".encode(), when={}, **{column: False}))
+            new.append(classes[index]._replace(name=f"{word}:{len(new) + 1}".encode(), **{column: False}))
             found.palette.append((new[-1].name.decode(), {}))
         found.cells[number] = made[index]
     return found, new
@@ -26,8 +25,7 @@ def changed(box, rows, cells, column, word):
 
 def cells_with(box, rows, column):
     """The numbers of the cells whose row has a column."""
-    classes = [class_of(rows, state) for state in box.palette]
-    has = {index for index, row in enumerate(classes) if row and getattr(row, column)}
+    has = {index for index, row in enumerate(rows.rows_of(box.palette)) if row and getattr(row, column)}
     return [number for number, cell in enumerate(box.cells) if cell in has]
 
 

@@ -17,6 +17,7 @@ from box_runs import Context
 from boxes import Box
 from command_lines import parsed
 from extents import Extent
+from lookups import Lookup
 from piece_runs import planned_cave, read_piece
 from pieces import Piece
 from program import Program
@@ -73,7 +74,7 @@ def planned(job, folder):
         raise Refusal("torchplan is another than where the area is planned: take the same commit on all machines")
     name, text = job["table"]
     told, table = parsed(job["words"]), tables.Table(name, text.encode("utf-8", "surrogateescape"), None)
-    terms = planning.Terms(told, table, tables.rows_of(table), job["rule"])
+    terms = planning.Terms(told, table, Lookup(table), job["rule"])
     extent, seeds, torches = job["piece"]
     piece = Piece(read_extent(extent), list(map(tuple, seeds)), list(map(tuple, torches)))
     size, palette, cells, corner, dimension, data_version = job["around"]

@@ -14,8 +14,7 @@ from program import UNLIGHTABLE, Ended
 LEFT = "cells stay dark since no torch may stand where it would light them (--not): "
 NEEDS = {"1.18": 1, "1.17": 8}  # the level that keeps mobs away, by rule
 
-# What a run goes by: the words of the command line, the table with its rows as Python reads them (None where it can't),
-# and the rule.
+# What a run goes by: the words of the command line, the table, which of its rows serve block states, and the rule.
 Terms = namedtuple("Terms", "told table rows rule")
 
 # A cave as it stands, or None where only the planner reads it; as the planner reads it, where states of made names may
@@ -51,8 +50,8 @@ def without(layout, rows, cells):
 
 
 def rows_for(terms, layout):
-    """All rows as Python reads them; None where it can't."""
-    return None if terms.rows is None else [*terms.rows, *layout.rows]
+    """Which rows serve block states, those of made names too."""
+    return terms.rows.with_made(layout.rows)
 
 
 def laid_out(program, folder, terms, layout):
@@ -84,7 +83,7 @@ def planned(program, folder, terms, layout):
         else:
             lines += slabs.lines(layout.box, cells)
             layout = with_slabs(layout, cells)
-    if terms.rows is not None and layout.box is not None and not terms.told.as_planned:
+    if layout.box is not None and not terms.told.as_planned:
         rows, need = rows_for(terms, layout), NEEDS[terms.rule]
         plan, verdict = rearranged(program, folder, layout.read, rows, dark.cells, need, plan, verdict)
     if layout.box is not None and not layout.has_shell:

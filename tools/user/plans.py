@@ -1,8 +1,10 @@
-"""Reading what the program prints: plans, lists of dark cells, and levels."""
+"""Reading what the program prints: plans, lists of dark cells, levels, and the rows of block states."""
 import math
+import re
 from collections import namedtuple
 
 from refusals import damaged
+from rows import COLUMNS, Row
 
 # Torches in the order of the plan: the coordinates of each, and how it hangs (floor, or the way that it faces).
 Torch = namedtuple("Torch", "x y z hang")
@@ -37,6 +39,7 @@ def read_plan(text):
     return Plan(torches, dark, at_least, layers)
 
 
+ROW = re.compile(r"(?:-|(\d+) (\d+)((?: [a-z]+)*))\t")
 DIGITS = bytes.maketrans(b"0123456789abcdef", bytes(range(16)))
 
 SIGNS = {"floor": "T", "north": "^", "east": ">", "south": "v", "west": "<"}
@@ -86,3 +89,17 @@ def read_levels(text):
     if not is_whole or max(levels, default=0) > 15:
         raise damaged("levels: a line of their sides comes first, then a digit for each cell")
     return levels
+
+
+def read_rows(text, states):
+    """The rows that a text tells of block states, in their order: None of a state that none serves."""
+    told = list(map(ROW.match, text.splitlines()))
+    if len(told) != len(states) or not all(told):
+        raise damaged("rows: a line for each block state tells a row or -, and behind a tab its name")
+    return [found[1] and row_in(found, name) for found, (name, _) in zip(told, states)]
+
+
+def row_in(found, name):
+    """The row that a line tells of a block of that name, by what was found in it."""
+    columns = found[3].split()
+    return Row(name.encode(), {}, int(found[1]), int(found[2]), *(column in columns for column in COLUMNS))

@@ -12,6 +12,7 @@ MARK = "torchplan: "
 UNKNOWN, UNLIGHTABLE, UNWRITTEN = "unknown block ", "unlightable ", "cannot write"
 EDGE = "free cells lie at the box's edge: "
 KEPT = (UNKNOWN, UNLIGHTABLE, EDGE, UNWRITTEN)
+OTHERWISE = "{} answers otherwise than torchplan"
 
 
 class Ended(Exception):

@@ -1,6 +1,5 @@
 """Where one gets to from a place by walking, jumping, climbing, swimming and falling, as far as blocks are known. It
 errs towards more: what isn't full lets one through, and a jump carries four blocks."""
-from rows import class_of
 
 THROUGH, HOLDS = 1, 2  # one can be in the cell; one can rise in it, as in water or on a ladder
 JUMP = 4
@@ -26,7 +25,7 @@ class Ground:
     def __init__(self, box, rows):
         wide, tall, long = self.size = box.size
         self.row, self.layer = wide + 1, (wide + 1) * (long + 1)
-        flags = bytes([flags_of(class_of(rows, state)) for state in box.palette]) + b"\0"
+        flags = bytes(map(flags_of, rows.rows_of(box.palette))) + b"\0"
         told, closed = bytearray(), bytes(self.row)
         for start in range(0, len(box.cells), wide):
             told += bytes([flags[cell] for cell in box.cells[start : start + wide]]) + b"\0"

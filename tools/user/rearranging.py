@@ -9,7 +9,6 @@ from boxes import Box
 from folders import put
 from places import sign_of
 from refusals import Refusal
-from rows import class_of
 from structures import box_file
 from torches import state_of
 
@@ -22,7 +21,7 @@ def read(folder, name):
 def rearranged(program, folder, box, rows, dark, need, plan, verdict):
     """The plan with torches that were moved to where they stand better, and the verdict on its proof. It stays as it
     was where Python draws it otherwise than the planner, or the planner doesn't accept what was moved."""
-    signs = [sign_of(class_of(rows, state)) for state in box.palette]
+    signs = list(map(sign_of, rows.rows_of(box.palette)))
     before = read(folder, "plan.txt")
     if not plan.torches or plans.text_of(plan, box, signs) != before:
         return plan, verdict

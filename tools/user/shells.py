@@ -6,7 +6,7 @@ import re
 
 from boxes import Box
 from fields import Field
-from rows import Row, class_of
+from rows import Row
 
 MARGIN = 16  # layers about a box that are read: light that comes from farther has faded
 BRIGHTEST = 15
@@ -48,11 +48,11 @@ def light_of(field):
 
 def shelled(box, around, rows, headroom):
     """A box as the planner reads it, whose outermost layers are its shell, and the rows of the shell's states. `around`
-    is a larger box of the same world, `rows` those of the table, `headroom` the free cells that a mob needs."""
+    is a larger box of the same world, `rows` tells those of the table, `headroom` the free cells that a mob needs."""
     field = Field(around, rows)
     levels = light_of(field)
     offset = [at - low for at, low in zip(box.corner, around.corner)]
-    classes = [class_of(rows, state) for state in box.palette]
+    classes = rows.rows_of(box.palette)
     found = Box(box.size, list(box.palette), box.cells[:], box.corner, box.dimension, box.data_version, box.name)
     made = {}
     for number, is_high in outer(box.size):

@@ -14,8 +14,6 @@ ROW = Row(SLAB[0].encode(), {}, 15, 0, False, False, False, False, False)
 def needed(program, folder, box, rows, dark, need, told):
     """The dark cells that no torch can light, the one that the planner told among them: those that stay dark with a
     torch at every place. The folder has the cave, and gets a plan of these torches."""
-    if rows is None:
-        return [told]
     torches = [plans.Torch(*box.position(number), hang) for number, hang in hangs_of(box, rows).items()]
     put(folder, "plan.txt", plans.text_of_torches(plans.Plan(torches, len(dark), None, {})).encode())
     levels = answers.levels(program, folder, "plan.txt")

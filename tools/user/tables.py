@@ -5,7 +5,8 @@ import re
 from collections import namedtuple
 
 from refusals import unreadable
-from toml_rows import inline_text_of, read_rows, text_of
+from rows import COLUMNS, Row
+from toml_rows import inline_text_of, text_of
 from versions import LATEST, release
 
 FOLDER = os.path.join(os.path.dirname(os.path.abspath(__file__)), "..", "..", "examples", "tables")
@@ -15,6 +16,10 @@ OLD_VERSIONS = range(release("1.17").data_version, release("1.19").data_version)
 STEADY = b"\n    # steady: "
 ROW = re.compile(rb"^[ \t]*\[\[[ \t]*row[ \t]*\]\]", re.MULTILINE)
 ARRAY = re.compile(rb"^[ \t]*row[ \t]*=[ \t]*\[", re.MULTILINE)
+# A row of a vanilla table has a line of its own. Its entries, and the properties that it asks for.
+VANILLA_ROW = re.compile(rb"^    \{ (.*) \},", re.MULTILINE)
+ENTRY = re.compile(rb'(\w+) = (?:"([^"]*)"|\{ (.*?) \}|(\w+))')
+ASKED = re.compile(rb'(\w+) = "([^"]*)"')
 
 # What a table is called, and its text. One that lies in examples/tables has its path there, others none.
 Table = namedtuple("Table", "name data path")
@@ -51,13 +56,23 @@ def chosen(data_version, own=None, is_steady=False):
     path = os.path.normpath(os.path.join(FOLDER, name))
     table = Table(name, read(path), path)
     if own is not None and ROW.search(own.data):
-        rows = read_rows(table.data.replace(STEADY, b"\n    ") if is_steady else table.data)
+        rows = vanilla_rows(table.data.replace(STEADY, b"\n    ") if is_steady else table.data)
         told = f"{own.name}, then {name}" + (" with its steady lights" if is_steady else "")
         return Table(told, own.data + b"\n" + "".join(map(text_of, rows)).encode(), None)
     table = own or table
     if not is_steady:
         return table
     return Table(f"{table.name} with its steady lights", table.data.replace(STEADY, b"\n    "), None)
+
+
+def vanilla_rows(data):
+    """The rows of a vanilla table."""
+    found = []
+    for line in VANILLA_ROW.findall(data):
+        told = {key.decode(): text or asked or word for key, text, asked, word in ENTRY.findall(line)}
+        when, flags = dict(ASKED.findall(told.get("when", b""))), [column in told for column in COLUMNS]
+        found.append(Row(told["name"], when, int(told["opacity"]), int(told.get("emission", 0)), *flags))
+    return found
 
 
 def with_rows(data, rows):
@@ -72,11 +87,3 @@ def with_rows(data, rows):
 def more_of(table, rows):
     """The table with more rows."""
     return Table(table.name, with_rows(table.data, rows), None) if rows else table
-
-
-def rows_of(table):
-    """The rows that Python reads of a table; None where it can't."""
-    try:
-        return read_rows(table.data)
-    except (ValueError, AttributeError, TypeError):
-        return None

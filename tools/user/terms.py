@@ -3,6 +3,7 @@ import planning
 import tables
 import unknowns
 from folders import put_table
+from lookups import Lookup
 from refusals import Refusal
 from saying import counted, note
 from versions import LATEST, release, release_of
@@ -24,7 +25,7 @@ def terms_for(told, version, own):
     if tables.is_later(version):
         note(f"data version {version} is later than {LATEST.name}: a block that is new is refused by its name")
     table = tables.chosen(version, own, told.steady)
-    return planning.Terms(told, table, tables.rows_of(table), rule_for(told.rule, version))
+    return planning.Terms(told, table, Lookup(table), rule_for(told.rule, version))
 
 
 def refuse_unknown(names, place, own):

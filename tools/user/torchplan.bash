@@ -13,12 +13,13 @@ _torchplan() {
         --proof) COMPREPLY=($(compgen -f -- "$word")); return ;;
     esac
     if [[ $COMP_CWORD == 1 ]]; then
-        COMPREPLY=($(compgen -W "plan check dark levels help --help --version" -- "$word"))
+        COMPREPLY=($(compgen -W "plan check dark levels rows help --help --version" -- "$word"))
     elif [[ $word == -* ]]; then
         case $command in
             plan) all="$rules --proof --workers --turns --progress --help" ;;
             check) all="$rules --help" ;;
             dark | levels) all="$rules --progress --help" ;;
+            rows) all="--table --help" ;;
         esac
         COMPREPLY=($(compgen -W "$all" -- "$word"))
     else

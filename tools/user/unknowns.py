@@ -1,7 +1,7 @@
 """Blocks that no table has: their names, and a table that has them, for its owner to look over."""
 import re
 
-from rows import Row, class_of
+from rows import Row
 from tables import with_rows
 
 KNOWN_NAME = re.compile(r"[a-z0-9_.-]+:[a-z0-9_./-]+")
@@ -18,8 +18,8 @@ HEAD = """\
 def unknown_names(box, rows):
     """The names of the blocks of a box that no row fits, each once, in the order of the palette."""
     used = set(box.cells)
-    unfit = [name for index, (name, props) in enumerate(box.palette)
-             if index in used and class_of(rows, (name, props)) is None]
+    unfit = [name for index, ((name, _), row) in enumerate(zip(box.palette, rows.rows_of(box.palette)))
+             if index in used and row is None]
     return list(dict.fromkeys(unfit))
 
 

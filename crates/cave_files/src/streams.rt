@@ -50,10 +50,10 @@ pub const fn zeros_of(left: usize) -> Zeros {
     Zeros { left, given: 0 }
 }
 
-/// Takes up to 24 bytes, and no memory, and fails where more come.
+/// Takes up to 64 bytes, and no memory, and fails where more come.
 #[derive(Drop)]
 pub struct ShortWriter {
-    taken: [u8; 24],
+    taken: [u8; 64],
     count: usize,
 }
 
@@ -61,7 +61,7 @@ impl ShortWriter {
     /// It has taken nothing yet.
     pub fn new() -> ShortWriter {
         ShortWriter {
-            taken: [0; 24],
+            taken: [0; 64],
             count: 0,
         }
     }

@@ -41,6 +41,11 @@ IsNoStructure bytes fault = (inner : ScanFault) × structure.IsFaultOf bytes inn
 abbrev pub IsNoTable : Option (List ℕ) → CaveFault → Type 0
 IsNoTable table fault = (inner : RowsFault) × IsTableFault table inner × (fault ≡ faults.Table inner)
 
+-- why there is no structure with rows: the bytes are no structure; else the table is none
+abbrev pub IsFaultOfParts : List ℕ → Option (List ℕ) → CaveFault → Type 0
+IsFaultOfParts bytes table fault =
+    IsNoStructure bytes fault ⊎ ((scan : Structure) × Scans bytes scan × IsNoTable table fault)
+
 -- the structure names a block without a row
 abbrev pub IsUnknownIn : Structure → Option (List ℕ) → CaveFault → Type 0
 IsUnknownIn scan table fault = (rows : Table) × IsTableFor table rows

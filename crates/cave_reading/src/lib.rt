@@ -5,9 +5,11 @@ mod building;
 mod cave_fault;
 mod fault;
 pub mod laws;
+mod name;
 mod reading;
 
 pub use building::build;
 pub use cave_fault::CaveFault;
 pub use fault::BuildFault;
-pub use reading::read_cave;
+pub use name::ShownName;
+pub use reading::{read_cave, read_parts};

@@ -5,15 +5,16 @@ ghost use Rattle.block_rows.specs.declared.fault.RowsFault.{RowsFault};
 ghost use Rattle.cave_base.specs.Answer.{IsAnswer, IsRefusal};
 ghost use Rattle.cave_model.specs.Cave.{Cave};
 ghost use Rattle.cave_model.specs.RuleOf.{rule_of};
-ghost use Rattle.cave_reading.specs.Bytes.{IsCaveOfBytes, IsFaultOfBytes};
+ghost use Rattle.cave_reading.specs.Bytes.{IsCaveOfBytes, IsFaultOfBytes, IsFaultOfParts};
 ghost use Rattle.cave_reading.specs.Bytes.{IsTableFault, IsTableFor};
 ghost use Rattle.cave_reading.specs.declared.cave_fault.CaveFault.{CaveFault};
+ghost use Rattle.scan_core.specs.Scan.{Scans, Structure};
 
 use crate::building::build;
 use crate::cave_fault::CaveFault;
 use block_rows::{Rows, RowsFault};
 use cave_model::{Rule, World};
-use scan_core::read_scan;
+use scan_core::{Scan, read_scan};
 use std::alloc::Global;
 
 /// The rows of the user's table, where there is one, before the shipped ones.
@@ -29,6 +30,32 @@ fn rows_for(alloc: Global, table: Option<&[u8]>) -> Result<Rows, RowsFault>
         Some(text) => Rows::with_table(alloc, text),
         None => Rows::shipped(alloc),
     }
+}
+
+/// The structure that the bytes tell, and the rows of the user's table, where there is one, before the shipped ones. A
+/// fault of the structure goes before one of the table. No block is unknown here.
+pub fn read_parts(
+    alloc: Global,
+    structure: &[u8],
+    table: Option<&[u8]>,
+) -> Result<(Scan, Rows), CaveFault>
+    // What is answered is that structure and these rows.
+    ensures found { IfOk result (λ parts. Scans structure.now parts.0
+        × IsTableFor (option_copied table.entry) parts.1) }
+    // Such a structure and such rows are answered.
+    ensures only { (scan : Structure) → (rows : Table) → Scans structure.now scan
+        → IsTableFor (option_copied table.entry) rows
+        → IsAnswer CaveFault.OutOfMemory result (λ parts. (parts.0 ≡ scan) × (parts.1 ≡ rows)) }
+    // A fault is the first of the two.
+    ensures fault { IfErr result (λ e. e ≢ CaveFault.OutOfMemory
+        → IsFaultOfParts structure.now (option_copied table.entry) e) }
+    // Such a fault is answered.
+    ensures refused { (e : CaveFault) → IsFaultOfParts structure.now (option_copied table.entry) e
+        → IsRefusal CaveFault.OutOfMemory result e }
+{
+    let scan = read_scan(alloc, structure)?;
+    let rows = rows_for(alloc, table)?;
+    Ok((scan, rows))
 }
 
 /// The cave that the bytes of a structure tell by the rows of the user's table, where there is one, before the shipped
@@ -51,8 +78,7 @@ pub fn read_cave(
     ensures refused { (e : CaveFault) → IsFaultOfBytes structure.now (option_copied table.entry) e
         → IsRefusal CaveFault.OutOfMemory result e }
 {
-    let scan = read_scan(alloc, structure)?;
-    let rows = rows_for(alloc, table)?;
+    let (scan, rows) = read_parts(alloc, structure, table)?;
     let world = build(alloc, &scan, &rows, rule)?;
     Ok(world)
 }

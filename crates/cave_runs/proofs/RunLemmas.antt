@@ -121,7 +121,7 @@ long_refused Inner Met (Some bytes) e (inr (inr is)) long same failed none = λ 
 -- ---- faults of the bytes
 
 -- no fault of a cave is a failed write
-never_written : (e : CaveFault) → run_fault_of e ≡ faults.WriteFailed → ⊥
+pub never_written : (e : CaveFault) → run_fault_of e ≡ faults.WriteFailed → ⊥
 never_written (cave.Scan f) is = cc
 never_written (cave.Table f) is = cc
 never_written (cave.Build f) is = cc

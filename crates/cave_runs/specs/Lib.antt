@@ -8,6 +8,9 @@ pub mod RunOfDark
 pub mod LevelsText
 pub mod LevelsRuns
 pub mod RunOfLevels
+pub mod RowsText
+pub mod RowsRuns
+pub mod RunOfRows
 pub mod PlanRuns
 pub mod RunOfPlan
 pub mod CheckRuns

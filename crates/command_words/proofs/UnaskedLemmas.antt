@@ -10,7 +10,7 @@ use Rattle.plan_options.specs.declared.workers.Workers.{Workers}
 use Rattle.command_words.specs.Requests.{IsAskedBy, IsCrewOf, IsEntered, IsFoundBy, IsProofOf}
 use Rattle.command_words.specs.Requests.{IsRuleOf, NoneIsAskedBy, Reads, Tells}
 use Rattle.command_words.specs.declared.request.Request.{Request}
-use Rattle.command_words.specs.declared.request.Request.TheVariants.{Dark, Plan, Check, Levels}
+use Rattle.command_words.specs.declared.request.Request.TheVariants.{Dark, Plan, Check, Levels, Rows}
 use Rattle.command_words.proofs.WordLemmas.{named_as}
 
 -- what holds in any case
@@ -50,13 +50,16 @@ no_file name rows none (Dark file table rule progress) is = absurd (let e = is.1
 no_file name rows none (Plan file table opts proof progress) is = absurd (let e = is.1 in cc)
 no_file name rows none (Check file proof table rule) is = absurd (let e = is.1 in cc)
 no_file name rows none (Levels file plan table rule progress) is = absurd (let e = is.1 in cc)
+no_file name rows none (Rows file table) is = absurd (let e = is.1 in cc)
 
--- the rule that is named is none
-pub no_rule : (name : Text) (rows : List Row) → ((rule : Rule) → ¬ IsRuleOf rows rule) → NoneIsAskedBy name rows
-no_rule name rows none (Dark file table rule progress) is = none (rule_of rule) is.3
-no_rule name rows none (Plan file table opts proof progress) is = none (rule_of opts.rule) is.3
-no_rule name rows none (Check file proof table rule) is = none (rule_of rule) is.4
-no_rule name rows none (Levels file plan table rule progress) is = none (rule_of rule) is.4
+-- the rule that is named is none, for a command that takes one
+pub no_rule : (name : Text) (rows : List Row) → nat_eq (slice_index name 0) (slice_index (codes "rows") 0) ≡ false
+    → ((rule : Rule) → ¬ IsRuleOf rows rule) → NoneIsAskedBy name rows
+no_rule name rows other none (Dark file table rule progress) is = none (rule_of rule) is.3
+no_rule name rows other none (Plan file table opts proof progress) is = none (rule_of opts.rule) is.3
+no_rule name rows other none (Check file proof table rule) is = none (rule_of rule) is.4
+no_rule name rows other none (Levels file plan table rule progress) is = none (rule_of rule) is.4
+no_rule name rows other none (Rows file table) is = absurd (apart name (codes "rows") other is.0)
 
 -- so many workers are none
 pub no_crew : (rows : List Row) → ((workers : Workers) → ¬ IsCrewOf rows workers.number)
@@ -66,6 +69,7 @@ no_crew rows none (Plan file table opts proof progress) is = none opts.workers i
 no_crew rows none (Check file proof table rule) is = absurd (apart (codes "plan") (codes "check") refl is.0)
 no_crew rows none (Levels file plan table rule progress) is =
     absurd (apart (codes "plan") (codes "levels") refl is.0)
+no_crew rows none (Rows file table) is = absurd (apart (codes "plan") (codes "rows") refl is.0)
 
 -- the proof would go to no file
 pub no_file_for_proof : (rows : List Row) → ((proof : Option Text) → ¬ IsProofOf rows proof)
@@ -76,6 +80,7 @@ no_file_for_proof rows none (Plan file table opts proof progress) is = none (opt
 no_file_for_proof rows none (Check file proof table rule) is = absurd (apart (codes "plan") (codes "check") refl is.0)
 no_file_for_proof rows none (Levels file plan table rule progress) is =
     absurd (apart (codes "plan") (codes "levels") refl is.0)
+no_file_for_proof rows none (Rows file table) is = absurd (apart (codes "plan") (codes "rows") refl is.0)
 
 -- no certificate is named
 pub no_proof : (rows : List Row) → first_of (codes "PROOF") rows ≡ None → NoneIsAskedBy (codes "check") rows
@@ -84,6 +89,7 @@ no_proof rows none (Plan file table opts proof progress) is = absurd (apart (cod
 no_proof rows none (Check file proof table rule) is = absurd (let e = is.2 in cc)
 no_proof rows none (Levels file plan table rule progress) is =
     absurd (apart (codes "check") (codes "levels") refl is.0)
+no_proof rows none (Rows file table) is = absurd (apart (codes "check") (codes "rows") refl is.0)
 
 -- one value in both
 same_of : {X : Type 0} (x y : X) → Some x ≡ Some y → x ≡ y

@@ -35,9 +35,13 @@ workers = record (valued (codes "workers")) { parser = Some (Signed (pos 1) (pos
 abbrev pub turns : Rule
 turns = record (valued (codes "turns")) { parser = Some (Unsigned 1 1000000000) }
 
+-- with a table
+abbrev pub tabled : App → App
+tabled app = with_rule app (valued (codes "table"))
+
 -- with the rule of spawning, and a table
 abbrev pub ruled : App → App
-ruled app = with_rule (with_rule (with_rule app headroom) (valued (codes "rule"))) (valued (codes "table"))
+ruled app = tabled (with_rule (with_rule app headroom) (valued (codes "rule")))
 
 -- a command on a structure file, with these options
 abbrev pub on_file : Text → App
@@ -61,6 +65,10 @@ abbrev pub levels : App
 levels = with_rule (ruled (with_rule (with_rule (new_app (codes "levels")) (placed (codes "FILE")))
     (optional (codes "PLAN")))) (flag (codes "progress"))
 
+-- the command `rows`, on a structure file
+abbrev pub rows : App
+rows = tabled (with_rule (new_app (codes "rows")) (placed (codes "FILE")))
+
 -- the program without its commands; it has a version, and one of the commands is asked for
 abbrev pub bare : App
 bare = record (new_app (codes "torchplan")) {
@@ -73,8 +81,8 @@ bare = record (new_app (codes "torchplan")) {
 
 -- the program
 abbrev pub torchplan : App
-torchplan = with_subcommand (with_subcommand (with_subcommand (with_subcommand bare dark.top) plan.top) check.top)
-    levels.top
+torchplan = with_subcommand (with_subcommand (with_subcommand (with_subcommand (with_subcommand bare dark.top) plan.top)
+    check.top) levels.top) rows.top
 
 -- the command is built as that, and none of its arguments is global
 pub record IsCommand (app : App) (command : Command) : Type 0 where

@@ -9,7 +9,7 @@ use Rattle.cave_model.specs.RuleOf.{rule_of}
 use Rattle.command_words.specs.Options.{torchplan}
 use Rattle.command_words.specs.Versions.{IsNeedFor}
 use Rattle.command_words.specs.declared.request.Request.{Request}
-use Rattle.command_words.specs.declared.request.Request.TheVariants.{Dark, Plan, Check, Levels}
+use Rattle.command_words.specs.declared.request.Request.TheVariants.{Dark, Plan, Check, Levels, Rows}
 
 -- a number of so many bits in decimal digits, after a plus or without one; and which
 abbrev pub IsNumber : ℕ → Text → Type 0
@@ -71,6 +71,8 @@ IsAskedBy name rows (Levels file plan table rule progress) = (name ≡ codes "le
     × (first_of (codes "FILE") rows ≡ Some file.now) × (first_of (codes "PLAN") rows ≡ option_copied plan)
     × (first_of (codes "table") rows ≡ option_copied table) × IsRuleOf rows (rule_of rule)
     × IsFlagOf (one_of (codes "progress") rows) progress
+IsAskedBy name rows (Rows file table) = (name ≡ codes "rows") × (first_of (codes "FILE") rows ≡ Some file.now)
+    × (first_of (codes "table") rows ≡ option_copied table)
 
 -- the matches of the command of this name ask for nothing
 abbrev pub NoneIsAskedBy : Text → List Row → Type 0

@@ -73,6 +73,14 @@ fn valued<'a>(alloc: Global, name: &'a str, value: &'a str) -> Arg<'a>
         .action(ArgAction::Set)
 }
 
+fn table<'a>(alloc: Global) -> Arg<'a>
+    ensures { IsArg (options.valued (codes "table")) result }
+{
+    valued(alloc, "table", "T").help(
+        "A table of blocks (TOML) whose rows go before the shipped ones",
+    )
+}
+
 /// Adds the options of the rule that mobs spawn by, and that of a table.
 fn ruled<'a>(alloc: Global, command: Command<'a>) -> Result<Command<'a>, AllocError>
     ensures { IfOk result (IsGrownBy options.ruled command.entry) }
@@ -83,10 +91,7 @@ fn ruled<'a>(alloc: Global, command: Command<'a>) -> Result<Command<'a>, AllocEr
     let rule = valued(alloc, "rule", "1.18|1.17").help(
         "Which version's rule: mobs spawn at light 0 from 1.18 on, before up to 7 [default: 1.18]",
     );
-    let table = valued(alloc, "table", "T").help(
-        "A table of blocks (TOML) whose rows go before the shipped ones",
-    );
-    command.arg(headroom)?.arg(rule)?.arg(table)
+    command.arg(headroom)?.arg(rule)?.arg(table(alloc))
 }
 
 fn dark_command<'a>(alloc: Global) -> Result<Command<'a>, AllocError>
@@ -169,6 +174,20 @@ fn levels_command<'a>(alloc: Global) -> Result<Command<'a>, AllocError>
     ruled(alloc, command)?.arg(progress(alloc))
 }
 
+fn rows_command<'a>(alloc: Global) -> Result<Command<'a>, AllocError>
+    ensures { IfOk result (IsCommand options.rows) }
+{
+    Command::new(alloc, "rows")
+        .about(
+            "Print the row that serves each block state: opacity, emission, the columns that are yes; - for none",
+        )
+        .after_help(
+            "Example: torchplan rows cave.nbt --table blocks.toml\nOf stone it prints `15 0 stand top side`, and its name.",
+        )
+        .arg(file(alloc))?
+        .arg(table(alloc))
+}
+
 /// The program's command.
 pub(crate) fn command<'a>(alloc: Global) -> Result<Command<'a>, AllocError>
     ensures { IfOk result (IsCommand options.torchplan) }
@@ -184,5 +203,6 @@ pub(crate) fn command<'a>(alloc: Global) -> Result<Command<'a>, AllocError>
         .subcommand(dark_command(alloc)?)?
         .subcommand(plan_command(alloc)?)?
         .subcommand(check_command(alloc)?)?
-        .subcommand(levels_command(alloc)?)
+        .subcommand(levels_command(alloc)?)?
+        .subcommand(rows_command(alloc)?)
 }

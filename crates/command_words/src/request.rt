@@ -54,6 +54,11 @@ pub enum Request<'a> {
         /// Whether standard error tells where the box cuts the cave.
         progress: bool,
     },
+    /// The rows that serve the block states of the structure's palette.
+    Rows {
+        file: &'a str,
+        table: Option<&'a str>,
+    },
 }
 
 /// Headroom 1 where that is told, and else 2.
@@ -158,6 +163,15 @@ fn levels_of<'a>(matches: &ArgMatches<'a>) -> Option<Request<'a>>
     })
 }
 
+fn rows_of<'a>(matches: &ArgMatches<'a>) -> Option<Request<'a>>
+    ensures { IsFoundBy (codes "rows") (rows_of (found_of matches.now)) result }
+{
+    Some(Request::Rows {
+        file: matches.get_str("FILE")?,
+        table: matches.get_str("table"),
+    })
+}
+
 /// What the command that was entered asks for.
 fn asked<'a>(matches: &ArgMatches<'a>) -> Option<Request<'a>>
     ensures some { IfSome result (IsEntered (subcommand_rows_of matches.now)) }
@@ -174,6 +188,9 @@ fn asked<'a>(matches: &ArgMatches<'a>) -> Option<Request<'a>>
     }
     if let Some(levels) = matches.subcommand_matches("levels") {
         return levels_of(levels);
+    }
+    if let Some(rows) = matches.subcommand_matches("rows") {
+        return rows_of(rows);
     }
     None
 }

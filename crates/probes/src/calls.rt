@@ -11,12 +11,14 @@ use scan_core::{ScanFault, read_scan};
 use std::alloc::Global;
 use std::io::Read;
 use std::test::Fail;
-use torch_plan::{RunFault, Unobserved, read_plan, read_table, run_dark, run_levels};
+use torch_plan::{RunFault, Unobserved, read_plan, read_table, run_dark, run_levels, run_rows};
 
 const TABLE: &[u8] =
     b"[[row]]\nname = \"cave:felt\"\nwhen = { wet = \"no\" }\nopacity = 15\nstand = true\n";
 
 const PLAN: &[u8] = b"torches 1\ndark 1\nT 0 1 0 floor\n";
+
+const ROWS: &[u8] = b"15 0 stand top side\tminecraft:stone\n0 0 free put\tminecraft:air\n";
 
 /// The root has its blocks.
 fn read_root_is_wrong(alloc: Global, pillar: &[u8]) -> bool {
@@ -164,6 +166,17 @@ fn run_levels_is_wrong(alloc: Global, pillar: &[u8]) -> bool {
     }
 }
 
+/// The text is that of the pillar's two states; where memory is refused nothing is written.
+fn run_rows_is_wrong(alloc: Global, pillar: &[u8]) -> bool {
+    let mut reader = pillar;
+    let mut writer = ShortWriter::new();
+    match run_rows(alloc, &mut reader, Some(TABLE), &mut writer) {
+        Ok(()) => writer.taken() != ROWS,
+        Err(RunFault::OutOfMemory) => !writer.taken().is_empty(),
+        Err(_) => true,
+    }
+}
+
 /// Prints which calls are wrong, and how many there are: the same line whichever request for memory is
 /// refused, as tools/dev/refuse-memory refuses each in turn.
 pub fn run(rt: &HostRuntime) -> Result<(), Fail> {
@@ -183,6 +196,7 @@ pub fn run(rt: &HostRuntime) -> Result<(), Fail> {
         ("run_dark", run_dark_is_wrong(alloc, &pillar)),
         ("read_plan", read_plan_is_wrong(alloc)),
         ("run_levels", run_levels_is_wrong(alloc, &pillar)),
+        ("run_rows", run_rows_is_wrong(alloc, &pillar)),
     ];
     for (call, is_wrong) in wrong {
         if is_wrong {

@@ -9,6 +9,7 @@ mod limits;
 mod plan_streams;
 mod planning;
 mod ring_caves;
+mod row_streams;
 mod search;
 mod terraces;
 mod through;

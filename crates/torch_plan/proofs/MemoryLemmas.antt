@@ -6,12 +6,13 @@ use Rattle.cave_model.specs.RuleOf.{rule_of}
 use Rattle.cave_runs.specs.CheckRuns.{WritesVerdict}
 use Rattle.cave_runs.specs.PlanRuns.{Plans}
 use Rattle.cave_runs.specs.LevelsRuns.{IsLevelsTextOf}
+use Rattle.cave_runs.specs.RowsRuns.{IsRowsTextOf}
 use Rattle.cave_runs.specs.Runs.{WritesDark}
 use Rattle.cave_runs.specs.TextRuns.{WritesText}
 use Rattle.cave_runs.specs.declared.fault.RunFault.{RunFault}
 use Rattle.cave_runs.specs.declared.fault.RunFault.TheVariants as faults
 use Rattle.command_words.specs.declared.request.Request.{Request}
-use Rattle.command_words.specs.declared.request.Request.TheVariants.{Dark, Plan, Check, Levels}
+use Rattle.command_words.specs.declared.request.Request.TheVariants.{Dark, Plan, Check, Levels, Rows}
 use Rattle.torch_plan.specs.Answers.{Answers, Does, Known, named_in, structure_in}
 use Rattle.torch_plan.specs.Given.{given}
 use Rattle.torch_plan.specs.Memory.{AnswersInMemory, IsAnswered, Reads, Writes, are_none, bytes_at}
@@ -162,6 +163,22 @@ wrote files input output proof code (Levels file plan table rule progress) (Ok u
       ),
     )
 wrote files input output proof code (Levels file plan table rule progress) (Err fault, is, run) of =
+    absurd (unanswered fault code is of)
+wrote files input output proof code (Rows file table) (Ok u, is, run) of =
+    let known = sources_of files input in
+    let read = reads files input file.now (option_copied table) (λ lacks. run.lacking lacks) in (
+      read.0,
+      read.1,
+      (
+        read.2,
+        is,
+        also (structure_in known file.now) read.0
+            (λ bytes. WritesText (IsRowsTextOf bytes read.1) (Some []) (Some output)) read.2.structure
+            (resolved (named_in known (option_copied table)) read.1 (λ rows. IfSome (structure_in known file.now)
+            (λ bytes. WritesText (IsRowsTextOf bytes rows) (Some []) (Some output))) read.2.user run.done),
+      ),
+    )
+wrote files input output proof code (Rows file table) (Err fault, is, run) of =
     absurd (unanswered fault code is of)
 
 -- what words wrote that have an answer

@@ -7,13 +7,14 @@ use Rattle.cave_model.specs.Rule.{Rule}
 use Rattle.cave_runs.specs.PlanRuns.{BeginsPlan, IsNoPlanOfInput, Plans}
 use Rattle.cave_runs.specs.Runs.{BeginsDark, IsFaultOfInput, WritesDark}
 use Rattle.cave_runs.specs.LevelsRuns.{IsFaultOfLevels, IsLevelsTextOf}
+use Rattle.cave_runs.specs.RowsRuns.{IsFaultOfRows, IsRowsTextOf}
 use Rattle.cave_runs.specs.TextRuns.{BeginsText, IsOfBytes, IsOfInput, WritesText}
 use Rattle.cave_runs.specs.declared.fault.RunFault.{RunFault}
 use Rattle.cave_runs.specs.declared.fault.RunFault.TheVariants as faults
 use Rattle.cave_runs.specs.declared.plan.Outcome.{Outcome}
 use Rattle.search_traits.specs.declared.planner.Allowance.{Allowance}
-use Rattle.torch_plan.specs.Answers.{AnswersDark, AnswersLevels, AnswersPlan, Known, LeavesMade, LeavesOutput}
-use Rattle.torch_plan.specs.Answers.{named_in, structure_in}
+use Rattle.torch_plan.specs.Answers.{AnswersDark, AnswersLevels, AnswersPlan, AnswersRows, Known, LeavesMade}
+use Rattle.torch_plan.specs.Answers.{LeavesOutput, named_in, structure_in}
 use Rattle.run_system.specs.Sources.{Sources, LacksStructure, LacksNamed, made_in}
 
 -- standard input, where that is named
@@ -73,6 +74,36 @@ dark_answered sources file table rule old new remaining read (Err e) same told d
       (λ bytes rows. BeginsDark bytes rows rule old new) same told (begun failed);
   fault = λ of. inr (known (structure_in sources file) remaining (named_in sources table) read
       (λ bytes rows. IsFaultOfInput bytes rows e) same told (fault of));
+  lacking = λ lacks. absurd (there lacks);
+}
+
+-- a run of rows over what is known
+pub rows_answered : (sources : Sources) (file : List ℕ) (table : Option (List ℕ))
+    (old new remaining read : Option (List ℕ)) (result : Result (Unit {0}) RunFault)
+    → remaining ≡ structure_in sources file → IfSome (named_in sources table) (λ r. read ≡ r)
+    → OnOk result (IfSome remaining (λ bytes. WritesText (IsRowsTextOf bytes read) old new))
+    → LeavesOutput result old new
+    → IfErr result (λ e. e ≡ faults.WriteFailed
+    → IfSome remaining (λ bytes. BeginsText (IsRowsTextOf bytes read) old new))
+    → IfErr result (λ e. IsOfInput e
+    → IfSome remaining (λ bytes. IsOfBytes (λ b f. IsFaultOfRows b read f) bytes e))
+    → ¬ (LacksStructure sources file ⊎ LacksNamed sources table)
+    → AnswersRows sources file table old new result
+rows_answered sources file table old new remaining read (Ok u) same told done left begun fault there = record {
+  done = known (structure_in sources file) remaining (named_in sources table) read
+      (λ bytes rows. WritesText (IsRowsTextOf bytes rows) old new) same told done;
+  left = left;
+  begun = tt;
+  fault = tt;
+  lacking = λ lacks. absurd (there lacks);
+}
+rows_answered sources file table old new remaining read (Err e) same told done left begun fault there = record {
+  done = tt;
+  left = left;
+  begun = λ failed. known (structure_in sources file) remaining (named_in sources table) read
+      (λ bytes rows. BeginsText (IsRowsTextOf bytes rows) old new) same told (begun failed);
+  fault = λ of. inr (known (structure_in sources file) remaining (named_in sources table) read
+      (λ bytes rows. IsOfBytes (λ b f. IsFaultOfRows b rows f) bytes e) same told (fault of));
   lacking = λ lacks. absurd (there lacks);
 }
 

@@ -10,6 +10,7 @@ use Rattle.cave_runs.specs.Limits.{plan_limit, table_limit}
 use Rattle.cave_runs.specs.PlanRuns.{BeginsPlan, IsNoPlanOfInput, Plans}
 use Rattle.cave_runs.specs.Runs.{BeginsDark, IsFaultOfInput, WritesDark}
 use Rattle.cave_runs.specs.LevelsRuns.{IsFaultOfLevels, IsLevelsTextOf}
+use Rattle.cave_runs.specs.RowsRuns.{IsFaultOfRows, IsRowsTextOf}
 use Rattle.cave_runs.specs.TextRuns.{BeginsText, IsOfBytes, IsOfInput, WritesText}
 use Rattle.cave_runs.specs.declared.fault.Input.TheVariants.{PlanInput, TableInput}
 use Rattle.cave_runs.specs.declared.fault.RunFault.{RunFault}
@@ -24,7 +25,7 @@ use Rattle.run_system.specs.Status.{end_status, judged, status}
 use Rattle.command_words.specs.Mistakes.{AreWellFormed}
 use Rattle.torch_plan.specs.Usage.{IsExplained}
 use Rattle.command_words.specs.declared.request.Request.{Request}
-use Rattle.command_words.specs.declared.request.Request.TheVariants.{Dark, Plan, Check, Levels}
+use Rattle.command_words.specs.declared.request.Request.TheVariants.{Dark, Plan, Check, Levels, Rows}
 
 -- what is known of a structure: `-` is standard input
 abbrev pub structure_in : Sources → List ℕ → Option (List ℕ)
@@ -101,6 +102,19 @@ pub record AnswersLevels (sources : Sources) (file : List ℕ) (plan table : Opt
       IsOfBytes (λ b e. IsFaultOfLevels b rows rule text e) bytes fault))
   pub lacking : LacksStructure sources file ⊎ LacksNamed sources table ⊎ LacksNamed sources plan → AreUnread result
 
+-- ---- rows
+
+-- the rows were written, or the fault is that of a long table, the structure's or the table's
+pub record AnswersRows (sources : Sources) (file : List ℕ) (table : Option (List ℕ)) (old new : Option (List ℕ))
+    (result : Result (Unit {0}) RunFault) : Type 0 where
+  pub done : OnOk result (Known sources file table (λ bytes rows. WritesText (IsRowsTextOf bytes rows) old new))
+  pub left : LeavesOutput result old new
+  pub begun : IfErr result (λ fault. fault ≡ faults.WriteFailed → Known sources file table (λ bytes rows.
+      BeginsText (IsRowsTextOf bytes rows) old new))
+  pub fault : IfErr result (λ fault. IsOfInput fault → IsOfTable sources table fault
+      ⊎ Known sources file table (λ bytes rows. IsOfBytes (λ b e. IsFaultOfRows b rows e) bytes fault))
+  pub lacking : LacksStructure sources file ⊎ LacksNamed sources table → IsUnread result
+
 -- ---- plans
 
 -- that of the end, or of the fault
@@ -169,6 +183,11 @@ abbrev pub RunsLevels : Sources → List ℕ → Option (List ℕ) → Option (L
 RunsLevels sources file plan table rule old new code = (result : Result (Unit {0}) RunFault)
     × (code ≡ text_status result) × AnswersLevels sources file plan table rule old new result
 
+-- a run of rows that ends with this status
+abbrev pub RunsRows : Sources → List ℕ → Option (List ℕ) → Option (List ℕ) → Option (List ℕ) → ℕ → Type 0
+RunsRows sources file table old new code = (result : Result (Unit {0}) RunFault)
+    × (code ≡ text_status result) × AnswersRows sources file table old new result
+
 -- what was asked for was done: the run of these files, by this table and rule, ended with this status, and left `kept`
 -- in the file for the proof; or that file may be one that is read, or the output, and nothing was done
 abbrev pub Does : Sources → Request → Option (List ℕ) → Option (List ℕ) → Option (List ℕ) → ℕ → Type 0
@@ -183,6 +202,7 @@ Does sources (Check file proof table rule) old new kept code =
     RunsCheck sources file.now proof.now (option_copied table) (rule_of rule) old new code
 Does sources (Levels file plan table rule progress) old new kept code =
     RunsLevels sources file.now (option_copied plan) (option_copied table) (rule_of rule) old new code
+Does sources (Rows file table) old new kept code = RunsRows sources file.now (option_copied table) old new code
 
 -- the words are well formed, and what they ask for was done; or nothing was, and they were explained
 abbrev pub Answers : Sources → List (List ℕ) → Option (List ℕ) → Option (List ℕ) → Option (List ℕ) → ℕ → Type 0

@@ -5,13 +5,14 @@ use Rattle.cave_model.specs.RuleOf.{rule_of}
 use Rattle.cave_runs.specs.CheckRuns.{WritesVerdict}
 use Rattle.cave_runs.specs.PlanRuns.{Plans}
 use Rattle.cave_runs.specs.LevelsRuns.{IsLevelsTextOf}
+use Rattle.cave_runs.specs.RowsRuns.{IsRowsTextOf}
 use Rattle.cave_runs.specs.Runs.{WritesDark}
 use Rattle.cave_runs.specs.TextRuns.{WritesText}
 use Rattle.cave_runs.specs.declared.plan.Outcome.{Outcome}
 use Rattle.command_words.specs.Mistakes.{AreWellFormed}
 use Rattle.command_words.specs.Requests.{IsAsked}
 use Rattle.command_words.specs.declared.request.Request.{Request}
-use Rattle.command_words.specs.declared.request.Request.TheVariants.{Dark, Plan, Check, Levels}
+use Rattle.command_words.specs.declared.request.Request.TheVariants.{Dark, Plan, Check, Levels, Rows}
 use Rattle.proof_check.specs.declared.verdict.Verdict.{Verdict}
 use Rattle.torch_plan.specs.Answers.{Answers, structure_in, named_in}
 use Rattle.torch_plan.specs.Given.{given}
@@ -49,7 +50,7 @@ pub record Reads (sources : Sources) (file : List ℕ) (table : Option (List ℕ
   pub user : named_in sources table ≡ Some rows
 
 -- what a run of the request writes that ends with this status, of the bytes that it reads: the text of the dark cells;
--- that of the plan, and of its certificate; the line of the verdict; or the text of the levels
+-- that of the plan, and of its certificate; the line of the verdict; the text of the levels; or that of the rows
 abbrev pub Writes : Sources → Request → ℕ → List ℕ → Option (List ℕ) → List ℕ → Option (List ℕ) → Type 0
 Writes sources (Dark file table rule progress) code output proof bytes rows =
     Reads sources file.now (option_copied table) bytes rows × (code ≡ 0)
@@ -66,6 +67,9 @@ Writes sources (Levels file plan table rule progress) code output proof bytes ro
     Reads sources file.now (option_copied table) bytes rows × (text : Option (List ℕ))
     × (named_in sources (option_copied plan) ≡ Some text) × (code ≡ 0)
     × WritesText (IsLevelsTextOf bytes rows (rule_of rule) text) (Some []) (Some output)
+Writes sources (Rows file table) code output proof bytes rows =
+    Reads sources file.now (option_copied table) bytes rows × (code ≡ 0)
+    × WritesText (IsRowsTextOf bytes rows) (Some []) (Some output)
 
 -- a status with an answer: done, rejected, or stopped
 abbrev pub IsAnswered : ℕ → Type 0

@@ -11,6 +11,7 @@ ghost use Rattle.torch_plan.specs.Usage.{explained_status};
 use crate::environment::Environment;
 use crate::levels::answer_levels;
 use crate::resources::Resources;
+use crate::rows::answer_rows;
 use crate::runs::{answer_check, answer_dark, answer_plan};
 use cave_runs::{Outcome, RunFault, Verdict, Watcher};
 use clap::Error;
@@ -181,6 +182,10 @@ where
         } => {
             system.watch(progress);
             let ended = answer_levels(&environment, file, plan, table, rule, output);
+            (status_of_text(system, ended), None)
+        }
+        Request::Rows { file, table } => {
+            let ended = answer_rows(&environment, file, table, output);
             (status_of_text(system, ended), None)
         }
     }

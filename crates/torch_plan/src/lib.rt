@@ -8,13 +8,14 @@ mod levels;
 mod memory;
 mod planner;
 mod resources;
+mod rows;
 mod runs;
 
 pub use answering::answer;
 pub use cave_model::Rule;
 pub use cave_runs::{
     Input, Name, Observer, OpenSides, Outcome, RunFault, Unkept, Unobserved, Verdict, Watcher,
-    read_plan, read_table, run_check, run_dark, run_levels,
+    read_plan, read_table, run_check, run_dark, run_levels, run_rows,
 };
 pub use command_words::{Request, request_of};
 pub use memory::{Ended, NamedFile, answer_in_memory};

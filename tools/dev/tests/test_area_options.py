@@ -13,7 +13,7 @@ import made_worlds
 import plans
 from meaning import Cave
 from packed_program import unpacked
-from rows import class_of
+from shipped import class_of
 from test_light import LIGHT
 from test_packs import function, read_zip
 

@@ -22,6 +22,7 @@ from extents import Extent
 from pieces import Piece
 from refusals import Refusal
 from saved_worlds import V1_21, Saved
+from shipped import Apart
 from test_levels import box_of
 from test_shells import AIR, STONE, cave_of
 
@@ -59,7 +60,7 @@ class Caves(unittest.TestCase):
                 Saved(folder, version=V1_21).fill(block, [-1, 0], [(0, 0), (0, 1), (1, 0), (1, 1)], V1_21)
                 extent = Extent((3, -3, 2), (29, 7, 30))
                 headroom = 1 + seed % 2
-                found, unknown = areas.caves_of(worlds.World(folder), extent, [], headroom)
+                found, unknown = areas.caves_of(worlds.World(folder), extent, Apart(), headroom)
             inside = {at for at in cells if all(a <= b <= c for a, b, c in zip(extent.low, at, extent.high))}
             due = caves_apart(inside)
             self.assertEqual((len(found), unknown), (len(due), []))
@@ -82,7 +83,7 @@ class Caves(unittest.TestCase):
             world, extent = worlds.World(folder), Extent((8, 4, 7), (15, 8, 9))
             for torches, level in (([], 0), ([[3, 5, 8, "floor"]], 10), ([[9, 5, 8, "floor"]], 12)):
                 cave = sources.read_world(world, extent, "x", torches)
-                read, rows = shells.shelled(cave.box, cave.around, [], 2)
+                read, rows = shells.shelled(cave.box, cave.around, Apart(), 2)
                 name, _ = read.state_at(0, 2, 2)  # the shell's cell at 7 5 8
                 self.assertEqual(next(row.emission for row in rows if row.name == name.encode()), level)
                 inside = cave.box.state_at(2, 2, 2)
@@ -91,7 +92,7 @@ class Caves(unittest.TestCase):
     def test_blocks_that_no_row_fits_are_told(self):
         with tempfile.TemporaryDirectory() as folder:
             Saved(folder, version=V1_21).fill(lambda x, y, z: (f"mod:b{x // 8}", {}), [0], [(0, 0)], V1_21)
-            found, unknown = areas.caves_of(worlds.World(folder), Extent((0, 2, 0), (15, 5, 15)), [], 2)
+            found, unknown = areas.caves_of(worlds.World(folder), Extent((0, 2, 0), (15, 5, 15)), Apart(), 2)
         self.assertEqual((found, unknown), ([], ["mod:b0", "mod:b1"]))
 
 
@@ -166,7 +167,7 @@ class Pieces(unittest.TestCase):
             parts = caves_apart([at for at in cells if is_open(at)])
             for part in parts:
                 start = tuple(a + b for a, b in zip(min(part), box.corner))
-                read, rows = matters.alone(box, [], [start])
+                read, rows = matters.alone(box, Apart(), [start])
                 self.assertEqual(set(cave_of(read, rows, 2, 1).dark), set(cave_of(box, [], 2, 1).dark) & part)
 
 

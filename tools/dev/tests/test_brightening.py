@@ -9,7 +9,8 @@ import random_caves
 from fields import Field
 from places import hangs_of, sign_of
 from plans import Plan, Torch, text_of
-from rows import Row, class_of
+from rows import Row
+from shipped import Apart, class_of
 from test_levels import box_of
 from test_shells import AIR, STONE, cave_of
 from windows import Window
@@ -56,7 +57,7 @@ class Light(unittest.TestCase):
     def best(self, box, cave, torches, need=1):
         number = lambda at: box.number(*at)
         regions = [(list(map(number, cave.dark)), list(map(number, torches)))]
-        moved = brightening.brightened(box, [], levels_of(box, cave), regions, need)
+        moved = brightening.brightened(box, Apart(), levels_of(box, cave), regions, need)
         found = [tuple(moved[number(at)][:3]) if number(at) in moved else at for at in torches]
         for torch in moved.values():
             self.assertEqual(torch.hang, cave.hangs[torch[:3]])
@@ -106,8 +107,9 @@ class Light(unittest.TestCase):
                 states[at] = rng.choice([("minecraft:water", {}), AIR, ("cave:fog", {})])
             box = box_of(size, states)
             rows = [row for row in FOG if any(name == "cave:fog" for name, _ in box.palette)]
-            field, cave = Field(box, rows), cave_of(box, rows, 2, 1)
-            for at in rng.sample(sorted(hangs_of(box, rows)), min(5, len(hangs_of(box, rows)))):
+            field, cave = Field(box, Apart(rows)), cave_of(box, rows, 2, 1)
+            hangs = sorted(hangs_of(box, Apart(rows)))
+            for at in rng.sample(hangs, min(5, len(hangs))):
                 at = box.position(at)
                 window = Window(field, at, 5)
                 spread = window.spread(window.bit(*at))
@@ -124,7 +126,7 @@ class Light(unittest.TestCase):
             size, states = random_caves.cave_of(rng)
             box = box_of(size, states)
             cave = cave_of(box, [], 2, 1)
-            self.assertEqual(hangs_of(box, []), {box.number(*at): hang for at, hang in cave.hangs.items()})
+            self.assertEqual(hangs_of(box, Apart()), {box.number(*at): hang for at, hang in cave.hangs.items()})
 
 
 class Texts(unittest.TestCase):

@@ -14,7 +14,7 @@ from made import plan_of
 from meaning import Cave
 from packed_program import unpacked
 from program import Program
-from rows import row_of
+from shipped import class_of
 from structures import box_file
 
 STONE, AIR, WATER, LAVA = [(f"minecraft:{name}", {}) for name in ("stone", "air", "water", "lava")]
@@ -78,8 +78,7 @@ class Levels(unittest.TestCase):
         for seed in range(40):
             rng = random.Random(seed)
             size, states = random_caves.cave_of(rng)
-            encoded = lambda props: {key.encode(): value.encode() for key, value in props.items()}
-            classes = {at: row_of([], (name.encode(), encoded(props))) for at, (name, props) in states.items()}
+            classes = {at: class_of([], state) for at, state in states.items()}
             cave = Cave(size, classes, 2, 1)
             torches = rng.sample(sorted(cave.hangs), min(seed % 4, len(cave.hangs)))
             told = [(*at, cave.hangs[at]) for at in torches] if torches else None

@@ -34,10 +34,11 @@ LOADER.exec_module(LIGHT)
 PLAIN = ["README.txt", "index.html", "plan.check", "plan.proof", "plan.txt"]
 FILES = [*PLAIN, "room-torches.litematic", "room-torches.nbt", "room-torches.zip"]
 # Answers each command by the files beside it, the first time by others where there are such, and writes down the words
-# that it got, each with a mark behind it. Without a file of levels the program itself tells them, of the cave alone
-# where the torches of an answer can't stand there.
+# that it got, each with a mark behind it. The program itself tells rows, which aren't written down; and without a file
+# of levels it tells them, of the cave alone where the torches of an answer can't stand there.
 PLANNER = """#!/bin/sh
 at='{folder}'
+[ "$1" != rows ] || exec '{program}' "$@"
 for word; do printf '%s@' "$word"; done >>"$at/calls"
 echo >>"$at/calls"
 [ "$1" = --version ] || cp "$2" "$at/read.nbt"
@@ -241,12 +242,6 @@ class Structures(Commands):
         self.answers["levels"] = {"out": "\n".join(["levels 5 4 3", *rows, ""])}
         self.run_light("room.nbt", "--force")
         self.assertEqual(self.levels(), told)
-
-    def test_levels_of_a_table_that_python_cannot_read(self):
-        self.put("mine.toml", b'row = [{ name = "minecraft:stone", opacity = 1_5, stand = true, top = true }]')
-        with unittest.mock.patch("toml_rows.tomllib", None):
-            self.run_light("room.nbt", "--table", "mine.toml")
-        self.assertEqual(self.levels()[21:24], [13, 14, 13])
 
     def test_levels_that_are_none(self):
         for text in ("", "levels 5 4 3\n00000\n", "torches 1\n"):
@@ -544,13 +539,13 @@ class Refusals(Commands):
     def test_a_planner_that_is_killed(self):
         with open(self.planner, "w", encoding="utf-8") as file:
             file.write("#!/bin/sh\n[ $1 = --version ] && echo torchplan 1 || kill -9 $$\n")
-        self.assertEqual(self.refused("room.nbt", status=6), "light: torchplan dark was ended by signal 9")
+        self.assertEqual(self.refused("room.nbt", status=6), "light: torchplan rows was ended by signal 9")
 
     def test_a_program_that_is_no_planner(self):
         for text, told in [("exit 1", f"{self.planner} is no torchplan: it tells no version"),
                            ("[ $1 = --version ] && echo torchplan 1; exit 0 $1", "answers otherwise than torchplan"),
                            ("[ $1 = --version ] && echo torchplan 1 && exit; exit 5",
-                            "torchplan dark ended by status 5 and said nothing")]:
+                            "torchplan rows ended by status 5 and said nothing")]:
             with open(self.planner, "w", encoding="utf-8") as file:
                 file.write(f"#!/bin/sh\n{text}\n")
             out, err = self.run_light("room.nbt", status=1 if "otherwise" in told else 6)

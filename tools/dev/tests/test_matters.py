@@ -7,6 +7,7 @@ import matters
 import random_caves
 from extents import Extent
 from plans import Torch
+from shipped import Apart
 from test_levels import box_of
 from test_shells import AIR, STONE, cave_of
 
@@ -27,7 +28,7 @@ class Rest(unittest.TestCase):
         for seed in range(60):
             box, is_inside, headroom = self.drawn(seed)
             whole = cave_of(box, [], headroom, 1)
-            read, rows = matters.without_ground(box, [], is_inside)
+            read, rows = matters.without_ground(box, Apart(), is_inside)
             found = cave_of(read, rows, headroom, 1)
             self.assertEqual(found.dark, [at for at in whole.dark if not is_inside(at)])
             self.assertEqual((found.hangs, found.levels), (whole.hangs, whole.levels))
@@ -41,7 +42,7 @@ class Rest(unittest.TestCase):
         for seed in range(60):
             box, is_inside, headroom = self.drawn(seed)
             whole = cave_of(box, [], headroom, 1)
-            read, rows = matters.without_places(box, [], is_inside)
+            read, rows = matters.without_places(box, Apart(), is_inside)
             found = cave_of(read, rows, headroom, 1)
             self.assertEqual(found.hangs, {at: hang for at, hang in whole.hangs.items() if not is_inside(at)})
             self.assertEqual((found.dark, found.levels), (whole.dark, whole.levels))
@@ -52,7 +53,7 @@ class Rest(unittest.TestCase):
         box = box_of((3, 3, 1), {(x, y, 0): STONE if y == 0 else AIR for x in range(3) for y in range(3)})
         box.corner = (100, 50, -7)
         is_inside = matters.in_any([Extent((101, 0, -7), (102, 99, -7)), Extent((0, 0, 0), (1, 1, 1))])
-        read, rows = matters.without_ground(box, [], is_inside)
+        read, rows = matters.without_ground(box, Apart(), is_inside)
         self.assertEqual(cave_of(read, rows, 2, 1).dark, [(0, 1, 0)])
 
     def test_torches_that_light_only_what_nobody_gets_to(self):
@@ -60,9 +61,9 @@ class Rest(unittest.TestCase):
         box = box_of((21, 4, 1), cells)
         dark = cave_of(box, [], 2, 1).dark
         torches = [Torch(5, 1, 0, "floor"), Torch(15, 1, 0, "floor")]
-        self.assertEqual(matters.apart(box, [], torches, dark, 1, lambda at: at[0] < 10), torches[1:])
-        self.assertEqual(matters.apart(box, [], torches, dark, 1, lambda at: at[0] < 12), [])
-        self.assertEqual(matters.apart(box, [], torches, dark, 1, lambda at: False), torches)
+        self.assertEqual(matters.apart(box, Apart(), torches, dark, 1, lambda at: at[0] < 10), torches[1:])
+        self.assertEqual(matters.apart(box, Apart(), torches, dark, 1, lambda at: at[0] < 12), [])
+        self.assertEqual(matters.apart(box, Apart(), torches, dark, 1, lambda at: False), torches)
 
 
 if __name__ == "__main__":

@@ -18,6 +18,7 @@ import toml_rows
 import worlds
 from refusals import Refusal
 from saved_worlds import V1_16, V1_17, V1_18, V1_21, Byte, Longs, Saved, chunk, nbt
+from shipped import Apart
 from structures import box_file
 from test_planning_page import NODE, asked_page
 from test_worlds import floor
@@ -65,7 +66,7 @@ class PageWorlds(unittest.TestCase):
             cave = sources.read_world(world, extent, sources.name_of(world, extent))
         except Refusal as why:
             return str(why)
-        rows = toml_rows.read_rows(tables.chosen(cave.box.data_version).data)
+        rows = Apart(tables.vanilla_rows(tables.chosen(cave.box.data_version).data))
         read, made = shells.shelled(cave.box, cave.around, rows, int(ask["headroom"]))
         changed = [number for number, (one, other) in enumerate(zip(cave.box.cells, read.cells)) if one != other]
         return {"box": told_box(cave.box), "around": told_box(cave.around), "made": changed,
@@ -263,7 +264,7 @@ class PageWorlds(unittest.TestCase):
 
 def many_of_table():
     """Blocks of a table, as many as are asked for."""
-    names = [row.name.decode() for row in toml_rows.read_rows(tables.chosen(V1_18).data) if not row.when]
+    names = [row.name.decode() for row in tables.vanilla_rows(tables.chosen(V1_18).data) if not row.when]
     names = list(dict.fromkeys(name for name in names if name != "*"))
 
     def blocks(count):

@@ -19,6 +19,7 @@ import paths
 import random_caves
 from made_schematics import litematic_file, places, some_states, sponge_file
 from saved_worlds import Longs, nbt
+from shipped import Apart
 from test_brightening import levels_of
 from test_schematic_files import STATES, litematic, region, sponge, vector
 from test_shells import cave_of
@@ -347,10 +348,10 @@ class PlanningPage(unittest.TestCase):
             dark = plans.read_dark(read(example(f"{name}.nbt.dark"), "r"))
             cells = [box.number(*at) for at in dark]
             regions = [(cells, [box.number(*torch[:3]) for torch in plan.torches])]
-            rows = tables.rows_of(tables.chosen(box.data_version))
+            rows = tables.vanilla_rows(tables.chosen(box.data_version).data)
             base = levels_of(box, cave_of(box, rows, 2, 1))
             for need in (1, 8):
-                moved = brightening.brightened(box, rows, base, regions, need)
+                moved = brightening.brightened(box, Apart(rows), base, regions, need)
                 due.append(sorted([number, list(torch)] for number, torch in moved.items()))
                 asked.append({"what": "bright", "file": "x.nbt", "bytes": text_of_bytes(data), "regions": regions,
                               "levels": text_of_bytes(base), "need": need})
@@ -360,7 +361,7 @@ class PlanningPage(unittest.TestCase):
 
     def test_what_is_told_of_the_edge(self):
         told = "3 west, 12 north, 1 below, 2 above; they count as nothing"
-        rows = tables.rows_of(tables.chosen(None))
+        rows = Apart(tables.vanilla_rows(tables.chosen(None).data))
         data = {name: read(example(f"{name}.nbt")) for name in ("hall", "corridor")}
         sky = box_file(Box((2, 1, 1), [("minecraft:air", {})], [0, 0]))
         asked = [(data["hall"], told, [], False), (data["corridor"], "1 east", [[1, 1, 1]], True),
@@ -368,7 +369,8 @@ class PlanningPage(unittest.TestCase):
         answers = asked_page([{"what": "edge", "file": "x.nbt", "bytes": text_of_bytes(cave), "edge": edge,
                                "dark": dark, "isUnread": unread} for cave, edge, dark, unread in asked])
         for (cave, edge, dark, unread), answer in zip(asked, answers):
-            due = edges.lines(edge, read_structure(cave, "x"), None if unread else rows, dark)
+            # where the page can't read the table it tells of the edge as if a cell were dark
+            due = edges.lines(edge, read_structure(cave, "x"), rows, dark or unread)
             self.assertEqual(answer["answer"], due)
 
     def test_tables_of_unknown_blocks(self):
@@ -413,7 +415,7 @@ class PlanningPage(unittest.TestCase):
         chosen = [tables.chosen(version, None, steady).data for version in (2724, 4671) for steady in (False, True)]
         answers = asked_page([{"what": "rows", "text": data.decode()} for data in chosen])
         for data, answer in zip(chosen, answers):
-            self.assertEqual(answer["answer"], "".join(map(toml_rows.text_of, toml_rows.read_rows(data))))
+            self.assertEqual(answer["answer"], "".join(map(toml_rows.text_of, tables.vanilla_rows(data))))
 
 
 if __name__ == "__main__":

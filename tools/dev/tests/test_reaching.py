@@ -12,7 +12,8 @@ import sources
 import worlds
 from extents import Extent
 from reaching import reached_from
-from rows import Row, class_of
+from rows import Row
+from shipped import Apart, class_of
 from test_levels import box_of
 
 STATES = {"#": ("minecraft:stone", {}), ".": ("minecraft:air", {}), "~": ("minecraft:water", {}),
@@ -30,7 +31,7 @@ def profile(picture):
 
 class Reaching(unittest.TestCase):
     def gets(self, picture, start, goal):
-        found = reached_from(profile(picture), ROWS, (*start, 0))
+        found = reached_from(profile(picture), Apart(ROWS), (*start, 0))
         return found((*goal, 0))
 
     def test_a_corridor_two_high(self):
@@ -73,12 +74,12 @@ class Reaching(unittest.TestCase):
         picture = "######## #......# #......# #......# ########"
         self.assertTrue(self.gets(picture, (3, 3), (6, 1)))
         self.assertTrue(self.gets(picture, (0, 1), (6, 1)))
-        self.assertIsNone(reached_from(profile("#" * 9 + " " + "#" * 9), ROWS, (4, 0, 0)))
+        self.assertIsNone(reached_from(profile("#" * 9 + " " + "#" * 9), Apart(ROWS), (4, 0, 0)))
 
     def test_points_of_a_world_are_its_own(self):
         box = profile("######## #......# #......# ########")
         box.corner = (100, -20, 7)
-        found = reached_from(box, ROWS, (101, -19, 7))
+        found = reached_from(box, Apart(ROWS), (101, -19, 7))
         self.assertTrue(found((106, -19, 7)))
         self.assertFalse(found((6, 1, 0)))
 
@@ -120,7 +121,7 @@ class Random(unittest.TestCase):
             for number in rng.sample(range(len(box.cells)), len(box.cells) // 40):
                 box.cells[number] = box.NO_ENTRY
             point = tuple(map(rng.randrange, size))
-            found = reached_from(box, ROWS, point)
+            found = reached_from(box, Apart(ROWS), point)
             if found is not None:
                 places = list(map(box.position, range(len(box.cells))))
                 is_room = lambda at: box.has(*at) and reached_apart(box, ROWS, at)
@@ -143,14 +144,15 @@ class Random(unittest.TestCase):
                 extent = Extent((rng.randrange(-5, 1), 2, 1), (rng.randrange(18, 26), 8, rng.randrange(18, 23)))
                 about, point = sources.extent_about(world, extent), (9, 5, 9)
                 box = worlds.read_box(world, about)
-                due, found = reached_from(box, [], point), area_walks.Walk(world, about, []).reached_from(point)
+                due = reached_from(box, Apart(), point)
+                found = area_walks.Walk(world, about, Apart()).reached_from(point)
             part = found.near(extents.grown(extent, 2))
             for at in map(box.worldly, map(box.position, range(len(box.cells)))):
                 self.assertEqual(found(at), due(at))
                 if extents.has(extents.grown(extent, 2), at):
                     self.assertEqual(part(at), due(at))
                 count += due(at)
-            self.assertIsNone(area_walks.Walk(world, about, []).reached_from((9, 90, 9)))
+            self.assertIsNone(area_walks.Walk(world, about, Apart()).reached_from((9, 90, 9)))
         self.assertGreater(count, 3_000)
 
 

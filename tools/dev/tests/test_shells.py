@@ -8,7 +8,7 @@ import shells
 from boxes import Box
 from fields import Field
 from meaning import Cave
-from rows import class_of
+from shipped import Apart, class_of
 from test_levels import box_of
 
 STONE, AIR, LAVA, GLASS = [(f"minecraft:{name}", {}) for name in ("stone", "air", "lava", "glass")]
@@ -31,7 +31,7 @@ class Light(unittest.TestCase):
             rng = random.Random(seed)
             size, states = random_caves.cave_of(rng, own=0.1)
             box = box_of(size, states)
-            field, cave = Field(box, []), cave_of(box, [], 2, 1)
+            field, cave = Field(box, Apart()), cave_of(box, [], 2, 1)
             levels = shells.light_of(field)
             for number in range(len(box.cells)):
                 self.assertEqual(levels[field.place(number)], cave.levels.get(box.position(number), 0))
@@ -43,7 +43,7 @@ class Around(unittest.TestCase):
         around.corner = (0, 0, 0)
         whole = cave_of(around, [], headroom, need)
         box = around.part([at - 1 for at in low], [side + 2 for side in size])
-        read, rows = shells.shelled(box, around, [], headroom)
+        read, rows = shells.shelled(box, around, Apart(), headroom)
         found = cave_of(read, rows, headroom, need)
         inside = {at for at in whole.dark if all(a <= b < a + side for a, b, side in zip(low, at, size))}
         self.assertEqual(moved(found.dark, [at - 1 for at in low]), inside)
@@ -79,7 +79,7 @@ class Around(unittest.TestCase):
             self.assertEqual(len(self.compare(box_of((7, 5, 5), cells), (1, 1, 2), (5, 2, 1))), 2)
             around = box_of((7, 5, 5), cells)
             around.corner = (0, 0, 0)
-            read, rows = shells.shelled(around.part((0, 0, 1), (7, 4, 3)), around, [], 2)
+            read, rows = shells.shelled(around.part((0, 0, 1), (7, 4, 3)), around, Apart(), 2)
             self.assertEqual(len(cave_of(read, rows, 2, 1).lit_from((1, 1, 1)) & {(1, 1, 1), (5, 1, 1)}), count)
 
     def hall(self, **more):
@@ -108,7 +108,7 @@ class Around(unittest.TestCase):
     def test_walls_beyond_the_box_hold_torches(self):
         around = box_of((11, 5, 11), self.hall(cells={(x, 0, z): GLASS for x in range(11) for z in range(11)}))
         around.corner = (0, 0, 0)
-        read, rows = shells.shelled(around.part((0, 1, 0), (11, 3, 11)), around, [], 2)
+        read, rows = shells.shelled(around.part((0, 1, 0), (11, 3, 11)), around, Apart(), 2)
         hangs = cave_of(read, rows, 2, 1).hangs
         self.assertEqual(hangs[1, 1, 5], "east")
         self.assertNotIn((5, 1, 5), hangs)
@@ -121,7 +121,7 @@ class Around(unittest.TestCase):
         lit = self.hall(cells={(1, 1, 5): LAVA, (2, 1, 5): ("mod:glow", {})})
         around = box_of((11, 5, 11), lit)
         around.corner = (0, 0, 0)
-        read, rows = shells.shelled(around.part((3, 0, 3), (5, 4, 5)), around, [], 2)
+        read, rows = shells.shelled(around.part((3, 0, 3), (5, 4, 5)), around, Apart(), 2)
         self.assertGreater(max(row.emission for row in rows), 0)
 
 

@@ -1,87 +1,61 @@
-"""The rows that the program has in itself, as tools/user has them: each by what the program tells of caves in which its
-block stands."""
+"""The rows that the program has in itself: `torchplan rows` tells those that docs/FORMATS.md lists."""
 import os
-import subprocess
 import tempfile
 import unittest
+import unittest.mock
 
 import paths
-import plans
-from boxes import Box
-from made import plan_of
+import answers
+from lookups import Lookup
 from packed_program import unpacked
-from rows import SHIPPED, SHIPPED_ROWS
-from structures import box_file
-from test_shells import cave_of
+from program import Program
+from shipped import SHIPPED_ROWS, class_of, listed
+from tables import Table
 
-STONE, AIR, LAVA = [(f"minecraft:{name}", {}) for name in ("stone", "air", "lava")]
-WIDE, TALL, DEEP, ROW = 5, 4, 2, 12  # of the cells for a block, and how many such stand side by side
-
-
-def state_of(row):
-    return row.name.decode(), {key.decode(): value.decode() for key, value in row.when.items()}
-
-
-def box_of_blocks(states, is_lit):
-    """A box with some cells for each block: it is ground under room; and it stands on stone, under room or lava, with
-    room beside it. Nothing is known of what lies between."""
-    rows = -(-len(states) // ROW)
-    box = Box((ROW * WIDE, TALL, rows * DEEP), [STONE, AIR, LAVA, *states], [], name="blocks")
-    box.cells = [box.NO_ENTRY] * (box.size[0] * TALL * box.size[2])
-    for index in range(len(states)):
-        x, z, block = index % ROW * WIDE, index // ROW * DEEP, 3 + index
-        told = [(0, 0, block), (0, 1, 1), (0, 2, 1), (2, 0, 0), (2, 1, block), (2, 2, 2 if is_lit else 1), (3, 1, 1)]
-        for east, up, cell in told:
-            box.cells[box.number(x + east, up, z)] = cell
-    return box
+# Blocks that no shipped row fits, of other names and of other conditions.
+OTHERS = [("minecraft:oak_slab", {}), ("stone", {}), ("minecraft:", {}), ("minecraft:Stone", {}), ("mod:stone", {}),
+          ("minecraft:stone_", {}), ("a b\tc\\", {})]
+EMPTY = Table("none", b"", None)
+FELT = b'[[row]]\nname = "cave:felt"\nwhen = { wet = "true" }\nopacity = 0x3\nput = false\n'
 
 
-class Shipped(unittest.TestCase):
+def told(rows):
+    """What the program tells of rows."""
+    return [row and row[2:] for row in rows]
+
+
+class Rows(unittest.TestCase):
     @classmethod
     def setUpClass(cls):
         cls.room = tempfile.TemporaryDirectory()
         cls.addClassCleanup(cls.room.cleanup)
-        cls.program = unpacked(cls.room.name)
-        cls.states = [state_of(row) for row in SHIPPED_ROWS]
+        named = unittest.mock.patch.dict(os.environ, {"TORCHPLAN": unpacked(cls.room.name)})
+        named.start()
+        cls.addClassCleanup(named.stop)
 
-    def run_on(self, box, command, torches=None, rule="1.18"):
-        """The status and the output of a command on a box, with a plan of these torches where there are any."""
-        cave, plan = os.path.join(self.room.name, "cave.nbt"), os.path.join(self.room.name, "plan.txt")
-        with open(cave, "wb") as file:
-            file.write(box_file(box))
-        if torches is not None:
-            with open(plan, "w", encoding="utf-8") as file:
-                file.write(plans.text_of_torches(plan_of(torches)))
-        words = [self.program, command, cave, *([] if torches is None else [plan]), "--rule", rule]
-        ran = subprocess.run(words, stdout=subprocess.PIPE, stderr=subprocess.PIPE, text=True)
-        return ran.returncode, ran.stdout
+    def test_those_that_are_listed(self):
+        conditions = [{}, {"lit": "true"}, {"lit": "false"}, {"waterlogged": "true", "lit": "true"}]
+        states = [(row.name.decode(), props) for row in SHIPPED_ROWS for props in conditions] + OTHERS
+        self.assertEqual(told(answers.rows(Program(), states, EMPTY)), told(class_of([], state) for state in states))
+        self.assertEqual(len(SHIPPED_ROWS), sum(len(names) for names, *_ in listed()))
+        self.assertTrue(all(class_of([], state) is None for state in OTHERS))
 
-    def test_light_that_they_give_and_stop(self):
-        for is_lit in (False, True):
-            box = box_of_blocks(self.states, is_lit)
-            cave = cave_of(box, [], 2, 1)
-            due = [cave.levels.get(box.position(number), 0) for number in range(len(box.cells))]
-            self.assertEqual(list(plans.read_levels(self.run_on(box, "levels")[1])), due)
+    def test_a_table_before_them_in_any_toml(self):
+        mine = FELT + b'[[row]]\nname = "minecraft:stone"\nopacity = 1_5\n[[row]]\nname = "*"\nopacity = 9\n'
+        lookup = Lookup(Table("mine", mine, None))
+        states = [("cave:felt", {"wet": "true"}), ("cave:felt", {}), ("minecraft:stone", {}), ("minecraft:water", {})]
+        self.assertEqual([row.opacity for row in lookup.rows_of(states)], [3, 9, 15, 1])
+        self.assertEqual([row.top for row in lookup.rows_of(states)], [False] * 4)
 
-    def test_where_mobs_stand_and_have_room(self):
-        box = box_of_blocks(self.states, False)
-        for rule, need in (("1.18", 1), ("1.17", 8)):
-            found = plans.read_dark(self.run_on(box, "dark", rule=rule)[1])
-            self.assertEqual(found, cave_of(box, [], 2, need).dark)
-
-    def test_where_torches_stand_and_hang(self):
-        box = box_of_blocks(self.states, False)
-        hangs = cave_of(box, [], 2, 1).hangs
-        self.assertEqual(self.run_on(box, "levels", [(*at, hang) for at, hang in hangs.items()])[0], 0)
-        for index in range(len(self.states)):
-            x, z = index % ROW * WIDE, index // ROW * DEEP
-            for place, hang in (((x, 1, z), "floor"), ((x + 2, 1, z), "floor"), ((x + 3, 1, z), "east")):
-                if hangs.get(place) != hang:
-                    self.assertEqual(self.run_on(box, "levels", [(*place, hang)])[0], 1, (self.states[index], hang))
-
-    def test_a_block_that_has_none(self):
-        self.assertEqual(self.run_on(box_of_blocks([("minecraft:oak_slab", {})], False), "levels")[0], 1)
-        self.assertEqual(len(self.states), sum(len(names.split()) for names, *_ in SHIPPED))
+    def test_each_state_is_asked_for_once(self):
+        made, lookup = class_of([], ("minecraft:lava", {}))._replace(name=b"made:1"), Lookup(EMPTY)
+        states = [("minecraft:stone", {}), ("minecraft:air", {}), ("minecraft:stone", {}), ("made:1", {})]
+        with unittest.mock.patch("answers.rows", wraps=answers.rows) as asked:
+            self.assertEqual([row and row.stand for row in lookup.rows_of(states)], [True, False, True, None])
+            more = lookup.with_made([made])
+            self.assertEqual(more.rows_of([*states, ("minecraft:glass", {})])[3], made)
+            self.assertIsNone(lookup.rows_of(states)[3])
+        self.assertEqual([len(call.args[1]) for call in asked.call_args_list], [3, 1])
 
 
 if __name__ == "__main__":

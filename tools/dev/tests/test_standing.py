@@ -15,6 +15,7 @@ import worlds
 from extents import Extent
 from plans import Torch
 from saved_worlds import V1_21, Saved
+from shipped import Apart
 from test_packs import function, read_zip
 
 TORCH, WALL = ("minecraft:torch", {}), ("minecraft:wall_torch", {"facing": "east"})
@@ -48,7 +49,7 @@ class Moved(unittest.TestCase):
             cave = sources.read_world(worlds.World(folder), Extent((8, 4, 7), (14, 8, 9)), "x")
         for move, level in ((False, 12), (True, 11)):
             told = argparse.Namespace(move=move, only=[], barred=[], reachable=False, headroom="2")
-            layout = box_runs.layout_of(cave, planning.Terms(told, None, [], "1.18"), box_runs.Context())
+            layout = box_runs.layout_of(cave, planning.Terms(told, None, Apart(), "1.18"), box_runs.Context())
             name, _ = layout.read.state_at(0, 2, 2)  # the shell's cell at 7 5 8
             self.assertEqual(next(row.emission for row in layout.rows if row.name == name.encode()), level)
             self.assertEqual(layout.read.state_at(2, 2, 2), AIR if move else TORCH)

@@ -7,12 +7,13 @@ import unittest
 
 import paths
 import tables
-import toml_rows
 import unknowns
 from made import AIR, floor_box
+from reading import user_rows
 from refusals import Refusal
 from repository import EXAMPLES, TOOLS
-from rows import COLUMNS, SHIPPED_ROWS, Row, row_of
+from rows import COLUMNS, Row
+from shipped import SHIPPED_ROWS, Apart, row_of
 from saved_worlds import V1_16, V1_17, V1_18, V1_20, V1_21
 
 OLD, NEW = "vanilla-1.18.toml", "vanilla-1.21.toml"
@@ -83,7 +84,7 @@ def text(*path):
 
 
 def rows_of(name):
-    return toml_rows.read_rows(text(EXAMPLES, "tables", name).encode())
+    return user_rows(text(EXAMPLES, "tables", name).encode())
 
 
 def state(words):
@@ -180,19 +181,25 @@ class Choice(unittest.TestCase):
     def test_steady_lights(self):
         found = tables.chosen(V1_18, is_steady=True)
         self.assertIsNone(found.path)
-        rows = toml_rows.read_rows(found.data)
+        rows = user_rows(found.data)
         self.assertEqual(row_of(rows, state("campfire lit=true")).emission, 15)
         self.assertEqual(row_of(rows, state("campfire lit=false")).emission, 0)
         self.assertGreater(len(rows), len(rows_of(OLD)))
-        self.assertEqual(row_of(toml_rows.read_rows(tables.chosen(V1_21, None, True).data),
+        self.assertEqual(row_of(user_rows(tables.chosen(V1_21, None, True).data),
                                 state("exposed_copper_bulb lit=true")).emission, 12)
+
+    def test_the_rows_of_the_vanilla_tables(self):
+        for version in (V1_18, V1_21):
+            for is_steady in (False, True):
+                data = tables.chosen(version, None, is_steady).data
+                self.assertEqual(tables.vanilla_rows(data), user_rows(data))
 
     def test_rows_of_one_s_own_stand_before_those_of_the_vanilla_table(self):
         mine = b'[[row]]\nname = "minecraft:campfire"\nopacity = 1\n\n[[row]]\nname = "cave:felt"\nopacity = 15\n'
         for is_steady in (False, True):
-            rows = toml_rows.read_rows(tables.chosen(None, tables.own_table(self.mine(mine)), is_steady).data)
-            self.assertEqual(rows[:2], toml_rows.read_rows(mine))
-            self.assertEqual(rows[2:], toml_rows.read_rows(tables.chosen(None, None, is_steady).data))
+            rows = user_rows(tables.chosen(None, tables.own_table(self.mine(mine)), is_steady).data)
+            self.assertEqual(rows[:2], user_rows(mine))
+            self.assertEqual(rows[2:], user_rows(tables.chosen(None, None, is_steady).data))
 
     def test_an_array_of_one_s_own_stands_alone(self):
         for mine in (b'row = [{ name = "*", opacity = 0 }]\n', b""):
@@ -209,8 +216,8 @@ class Choice(unittest.TestCase):
         more = [Row(b"made:1", {}, 3, 5, False, True, False, False, True), Row(b"made:2", {}, 0, 0, *[False] * 5)]
         array = b'# rows\nrow = [ { name = "cave:felt", opacity = 1 } ] # so many\n'
         for mine in (b"", b'[[row]]\nname = "cave:felt"\nopacity = 1', array, text(EXAMPLES, "tables", OLD).encode()):
-            rows = toml_rows.read_rows(tables.with_rows(mine, more))
-            self.assertCountEqual(rows, [*toml_rows.read_rows(mine), *more])
+            rows = user_rows(tables.with_rows(mine, more))
+            self.assertCountEqual(rows, [*user_rows(mine), *more])
         table = tables.chosen(None)
         self.assertIs(tables.more_of(table, []), table)
         self.assertIsNone(tables.more_of(table, more).path)
@@ -220,7 +227,7 @@ class Unknown(unittest.TestCase):
     def test_each_name_once_and_no_block_that_no_cell_has(self):
         box = floor_box([("cave:felt", {}), ("cave:felt", {"wet": "true"}), ("mod:ore", {}), AIR])
         box.palette.append(("mod:unused", {}))
-        self.assertEqual(unknowns.unknown_names(box, []), ["cave:felt", "mod:ore"])
+        self.assertEqual(unknowns.unknown_names(box, Apart()), ["cave:felt", "mod:ore"])
 
     def test_the_table_takes_each_as_full_and_solid(self):
         full = lambda name: Row(name, {}, 15, 0, False, True, False, True, True)
@@ -228,53 +235,8 @@ class Unknown(unittest.TestCase):
                     b'row = [{ name = "a:b", opacity = 15, stand = true, top = true, side = true }]'):
             data = unknowns.table_for(["cave:felt", "mod:x/y"], own)
             self.assertTrue(data.startswith(b"# Blocks that no table has."))
-            rows = toml_rows.read_rows(data)
+            rows = user_rows(data)
             self.assertCountEqual(rows, [full(b"a:b")] * bool(own) + [full(b"cave:felt"), full(b"mod:x/y")])
-
-
-class Toml(unittest.TestCase):
-    """The reader of the tables' own part of TOML, which Python before 3.11 needs."""
-
-    def setUp(self):
-        self.tomllib, toml_rows.tomllib = toml_rows.tomllib, None
-
-    def tearDown(self):
-        toml_rows.tomllib = self.tomllib
-
-    def test_it_reads_as_python_does(self):
-        if self.tomllib is None:
-            self.skipTest("this Python has no reader of TOML")
-        for name in (OLD, NEW):
-            data = text(EXAMPLES, "tables", name)
-            self.assertEqual(toml_rows.document(data), self.tomllib.loads(data))
-            rows = toml_rows.read_rows(data.encode())
-            self.assertEqual(toml_rows.read_rows("".join(map(toml_rows.text_of, rows)).encode()), rows)
-
-    def test_tables_of_one_s_own(self):
-        data = b"""# a table
-[[row]]
-name = 'cave:felt'   # both quotes
-"opacity" = 3
-when = { "thick" = "a \\"b\\"", thin = 'c' }
-free = true
-
-[[ row ]]
-name = "*"
-opacity = 0
-"""
-        found = toml_rows.read_rows(data)
-        self.assertEqual(found[0], Row(b"cave:felt", {b"thick": b'a "b"', b"thin": b"c"}, 3, 0, True, *[False] * 4))
-        self.assertEqual(found[1], Row(b"*", {}, 0, 0, *[False] * 5))
-        self.assertEqual(toml_rows.read_rows(b"row = [\n]\n"), [])
-        self.assertEqual(toml_rows.read_rows(b""), [])
-
-    def test_what_it_does_not_read_is_refused(self):
-        rows = [b"name = 3\xff", b'name = """x"""', b"opacity = 0x1", b"when.a = 3", b'name = "\\u0041"', b"name = 'a'",
-                b"name = 'a'\nname = 'b'", b"opacity = 3 free = true"]
-        wholes = [b"row = 3 4\n", b"[row]\n", b"row = [1]\n", b"row = ["]
-        for data in wholes + [b"[[row]]\n" + row + b"\n" for row in rows]:
-            with self.assertRaises(ValueError, msg=data):
-                toml_rows.read_rows(data)
 
 
 if __name__ == "__main__":

@@ -1,7 +1,7 @@
 "use strict";
 
-// Releases of the game, and the rows of block tables: as versions.py, rows.py, tables.py and toml_rows.py of ../../user
-// have them. Their data comes from there when the page is packed (DATA).
+// Releases of the game, and the rows of block tables: as versions.py, tables.py and toml_rows.py of ../../user have
+// them, and the shipped rows, as docs/FORMATS.md lists them. Their data comes from there when the page is packed (DATA).
 
 const RELEASES = DATA.releases.map(([name, dataVersion, packFormat]) => ({ name, dataVersion, packFormat }));
 const LATEST = RELEASES[RELEASES.length - 1];

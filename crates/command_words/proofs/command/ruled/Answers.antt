@@ -12,5 +12,5 @@ returns c =
     } in
     let one = grown_more _ headroom _ _ _ _ none (search rules) c.in_ok-arg.ensures in
     let two = grown_more _ (valued (codes "rule")) _ _ _ _ one (search rules) c.in_ok-arg-2.ensures in
-    IfOk-weaker c.arg-3.result _ _ (λ r h. grown_more _ (valued (codes "table")) _ _ _ _ two (search rules) h)
+    IfOk-weaker c.arg-3.result _ _ (λ r h. grown_more _ (valued (codes "table")) _ _ _ _ two c.table.ensures h)
     c.arg-3.ensures

@@ -29,5 +29,5 @@ returns-in_err-get_str-2 c =
 
 pub returns-in_err-rule_of : goal.returns-in_err-rule_of
 returns-in_err-rule_of c = let f = found_of c.args.matches.now in
-    none_found _ (rows_of f) c.from_residual-in_err-rule_of.result (no_rule (codes "check") (rows_of f)
+    none_found _ (rows_of f) c.from_residual-in_err-rule_of.result (no_rule (codes "check") (rows_of f) refl
     c.in_err-rule_of.ensures.none) (search rules)

@@ -92,3 +92,16 @@ pub returns-in-Levels-clause-silent : goal.returns-in-Levels-clause-silent
 returns-in-Levels-clause-silent g c = λ refused. text_silent (g.W.Write.contents c.args.output.now)
     (g.W.Write.contents c.answer_levels-ended.new.output) c.answer_levels-ended.result
     c.answer_levels-ended.ensures.left (subst IsRefused c.status_of_text-in-Levels.ensures refused)
+
+pub returns-in-Rows-clause-does : goal.returns-in-Rows-clause-does
+returns-in-Rows-clause-does g c = inl (
+  c.in-Ok.ensures.formed,
+  c.in-Ok.request,
+  c.in-Ok.ensures.asked,
+  rw c.in-Rows.is (c.answer_rows-ended.result, c.status_of_text-in-Rows.ensures, c.answer_rows-ended.ensures),
+)
+
+pub returns-in-Rows-clause-silent : goal.returns-in-Rows-clause-silent
+returns-in-Rows-clause-silent g c = λ refused. text_silent (g.W.Write.contents c.args.output.now)
+    (g.W.Write.contents c.answer_rows-ended.new.output) c.answer_rows-ended.result
+    c.answer_rows-ended.ensures.left (subst IsRefused c.status_of_text-in-Rows.ensures refused)
