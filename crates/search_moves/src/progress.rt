@@ -43,13 +43,15 @@ impl Progress {
         self.of_kids.truncate(depth);
         self.of_kids.push(share / (kids as u64).max(1))?;
         self.opened = self.opened.saturating_add(1);
-        self.closed.push(self.sum())
+        self.closed.push(self.sum())?;
+        Ok(())
     }
 
     /// The node of this depth was closed.
     pub(crate) fn close(&mut self, depth: usize) -> Result<(), AllocError> {
         let sum = self.sum().saturating_add(self.share_at(depth));
-        self.closed.push(sum)
+        self.closed.push(sum)?;
+        Ok(())
     }
 
     /// How many nodes were opened in this round.
