@@ -182,7 +182,7 @@ fn rows_command<'a>(alloc: Global) -> Result<Command<'a>, AllocError>
             "Print the row that serves each block state: opacity, emission, the columns that are yes; - for none",
         )
         .after_help(
-            "Example: torchplan rows cave.nbt --table blocks.toml\nOf stone it prints `15 0 stand top side`, and its name.",
+            "Example: torchplan rows cave.nbt --table blocks.toml\nOf stone: `15 0 stand top side`, then its name.",
         )
         .arg(file(alloc))?
         .arg(table(alloc))

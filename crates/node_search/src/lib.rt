@@ -1,5 +1,5 @@
-//! Branch and bound at one node and below it: what a strategy proposes is judged, and a node is closed whole, or opened as
-//! a piece that workers share. It is generic over the strategy, of which nothing is promised.
+//! Branch and bound at one node and below it: what a strategy proposes is judged, and a node is closed whole, or opened
+//! as a piece that workers share. It is generic over the strategy, of which nothing is promised.
 #![tactic(auto, using(crate::proofs::StepRules::search_steps))]
 
 mod branch_and_bound;

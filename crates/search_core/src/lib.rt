@@ -1,5 +1,5 @@
-//! The search for the fewest places, as far as it is proved: by rounds, each of which proves a size, and which one thread
-//! makes or many. It is generic over the strategy, of which nothing is promised.
+//! The search for the fewest places, as far as it is proved: by rounds, each of which proves a size, and which one
+//! thread makes or many. It is generic over the strategy, of which nothing is promised.
 #![tactic(auto, using(node_search::proofs::StepRules::search_steps))]
 
 mod beginning;

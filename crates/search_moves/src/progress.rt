@@ -1,5 +1,5 @@
-//! How far a round is that is made depth first, by shares of its root: each kid has an equal one of its parent's. Source:
-//! Knuth, "Estimating the efficiency of backtrack programs".
+//! How far a round is that is made depth first, by shares of its root: each kid has an equal one of its parent's.
+//! Source: Knuth, "Estimating the efficiency of backtrack programs".
 
 use std::alloc::{AllocError, Global};
 
