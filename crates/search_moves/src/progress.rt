@@ -43,7 +43,8 @@ impl Progress {
         self.of_kids.truncate(depth);
         self.of_kids.push(share / (kids as u64).max(1))?;
         self.opened = self.opened.saturating_add(1);
-        self.closed.push(self.sum())?;
+        let sum = self.sum();
+        self.closed.push(sum)?;
         Ok(())
     }
 
