@@ -41,7 +41,7 @@ at='{folder}'
 [ "$1" != rows ] || exec '{program}' "$@"
 for word; do printf '%s@' "$word"; done >>"$at/calls"
 echo >>"$at/calls"
-[ "$1" = --version ] || cp "$2" "$at/read.nbt"
+[ "$1" = --version ] || {{ cp "$2" "$at/read.$$" && mv "$at/read.$$" "$at/read.nbt"; }}
 [ ! -e "$at/$1.first" ] || {{ mv "$at/$1.first" "$at/$1.begun"; . "$at/$1.begun"; }}
 if [ "$1" = levels ] && [ ! -e "$at/levels.out" ]; then
     '{program}' "$@" 2>"$at/levels.err" || {{ cave=$2; shift 3; '{program}' levels "$cave" "$@"; }}
