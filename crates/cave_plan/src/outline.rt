@@ -37,7 +37,7 @@ pub struct Outline {
 fn rule_kept(world: &World) -> Rule
     ensures { IsWorld world.now }
 {
-    let _ = world.size();
+    let _ = world.size(); // for the proof
     world.rule()
 }
 
@@ -54,13 +54,13 @@ fn outline_from(
     world: &World,
     plans: Course,
     dark: usize,
-    _allowance: Allowance,
+    _allowance: Allowance, // for the proof
 ) -> Result<Outline, AllocError>
     requires plans { IsCourseIn world.now _allowance (known plans) }
     requires dark { CountsDark world.now dark }
     ensures { IfOk result (IsOutlineOf world.now _allowance) }
 {
-    let _ = rule_kept(world);
+    let _ = rule_kept(world); // for the proof
     let Course {
         parts,
         torches,

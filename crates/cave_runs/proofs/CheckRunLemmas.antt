@@ -3,14 +3,12 @@ use Rattle.std.proofs.Common.{◌≡◌, ℕ, ◌<◌, ◌≤◌, List, [], leng
 use Rattle.std.proofs.Common.{subst, ◌∙◌, ◌⊎◌, inl, inr, arith}
 use Rattle.std.specs.Prelude.{IfSome, MatchResult}
 use Rattle.std.proofs.KnownBytes.{Consumes-nil, Keeps-refl}
-use Rattle.std.specs.Io.KnownBytes.{Appends}
 use Rattle.cave_model.specs.Cave.{Cave, IsSound}
 use Rattle.cave_model.specs.Rule.{Rule, IsRule}
 use Rattle.cave_reading.specs.Bytes.{IsCaveOfBytes}
 use Rattle.cave_reading.proofs.ToldLemmas.{told_sound}
 use Rattle.cave_reading.specs.declared.cave_fault.CaveFault.{CaveFault}
 use Rattle.cave_reading.specs.declared.cave_fault.CaveFault.TheVariants as cave
-use Rattle.certificate_text.specs.Writing.{AppendsFront}
 use Rattle.proof_check.specs.Faults as check_faults
 use Rattle.proof_check.specs.Verdict as verdicts
 use Rattle.proof_check.proofs.FewestLemmas.{best_plan}
@@ -27,6 +25,7 @@ use Rattle.cave_runs.specs.Faults.{run_fault_of, of_check}
 use Rattle.cave_runs.specs.Limits.{structure_limit, proof_limit}
 use Rattle.cave_runs.specs.RunOfCheck.{IsRunOfCheck}
 use Rattle.cave_runs.specs.Runs.{IsFaultOfBytes}
+use Rattle.cave_runs.specs.Streams.{Stream, Takes, TakesFront, inputs, stream}
 use Rattle.cave_runs.specs.TextRuns.{IsOfInput}
 use Rattle.cave_runs.specs.declared.fault.Input.{Input}
 use Rattle.cave_runs.specs.declared.fault.Input.TheVariants.{ProofInput, StructureInput}
@@ -213,7 +212,7 @@ read_failed check.OutOfMemory is = absurd (cc)
 
 -- where no write failed, the writer is as it was
 line_kept : (e : RunFault) (structure table : Option (List ℕ)) (rule : Rule) (certificate held : Option (List ℕ))
-    → (e ≡ faults.WriteFailed → ⊥) → LeavesLine e structure table rule certificate held held
+    → (e ≡ faults.WriteFailed → ⊥) → LeavesLine e structure table rule certificate (stream held held)
 line_kept faults.WriteFailed structure table rule certificate held other = absurd (other refl)
 line_kept faults.OutOfMemory structure table rule certificate held other = Keeps-refl held
 line_kept faults.ReadFailed structure table rule certificate held other = Keeps-refl held
@@ -251,7 +250,8 @@ module _ (structure rest table : Option (List ℕ)) (rule : Rule) (certificate :
   -- a run whose structure wasn't read
   pub run_unread : (e : RunFault) (held : Option (List ℕ)) → IsNotRead e → IsTooLong structure e
       → (e ≡ faults.ReadFailed → GivesAtMost structure_limit structure rest)
-      → IsRunOfCheck structure rest table rule certificate certificate (Err e) held held
+      → IsRunOfCheck (inputs (stream structure rest) table rule) (stream certificate certificate) (Err e)
+      (stream held held)
   run_unread e held not_read long before = record {
     done = tt;
     only = excused (Err e) e structure table rule certificate refl (reading_excuse e StructureInput not_read);
@@ -269,7 +269,8 @@ module _ (structure rest table : Option (List ℕ)) (rule : Rule) (certificate :
     pub run_faulted : (e : CheckFault) (held : Option (List ℕ)) → length bytes ≤ structure_limit
         → GivesAtMost structure_limit structure rest
         → IsReadCheck bytes table rule certificate unread proof_limit (Err e)
-        → IsRunOfCheck structure rest table rule certificate unread (Err (of_check e)) held held
+        → IsRunOfCheck (inputs (stream structure rest) table rule) (stream certificate unread)
+            (Err (of_check e)) (stream held held)
     run_faulted e held within ended checked = record {
       done = tt;
       only = said (Err e) (Err (of_check e)) structure bytes table rule certificate same checked.only
@@ -287,7 +288,8 @@ module _ (structure rest table : Option (List ℕ)) (rule : Rule) (certificate :
         (checked : IsReadCheck bytes table rule certificate unread proof_limit (Ok verdict)) where
       -- one that has a verdict, and no memory for its line
       pub run_unsaid : (held : Option (List ℕ))
-          → IsRunOfCheck structure rest table rule certificate unread (Err faults.OutOfMemory) held held
+          → IsRunOfCheck (inputs (stream structure rest) table rule) (stream certificate unread)
+              (Err faults.OutOfMemory) (stream held held)
       run_unsaid held = record {
         done = tt;
         only = excused (Err faults.OutOfMemory) faults.OutOfMemory structure table rule certificate refl
@@ -302,15 +304,15 @@ module _ (structure rest table : Option (List ℕ)) (rule : Rule) (certificate :
       }
 
       -- one whose line wasn't written whole
-      pub run_unwritten : (e : RunFault) (old new : Option (List ℕ)) → e ≡ faults.WriteFailed
-          → AppendsFront old new (verdict_line verdict)
-          → IsRunOfCheck structure rest table rule certificate unread (Err e) old new
-      run_unwritten e old new is front = record {
+      pub run_unwritten : (e : RunFault) (writer : Stream) → e ≡ faults.WriteFailed
+          → TakesFront writer (verdict_line verdict)
+          → IsRunOfCheck (inputs (stream structure rest) table rule) (stream certificate unread) (Err e) writer
+      run_unwritten e writer is front = record {
         done = tt;
         only = excused (Err e) e structure table rule certificate refl (inr (inl is));
         fewest = tt;
         whole = whole_judged certificate verdict (Err e) checked.whole;
-        left = subst (λ (f : RunFault). LeavesLine f structure table rule certificate old new) (sym is)
+        left = subst (λ (f : RunFault). LeavesLine f structure table rule certificate writer) (sym is)
             (verdict, judges structure bytes table rule certificate verdict same checked.found, front);
         fault = λ of. absurd (of.1 is);
         refused = input_refused (λ b f. IsFaultOfBytes b table f) structure bytes (Unsaid e) same within
@@ -320,9 +322,9 @@ module _ (structure rest table : Option (List ℕ)) (rule : Rule) (certificate :
       }
 
       -- one whose line was
-      pub run_ended : (old new : Option (List ℕ)) → IsRule rule → Appends old new (verdict_line verdict)
-          → IsRunOfCheck structure rest table rule certificate unread (Ok verdict) old new
-      run_ended old new rules written = record {
+      pub run_ended : (writer : Stream) → IsRule rule → Takes writer (verdict_line verdict)
+          → IsRunOfCheck (inputs (stream structure rest) table rule) (stream certificate unread) (Ok verdict) writer
+      run_ended writer rules written = record {
         done = record {
           judges = judges structure bytes table rule certificate verdict same checked.found;
           written = written;

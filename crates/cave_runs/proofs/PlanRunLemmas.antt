@@ -2,7 +2,6 @@
 use Rattle.std.proofs.Common.{◌≡◌, ◌≢◌, ℕ, ◌<◌, ◌≤◌, List, [], length, map, Contains, Option}
 use Rattle.std.proofs.Common.{Some, None, Result, Ok, Err, refl, sym, ap, subst, ◌∙◌, ◌⊎◌, inl, inr, arith}
 use Rattle.std.specs.Prelude.{IfErr, IfOk, IfSome, OnErr, OnOk}
-use Rattle.std.specs.Io.KnownBytes.{Appends}
 use Rattle.std.specs.List.Sorted.{IsStrictlyIncreasing}
 use Rattle.std.proofs.KnownBytes.{Keeps-refl}
 use Rattle.std.proofs.lemmas.List.{append-nil}
@@ -15,7 +14,6 @@ use Rattle.cave_model.specs.Rule.{Rule}
 use Rattle.cave_reading.specs.declared.cave_fault.CaveFault.{CaveFault}
 use Rattle.cave_reading.specs.declared.cave_fault.CaveFault.TheVariants as cave_faults
 use Rattle.certificate_text.specs.Planned.{Plan, certificate_of, certificate_text}
-use Rattle.certificate_text.specs.Writing.{AppendsFront, AppendsPart}
 use Rattle.certificate_text.specs.declared.fault.WriteFault.{WriteFault}
 use Rattle.certificate_text.specs.declared.fault.WriteFault.TheVariants as writing
 use Rattle.certificate_text.proofs.SentLemmas.{part_none}
@@ -34,6 +32,7 @@ use Rattle.cave_runs.specs.Limits.{structure_limit}
 use Rattle.cave_runs.specs.PlanRuns.{WritesBest, EndsIn, Plans, BeginsTexts, BeginsPlan, Leaves}
 use Rattle.cave_runs.specs.PlanRuns.{LeavesIn, LeavesProved, NamesUnlit, IsNoPlan, IsNoPlanOfInput}
 use Rattle.cave_runs.specs.RunOfPlan.{IsRunOfPlan}
+use Rattle.cave_runs.specs.Streams.{Inputs, Outputs, Stream, Takes, TakesFront, TakesPart, outputs, stream}
 use Rattle.cave_runs.specs.TextRuns.{IsOfInput}
 use Rattle.cave_runs.proofs.RunLemmas.{IsNotRead, IsTooLong, bytes_unwritten, cave_refused, cave_clean, long_input}
 use Rattle.cave_runs.proofs.RunLemmas.{long_refused, unwritten, widened}
@@ -44,11 +43,11 @@ use Rattle.cave_runs.specs.declared.plan.Outcome.{Outcome}
 
 -- ---- what is written
 
-pub writes_best : (cave : Cave) (text : List ℕ) (plans : List Plan) (old new proof_old proof_new : Option (List ℕ))
+pub writes_best : (cave : Cave) (text : List ℕ) (plans : List Plan) (out : Outputs)
     → IsPlanned cave text plans
-    → Appends old new text → Appends proof_old proof_new (certificate_text cave plans)
-    → WritesBest cave old new proof_old proof_new
-writes_best cave text plans old new proof_old proof_new is written proved = record {
+    → Takes out.text text → Takes out.proof (certificate_text cave plans)
+    → WritesBest cave out
+writes_best cave text plans out is written proved = record {
   torches = is.torches;
   safe = is.safe;
   best = is.best;
@@ -76,88 +75,85 @@ text_is_some cave torches None text prints = rw prints.is (omega arith)
 text_is_some cave torches (Some floor) text prints = rw prints.is (omega arith)
 
 -- nothing was taken yet of a text that isn't empty
-front_none : (a : Option (List ℕ)) (text : List ℕ) → 0 < length text → AppendsFront a a text
+front_none : (a : Option (List ℕ)) (text : List ℕ) → 0 < length text → TakesFront (stream a a) text
 front_none a text some = ([], text, some, refl, none_taken a)
 
-all_is_part : (old new : Option (List ℕ)) (text : List ℕ) → Appends old new text → AppendsPart old new text
-all_is_part old new text taken = (text, [], sym (append-nil text), taken)
+all_is_part : (writer : Stream) (text : List ℕ) → Takes writer text → TakesPart writer text
+all_is_part writer text taken = (text, [], sym (append-nil text), taken)
 
 -- the certificate wasn't written whole
 pub certificate_failed : (fault : WriteFault) (cave : Cave) (text : List ℕ) (plans : List Plan)
-    (same proof_old proof_new : Option (List ℕ)) → IsPlanned cave text plans
-    → AppendsFront proof_old proof_new (certificate_text cave plans)
-    → LeavesProved (of_write fault) cave same same proof_old proof_new
-certificate_failed fault cave text plans same proof_old proof_new is front = record
+    (held : Option (List ℕ)) (proof : Stream) → IsPlanned cave text plans
+    → TakesFront proof (certificate_text cave plans)
+    → LeavesProved (of_write fault) cave (outputs (stream held held) proof)
+certificate_failed fault cave text plans held proof is front = record
     { each = λ allowance. by fault (begun allowance) }
   where
-    begun : (allowance : Allowance) → BeginsTexts cave allowance same same proof_old proof_new
+    begun : (allowance : Allowance) → BeginsTexts cave allowance (outputs (stream held held) proof)
     begun allowance = record {
       text = text;
       proof = certificate_text cave plans;
       are = inl (plans, is, refl);
-      written = front_none same text (text_is_some cave is.torches None text is.prints);
+      written = front_none held text (text_is_some cave is.torches None text is.prints);
       proved = (front.0, front.1, front.3, front.4);
     }
 
-    by : (fault : WriteFault) {allowance : Allowance} → BeginsTexts cave allowance same same proof_old proof_new
-        → LeavesIn (of_write fault) cave allowance same same proof_old proof_new
+    by : (fault : WriteFault) {allowance : Allowance} → BeginsTexts cave allowance (outputs (stream held held) proof)
+        → LeavesIn (of_write fault) cave allowance (outputs (stream held held) proof)
     by writing.WriteFailed b = b
-    by writing.OutOfMemory b = (Keeps-refl same, b)
+    by writing.OutOfMemory b = (Keeps-refl held, b)
 
 -- the text wasn't written whole
 pub text_failed : (fault : RunFault) (cave : Cave) (text : List ℕ) (plans : List Plan)
-    (old new proof_old proof_new : Option (List ℕ)) → fault ≡ faults.WriteFailed → IsPlanned cave text plans
-    → AppendsFront old new text → Appends proof_old proof_new (certificate_text cave plans)
-    → LeavesProved fault cave old new proof_old proof_new
-text_failed fault cave text plans old new proof_old proof_new failed is front proved = record {
-  each = λ allowance. subst (λ (f : RunFault). LeavesIn f cave allowance old new proof_old proof_new) (sym failed)
+    (out : Outputs) → fault ≡ faults.WriteFailed → IsPlanned cave text plans
+    → TakesFront out.text text → Takes out.proof (certificate_text cave plans)
+    → LeavesProved fault cave out
+text_failed fault cave text plans out failed is front proved = record {
+  each = λ allowance. subst (λ (f : RunFault). LeavesIn f cave allowance out) (sym failed)
       (record {
         text = text;
         proof = certificate_text cave plans;
         are = inl (plans, is, refl);
         written = front;
-        proved = all_is_part proof_old proof_new (certificate_text cave plans)
-            proved;
+        proved = all_is_part out.proof (certificate_text cave plans) proved;
       });
 }
 
 pub stop_failed : (fault : RunFault) (cave : Cave) (allowance : Allowance) (text : List ℕ) (plans : List Plan)
-    (old new proof : Option (List ℕ)) → fault ≡ faults.WriteFailed → IsStoppedAt cave allowance text plans
-    → AppendsFront old new text → LeavesIn fault cave allowance old new proof proof
-stop_failed fault cave allowance text plans old new proof failed is front =
-    subst (λ (f : RunFault). LeavesIn f cave allowance old new proof proof) (sym failed)
+    (writer : Stream) (proof : Option (List ℕ)) → fault ≡ faults.WriteFailed → IsStoppedAt cave allowance text plans
+    → TakesFront writer text → LeavesIn fault cave allowance (outputs writer (stream proof proof))
+stop_failed fault cave allowance text plans writer proof failed is front =
+    subst (λ (f : RunFault). LeavesIn f cave allowance (outputs writer (stream proof proof))) (sym failed)
     (record {
       text = text;
       proof = [];
       are = inr (plans, is, refl);
       written = front;
-      proved =
-          part_none proof [];
+      proved = part_none proof [];
     })
 
 -- ---- the whole run
 
-pub leaves : (fault : RunFault) (known : Option (List ℕ)) (bytes : List ℕ) (table : Option (List ℕ)) (rule : Rule)
-    (allowance : Allowance) (cave : Cave) (old new proof_old proof_new : Option (List ℕ))
-    → IfSome known (λ b. bytes ≡ b) → IsCaveOfBytes bytes table rule cave
-    → LeavesIn fault cave allowance old new proof_old proof_new
-    → Leaves fault known table rule allowance old new proof_old proof_new
-leaves fault known bytes table rule allowance cave old new proof_old proof_new same told left = by fault left
+pub leaves : (fault : RunFault) (given : Inputs) (bytes : List ℕ) (allowance : Allowance) (cave : Cave) (out : Outputs)
+    → IfSome given.structure.before (λ b. bytes ≡ b) → IsCaveOfBytes bytes given.table given.rule cave
+    → LeavesIn fault cave allowance out
+    → Leaves fault given allowance out
+leaves fault given bytes allowance cave out same told left = by fault left
   where
-    begins : (k : Option (List ℕ)) → IfSome k (λ b. bytes ≡ b) → BeginsTexts cave allowance old new proof_old proof_new
-        → IfSome k (λ b. BeginsPlan b table rule allowance old new proof_old proof_new)
+    begins : (k : Option (List ℕ)) → IfSome k (λ b. bytes ≡ b) → BeginsTexts cave allowance out
+        → IfSome k (λ b. BeginsPlan b given.table given.rule allowance out)
     begins None e b = tt
     begins (Some k) e b = record {
       cave = cave;
-      told = subst (λ (x : List ℕ). IsCaveOfBytes x table rule cave) e
+      told = subst (λ (x : List ℕ). IsCaveOfBytes x given.table given.rule cave) e
           told;
       begins = b;
     }
 
-    by : (f : RunFault) → LeavesIn f cave allowance old new proof_old proof_new
-        → Leaves f known table rule allowance old new proof_old proof_new
-    by faults.WriteFailed b = begins known same b
-    by faults.OutOfMemory b = (b.0, inr (begins known same b.1))
+    by : (f : RunFault) → LeavesIn f cave allowance out
+        → Leaves f given allowance out
+    by faults.WriteFailed b = begins given.structure.before same b
+    by faults.OutOfMemory b = (b.0, inr (begins given.structure.before same b.1))
     by faults.ReadFailed b = absurd b
     by (faults.TooLong i) b = absurd b
     by (faults.Scan f) b = absurd b
@@ -168,12 +164,12 @@ leaves fault known bytes table rule allowance cave old new proof_old proof_new s
     by faults.NoThread b = absurd b
 
 pub plans : (known : Option (List ℕ)) (bytes : List ℕ) (table : Option (List ℕ)) (rule : Rule) (allowance : Allowance)
-    (cave : Cave) (outcome : Outcome) (old new proof_old proof_new : Option (List ℕ))
+    (cave : Cave) (outcome : Outcome) (out : Outputs)
     → IfSome known (λ b. bytes ≡ b) → IsCaveOfBytes bytes table rule cave
-    → EndsIn outcome cave allowance old new proof_old proof_new
-    → IfSome known (λ b. Plans b table rule allowance outcome old new proof_old proof_new)
-plans None bytes table rule allowance cave outcome old new proof_old proof_new same told ends = tt
-plans (Some b) bytes table rule allowance cave outcome old new proof_old proof_new same told ends =
+    → EndsIn outcome cave allowance out
+    → IfSome known (λ b. Plans b table rule allowance outcome out)
+plans None bytes table rule allowance cave outcome out same told ends = tt
+plans (Some b) bytes table rule allowance cave outcome out same told ends =
     record { cave = cave; told = subst (λ (x : List ℕ). IsCaveOfBytes x table rule cave) same told; ends = ends }
 
 -- ---- why there is no plan
@@ -260,40 +256,37 @@ unplanned_here bytes table rule world clean only due (inr (cave, told, unlit)) =
 -- ---- the last write
 
 pub written_in : {X : Type 0} (r : Result X RunFault) (cave : Cave) (text : List ℕ) (plans : List Plan)
-    (old new proof_old proof_new : Option (List ℕ)) → IsPlanned cave text plans
-    → OnOk r (Appends old new text) → Appends proof_old proof_new (certificate_text cave plans)
-    → OnOk r (WritesBest cave old new proof_old proof_new)
-written_in (Ok x) cave text plans old new proof_old proof_new is written proved = writes_best cave text plans old
-    new proof_old proof_new is written proved
-written_in (Err e) cave text plans old new proof_old proof_new is written proved = tt
+    (out : Outputs) → IsPlanned cave text plans
+    → OnOk r (Takes out.text text) → Takes out.proof (certificate_text cave plans)
+    → OnOk r (WritesBest cave out)
+written_in (Ok x) cave text plans out is written proved = writes_best cave text plans out is written proved
+written_in (Err e) cave text plans out is written proved = tt
 
 pub text_failed_in : {X : Type 0} (r : Result X RunFault) (cave : Cave) (text : List ℕ) (plans : List Plan)
-    (old new proof_old proof_new : Option (List ℕ)) → IsPlanned cave text plans
-    → IfErr r (λ e. e ≡ faults.WriteFailed) → OnErr r (AppendsFront old new text)
-    → Appends proof_old proof_new (certificate_text cave plans)
-    → IfErr r (λ e. LeavesProved e cave old new proof_old proof_new)
-text_failed_in (Ok x) cave text plans old new proof_old proof_new is kind front proved = tt
-text_failed_in (Err e) cave text plans old new proof_old proof_new is kind front proved = text_failed e cave text
-    plans old new proof_old proof_new kind is front proved
+    (out : Outputs) → IsPlanned cave text plans
+    → IfErr r (λ e. e ≡ faults.WriteFailed) → OnErr r (TakesFront out.text text)
+    → Takes out.proof (certificate_text cave plans)
+    → IfErr r (λ e. LeavesProved e cave out)
+text_failed_in (Ok x) cave text plans out is kind front proved = tt
+text_failed_in (Err e) cave text plans out is kind front proved = text_failed e cave text
+    plans out kind is front proved
 
 -- ---- the run of a plan
 
 -- where no write failed, both writers are as they were
-leaves_kept : (fault : RunFault) (known table : Option (List ℕ)) (rule : Rule) (allowance : Allowance)
-    (held proof : Option (List ℕ)) → (fault ≡ faults.WriteFailed → ⊥)
-    → Leaves fault known table rule allowance held held proof proof
-leaves_kept faults.WriteFailed known table rule allowance held proof other = absurd (other refl)
-leaves_kept faults.OutOfMemory known table rule allowance held proof other =
-    (Keeps-refl held, inl (Keeps-refl proof))
-leaves_kept faults.ReadFailed known table rule allowance held proof other = (Keeps-refl held, Keeps-refl proof)
-leaves_kept (faults.TooLong i) known table rule allowance held proof other = (Keeps-refl held, Keeps-refl proof)
-leaves_kept (faults.Scan f) known table rule allowance held proof other = (Keeps-refl held, Keeps-refl proof)
-leaves_kept (faults.Table f) known table rule allowance held proof other = (Keeps-refl held, Keeps-refl proof)
-leaves_kept (faults.Build f) known table rule allowance held proof other = (Keeps-refl held, Keeps-refl proof)
-leaves_kept (faults.Plan f) known table rule allowance held proof other = (Keeps-refl held, Keeps-refl proof)
-leaves_kept (faults.Unlightable x y z) known table rule allowance held proof other =
-    (Keeps-refl held, Keeps-refl proof)
-leaves_kept faults.NoThread known table rule allowance held proof other = (Keeps-refl held, Keeps-refl proof)
+leaves_kept : (fault : RunFault) (given : Inputs) (allowance : Allowance) (held proof : Option (List ℕ))
+    → (fault ≡ faults.WriteFailed → ⊥)
+    → Leaves fault given allowance (outputs (stream held held) (stream proof proof))
+leaves_kept faults.WriteFailed given allowance held proof other = absurd (other refl)
+leaves_kept faults.OutOfMemory given allowance held proof other = (Keeps-refl held, inl (Keeps-refl proof))
+leaves_kept faults.ReadFailed given allowance held proof other = (Keeps-refl held, Keeps-refl proof)
+leaves_kept (faults.TooLong i) given allowance held proof other = (Keeps-refl held, Keeps-refl proof)
+leaves_kept (faults.Scan f) given allowance held proof other = (Keeps-refl held, Keeps-refl proof)
+leaves_kept (faults.Table f) given allowance held proof other = (Keeps-refl held, Keeps-refl proof)
+leaves_kept (faults.Build f) given allowance held proof other = (Keeps-refl held, Keeps-refl proof)
+leaves_kept (faults.Plan f) given allowance held proof other = (Keeps-refl held, Keeps-refl proof)
+leaves_kept (faults.Unlightable x y z) given allowance held proof other = (Keeps-refl held, Keeps-refl proof)
+leaves_kept faults.NoThread given allowance held proof other = (Keeps-refl held, Keeps-refl proof)
 
 -- why there is no plan is no failed write
 plan_unwritten : (bytes : List ℕ) (table : Option (List ℕ)) (rule : Rule) (e : RunFault)
@@ -304,18 +297,18 @@ plan_unwritten bytes table rule e (inr (cave, told, unlit)) is = (let both : fau
     (coordinates cave.size unlit.cell).z = sym is ∙ unlit.named in cc)
 
 -- what a fault of writing leaves, only such a fault and refused memory leave
-left_by : (e : RunFault) (cave : Cave) (allowance : Allowance) (old new proof_old proof_new : Option (List ℕ))
-    → LeavesIn e cave allowance old new proof_old proof_new → (e ≡ faults.WriteFailed) ⊎ (e ≡ faults.OutOfMemory)
-left_by faults.WriteFailed cave allowance old new proof_old proof_new b = inl refl
-left_by faults.OutOfMemory cave allowance old new proof_old proof_new b = inr refl
-left_by faults.ReadFailed cave allowance old new proof_old proof_new b = absurd b
-left_by (faults.TooLong i) cave allowance old new proof_old proof_new b = absurd b
-left_by (faults.Scan f) cave allowance old new proof_old proof_new b = absurd b
-left_by (faults.Table f) cave allowance old new proof_old proof_new b = absurd b
-left_by (faults.Build f) cave allowance old new proof_old proof_new b = absurd b
-left_by (faults.Plan f) cave allowance old new proof_old proof_new b = absurd b
-left_by (faults.Unlightable x y z) cave allowance old new proof_old proof_new b = absurd b
-left_by faults.NoThread cave allowance old new proof_old proof_new b = absurd b
+left_by : (e : RunFault) (cave : Cave) (allowance : Allowance) (out : Outputs)
+    → LeavesIn e cave allowance out → (e ≡ faults.WriteFailed) ⊎ (e ≡ faults.OutOfMemory)
+left_by faults.WriteFailed cave allowance out b = inl refl
+left_by faults.OutOfMemory cave allowance out b = inr refl
+left_by faults.ReadFailed cave allowance out b = absurd b
+left_by (faults.TooLong i) cave allowance out b = absurd b
+left_by (faults.Scan f) cave allowance out b = absurd b
+left_by (faults.Table f) cave allowance out b = absurd b
+left_by (faults.Build f) cave allowance out b = absurd b
+left_by (faults.Plan f) cave allowance out b = absurd b
+left_by (faults.Unlightable x y z) cave allowance out b = absurd b
+left_by faults.NoThread cave allowance out b = absurd b
 
 -- neither lies in the input, or in a want of threads
 none_of_input : (e : RunFault) → (e ≡ faults.WriteFailed) ⊎ (e ≡ faults.OutOfMemory) → IsOfInput e → ⊥
@@ -332,37 +325,39 @@ unread_of_threads e (inr (inl long)) is =
     (let both : faults.TooLong StructureInput ≡ faults.NoThread = sym long ∙ is in cc)
 unread_of_threads e (inr (inr none)) is = (let both : faults.OutOfMemory ≡ faults.NoThread = sym none ∙ is in cc)
 
-module _ (known rest table : Option (List ℕ)) (rule : Rule) (allowance : Allowance) where
+module _ (given : Inputs) (allowance : Allowance) where
   -- a run whose input wasn't read
-  pub plan_unread : (e : RunFault) (held proof : Option (List ℕ)) → IsNotRead e → IsTooLong known e
-      → (e ≡ faults.ReadFailed → GivesAtMost structure_limit known rest)
-      → IsRunOfPlan known rest table rule allowance (Err e) held held proof proof
+  pub plan_unread : (e : RunFault) (held proof : Option (List ℕ)) → IsNotRead e → IsTooLong given.structure.before e
+      → (e ≡ faults.ReadFailed → GivesAtMost structure_limit given.structure.before given.structure.after)
+      → IsRunOfPlan given allowance (Err e) (outputs (stream held held) (stream proof proof))
   plan_unread e held proof not_read long before = record {
     done = tt;
-    left = leaves_kept e known table rule allowance held proof (unwritten e not_read);
-    fault = λ of thread. long_input (λ bytes f. IsNoPlan bytes table rule f) known e not_read long of;
-    refused = long_refused (λ bytes f. IsNoPlan bytes table rule f)
-        (λ due. (e ≡ due) ⊎ (e ≡ faults.ReadFailed) ⊎ (e ≡ faults.OutOfMemory)) known e not_read long
+    left = leaves_kept e given allowance held proof (unwritten e not_read);
+    fault = λ of thread. long_input (λ bytes f. IsNoPlan bytes given.table given.rule f) given.structure.before e
+        not_read long of;
+    refused = long_refused (λ bytes f. IsNoPlan bytes given.table given.rule f)
+        (λ due. (e ≡ due) ⊎ (e ≡ faults.ReadFailed) ⊎ (e ≡ faults.OutOfMemory)) given.structure.before e not_read long
         (λ due same. inl same) (λ failed due. inr (inl failed)) (λ none due. inr (inr none));
     threads = λ is. absurd (unread_of_threads e not_read is);
     before = before;
   }
 
-  module _ (bytes : List ℕ) (same : IfSome known (λ b. bytes ≡ b)) (within : length bytes ≤ structure_limit)
-      (ended : GivesAtMost structure_limit known rest) where
+  module _ (bytes : List ℕ) (same : IfSome given.structure.before (λ b. bytes ≡ b))
+      (within : length bytes ≤ structure_limit) (ended : GivesAtMost structure_limit given.structure.before given.structure.after) where
     -- one whose input has no plan, or that gets no thread
     pub plan_refused : (e : RunFault) (held proof : Option (List ℕ))
-        → (e ≢ faults.OutOfMemory → e ≢ faults.NoThread → IsNoPlan bytes table rule e)
+        → (e ≢ faults.OutOfMemory → e ≢ faults.NoThread → IsNoPlan bytes given.table given.rule e)
         → (e ≡ faults.NoThread → 1 < allowance.workers)
-        → ((due : RunFault) → IsNoPlan bytes table rule due → (e ≡ due) ⊎ (e ≡ faults.OutOfMemory))
-        → IsRunOfPlan known rest table rule allowance (Err e) held held proof proof
+        → ((due : RunFault) → IsNoPlan bytes given.table given.rule due → (e ≡ due) ⊎ (e ≡ faults.OutOfMemory))
+        → IsRunOfPlan given allowance (Err e) (outputs (stream held held) (stream proof proof))
     plan_refused e held proof told threads refused = record {
       done = tt;
-      left = leaves_kept e known table rule allowance held proof (λ failed. plan_unwritten bytes table rule e (told
+      left = leaves_kept e given allowance held proof (λ failed. plan_unwritten bytes given.table given.rule e (told
           (λ none. (let both : faults.WriteFailed ≡ faults.OutOfMemory = sym failed ∙ none in cc))
           (λ thread. (let both : faults.WriteFailed ≡ faults.NoThread = sym failed ∙ thread in cc))) failed);
-      fault = λ of thread. no_plan_input known bytes table rule e same within (told of.2 thread);
-      refused = no_plan_refused known bytes table rule
+      fault = λ of thread. no_plan_input given.structure.before bytes given.table given.rule e same within
+          (told of.2 thread);
+      refused = no_plan_refused given.structure.before bytes given.table given.rule
           (λ due. (e ≡ due) ⊎ (e ≡ faults.ReadFailed) ⊎ (e ≡ faults.OutOfMemory)) same within
           (λ due of. widened e due (refused due of));
       threads = threads;
@@ -370,25 +365,26 @@ module _ (known rest table : Option (List ℕ)) (rule : Rule) (allowance : Allow
     }
 
     -- one that ends with the writes of its texts
-    pub plan_ended : (cave : Cave) (r : Result Outcome RunFault) (old new proof_old proof_new : Option (List ℕ))
-        → IsCaveOfBytes bytes table rule cave → ((due : RunFault) → IsNoPlan bytes table rule due → ⊥)
-        → IfOk r (λ outcome. EndsIn outcome cave allowance old new proof_old proof_new)
-        → IfErr r (λ e. LeavesIn e cave allowance old new proof_old proof_new)
-        → IsRunOfPlan known rest table rule allowance r old new proof_old proof_new
-    plan_ended cave (Ok outcome) old new proof_old proof_new told clean ends left = record {
-      done = plans known bytes table rule allowance cave outcome old new proof_old proof_new same told ends;
+    pub plan_ended : (cave : Cave) (r : Result Outcome RunFault) (out : Outputs)
+        → IsCaveOfBytes bytes given.table given.rule cave
+        → ((due : RunFault) → IsNoPlan bytes given.table given.rule due → ⊥)
+        → IfOk r (λ outcome. EndsIn outcome cave allowance out)
+        → IfErr r (λ e. LeavesIn e cave allowance out)
+        → IsRunOfPlan given allowance r out
+    plan_ended cave (Ok outcome) out told clean ends left = record {
+      done = plans given.structure.before bytes given.table given.rule allowance cave outcome out same told ends;
       left = tt;
       fault = tt;
-      refused = no_plan_refused known bytes table rule (λ due. ⊥) same within clean;
+      refused = no_plan_refused given.structure.before bytes given.table given.rule (λ due. ⊥) same within clean;
       threads = tt;
       before = tt;
     }
-    plan_ended cave (Err e) old new proof_old proof_new told clean ends left =
-        let by = left_by e cave allowance old new proof_old proof_new left in record {
+    plan_ended cave (Err e) out told clean ends left =
+        let by = left_by e cave allowance out left in record {
           done = tt;
-          left = leaves e known bytes table rule allowance cave old new proof_old proof_new same told left;
+          left = leaves e given bytes allowance cave out same told left;
           fault = λ of thread. absurd (none_of_input e by of);
-          refused = no_plan_refused known bytes table rule
+          refused = no_plan_refused given.structure.before bytes given.table given.rule
               (λ due. (e ≡ due) ⊎ (e ≡ faults.ReadFailed) ⊎ (e ≡ faults.OutOfMemory)) same within
               (λ due of. absurd (clean due of));
           threads = λ is. absurd (none_of_threads e by is);

@@ -2,16 +2,15 @@
 use Rattle.std.proofs.Common.{◌≡◌, ◌≢◌, ℕ, ◌<◌, ◌≤◌, List, length, Option, Some, None, Result, Ok, Err, refl, sym, ap}
 use Rattle.std.proofs.Common.{subst, ◌∙◌, ◌⊎◌, inl, inr, arith}
 use Rattle.std.specs.Prelude.{IfErr, IfSome, OnErr, OnOk}
-use Rattle.std.specs.Io.KnownBytes.{Appends}
 use Rattle.std.proofs.KnownBytes.{Keeps-refl}
 use Rattle.cave_reading.specs.Bytes as caves
 use Rattle.cave_reading.specs.declared.cave_fault.CaveFault.{CaveFault}
 use Rattle.cave_reading.specs.declared.cave_fault.CaveFault.TheVariants as cave
-use Rattle.certificate_text.specs.Writing.{AppendsFront}
 use Rattle.proof_check.specs.Reading.{GivesAtMost}
 use Rattle.cave_runs.specs.Faults.{run_fault_of}
 use Rattle.cave_runs.specs.Limits.{structure_limit}
 use Rattle.cave_runs.specs.Runs.{IsFaultOfBytes}
+use Rattle.cave_runs.specs.Streams.{Stream, Takes, TakesFront, stream}
 use Rattle.cave_runs.specs.TextRuns.{BeginsText, IsOfBytes, IsOfInput, IsRunOfText, WritesText}
 use Rattle.cave_runs.specs.declared.fault.Input.TheVariants.{StructureInput}
 use Rattle.cave_runs.specs.declared.fault.RunFault.{RunFault}
@@ -134,59 +133,59 @@ bytes_unwritten bytes table e (inner, of, same) is = never_written inner (sym sa
 
 -- ---- a run that writes one text
 
-module _ (IsText : List ℕ → List ℕ → Type 0) (IsFault : List ℕ → RunFault → Type 0) (known rest : Option (List ℕ)) where
+module _ (IsText : List ℕ → List ℕ → Type 0) (IsFault : List ℕ → RunFault → Type 0) (structure : Stream) where
   -- a run whose input wasn't read
-  pub text_unread : (e : RunFault) (held : Option (List ℕ)) → IsNotRead e → IsTooLong known e
-      → (e ≡ faults.ReadFailed → GivesAtMost structure_limit known rest)
-      → IsRunOfText IsText IsFault known rest (Err e) held held
+  pub text_unread : (e : RunFault) (held : Option (List ℕ)) → IsNotRead e → IsTooLong structure.before e
+      → (e ≡ faults.ReadFailed → GivesAtMost structure_limit structure.before structure.after)
+      → IsRunOfText IsText IsFault structure (Err e) (stream held held)
   text_unread e held not_read long before = record {
     done = tt;
     untouched = λ other. Keeps-refl held;
     begun = λ failed. absurd (unwritten e not_read failed);
-    fault = λ of. long_input IsFault known e not_read long of;
-    refused = long_refused IsFault (λ due. (e ≡ due) ⊎ (e ≡ faults.ReadFailed) ⊎ (e ≡ faults.OutOfMemory)) known e
-        not_read long (λ due same. inl same) (λ failed due. inr (inl failed)) (λ none due. inr (inr none));
+    fault = λ of. long_input IsFault structure.before e not_read long of;
+    refused = long_refused IsFault (λ due. (e ≡ due) ⊎ (e ≡ faults.ReadFailed) ⊎ (e ≡ faults.OutOfMemory)) structure.before
+        e not_read long (λ due same. inl same) (λ failed due. inr (inl failed)) (λ none due. inr (inr none));
     before = before;
   }
 
-  module _ (bytes : List ℕ) (same : IfSome known (λ b. bytes ≡ b)) (within : length bytes ≤ structure_limit)
-      (ended : GivesAtMost structure_limit known rest) where
+  module _ (bytes : List ℕ) (same : IfSome structure.before (λ b. bytes ≡ b)) (within : length bytes ≤ structure_limit)
+      (ended : GivesAtMost structure_limit structure.before structure.after) where
     -- one whose input has a fault
     pub text_refused : (e : RunFault) (held : Option (List ℕ)) → (e ≢ faults.OutOfMemory → IsFault bytes e)
         → (IsFault bytes e → e ≡ faults.WriteFailed → ⊥)
         → ((due : RunFault) → IsFault bytes due → (e ≡ due) ⊎ (e ≡ faults.OutOfMemory))
-        → IsRunOfText IsText IsFault known rest (Err e) held held
+        → IsRunOfText IsText IsFault structure (Err e) (stream held held)
     text_refused e held told other_fault refused = record {
       done = tt;
       untouched = λ other. Keeps-refl held;
       begun = λ failed. absurd (other_fault (told
           (λ none. (let both : faults.WriteFailed ≡ faults.OutOfMemory = sym failed ∙ none in cc))) failed);
-      fault = λ of. input_fault IsFault known bytes e same within (told of.2);
-      refused = input_refused IsFault known bytes
+      fault = λ of. input_fault IsFault structure.before bytes e same within (told of.2);
+      refused = input_refused IsFault structure.before bytes
           (λ due. (e ≡ due) ⊎ (e ≡ faults.ReadFailed) ⊎ (e ≡ faults.OutOfMemory)) same within
           (λ due of. widened e due (refused due of));
       before = λ failed. ended;
     }
 
     -- one that ends with the write of its text
-    pub text_ended : (text : List ℕ) (r : Result (Unit {0}) RunFault) (old new : Option (List ℕ)) → IsText bytes text
-        → ((due : RunFault) → IsFault bytes due → ⊥) → OnOk r (Appends old new text)
-        → IfErr r (λ e. e ≡ faults.WriteFailed) → OnErr r (AppendsFront old new text)
-        → IsRunOfText IsText IsFault known rest r old new
-    text_ended text (Ok u) old new is clean written kind front = record {
-      done = known_too (λ b. WritesText (IsText b) old new) known bytes same (text, is, written);
+    pub text_ended : (text : List ℕ) (r : Result (Unit {0}) RunFault) (writer : Stream) → IsText bytes text
+        → ((due : RunFault) → IsFault bytes due → ⊥) → OnOk r (Takes writer text)
+        → IfErr r (λ e. e ≡ faults.WriteFailed) → OnErr r (TakesFront writer text)
+        → IsRunOfText IsText IsFault structure r writer
+    text_ended text (Ok u) writer is clean written kind front = record {
+      done = known_too (λ b. WritesText (IsText b) writer) structure.before bytes same (text, is, written);
       untouched = tt;
       begun = tt;
       fault = tt;
-      refused = input_refused IsFault known bytes (λ due. ⊥) same within clean;
+      refused = input_refused IsFault structure.before bytes (λ due. ⊥) same within clean;
       before = tt;
     }
-    text_ended text (Err e) old new is clean written kind front = record {
+    text_ended text (Err e) writer is clean written kind front = record {
       done = tt;
       untouched = λ other. absurd (other kind);
-      begun = λ failed. known_too (λ b. BeginsText (IsText b) old new) known bytes same (text, is, front);
+      begun = λ failed. known_too (λ b. BeginsText (IsText b) writer) structure.before bytes same (text, is, front);
       fault = λ of. absurd (of.1 kind);
-      refused = input_refused IsFault known bytes
+      refused = input_refused IsFault structure.before bytes
           (λ due. (e ≡ due) ⊎ (e ≡ faults.ReadFailed) ⊎ (e ≡ faults.OutOfMemory)) same within
           (λ due of. absurd (clean due of));
       before = λ failed. ended;

@@ -1,10 +1,8 @@
 -- What a check writes of the bytes that are read, or why there is no verdict. This is this project's own.
 use Rattle.std.specs.Prelude.{◌≡◌, ◌<◌, ◌⊎◌, ◌++◌, ℕ, List, length, codes, Option, Result, MatchResult, IfSome}
-use Rattle.std.specs.Io.KnownBytes.{Appends, Keeps}
 use Rattle.cave_model.specs.Cave.{Cave}
 use Rattle.cave_model.specs.Rule.{Rule}
 use Rattle.cave_reading.specs.Bytes.{IsCaveOfBytes}
-use Rattle.certificate_text.specs.Writing.{AppendsFront}
 use Rattle.proof_rules.specs.Certificate.{Certificate, torches_of}
 use Rattle.proof_check.specs.Accepted.{Accepts, IsBestPlan}
 use Rattle.proof_check.specs.Texts.{verdict_text}
@@ -14,6 +12,7 @@ use Rattle.proof_check.specs.declared.verdict.Verdict.{Verdict}
 use Rattle.proof_check.specs.declared.verdict.Verdict.TheVariants.{Accepted}
 use Rattle.cave_runs.specs.Limits.{proof_limit, structure_limit}
 use Rattle.cave_runs.specs.Runs.{IsFaultOfInput}
+use Rattle.cave_runs.specs.Streams.{IsKept, Stream, Takes, TakesFront}
 use Rattle.cave_runs.specs.declared.fault.Input.{Input}
 use Rattle.cave_runs.specs.declared.fault.Input.TheVariants.{ProofInput}
 use Rattle.cave_runs.specs.declared.fault.RunFault.{RunFault}
@@ -29,12 +28,13 @@ Judges structure table rule certificate verdict = IfSome structure
     (λ bytes. IfSome certificate (λ text. IsJudged bytes table rule text verdict))
 
 -- the verdict's line was written, and nothing else
-pub record WritesVerdict (structure table : Option (List ℕ)) (rule : Rule) (certificate old new : Option (List ℕ))
-    (verdict : Verdict) : Type 0 where
+pub record WritesVerdict (structure table : Option (List ℕ)) (rule : Rule) (certificate : Option (List ℕ))
+    (writer : Stream) (verdict : Verdict) : Type 0 where
   pub judges : Judges structure table rule certificate verdict
-  pub written : Appends old new (verdict_line verdict)
+  pub written : Takes writer (verdict_line verdict)
 
--- the text is a certificate of the cave that the bytes tell, and its own torches, so many, are safe and the fewest
+-- the text is a certificate of the cave that the bytes tell; its own torches are safe and the fewest, and this is their
+-- number
 pub record ShowsFewest (bytes : List ℕ) (table : Option (List ℕ)) (rule : Rule) (text : List ℕ) (torches : ℕ)
     : Type 0 where
   pub cave : Cave
@@ -50,11 +50,10 @@ IsTrusted structure table rule certificate verdict = IfSome structure (λ bytes.
     (torches : ℕ) → verdict ≡ Accepted torches → ShowsFewest bytes table rule text torches))
 
 -- a failed write leaves a beginning of the line, any other fault nothing
-abbrev pub LeavesLine : RunFault → Option (List ℕ) → Option (List ℕ) → Rule → Option (List ℕ) → Option (List ℕ)
-    → Option (List ℕ) → Type 0
-LeavesLine faults.WriteFailed structure table rule certificate old new =
-    (verdict : Verdict) × Judges structure table rule certificate verdict × AppendsFront old new (verdict_line verdict)
-LeavesLine other structure table rule certificate old new = Keeps old new
+abbrev pub LeavesLine : RunFault → Option (List ℕ) → Option (List ℕ) → Rule → Option (List ℕ) → Stream → Type 0
+LeavesLine faults.WriteFailed structure table rule certificate writer =
+    (verdict : Verdict) × Judges structure table rule certificate verdict × TakesFront writer (verdict_line verdict)
+LeavesLine other structure table rule certificate writer = IsKept writer
 
 -- why there is no verdict: the structure has a fault, or the certificate is too long
 abbrev pub IsNoVerdict : Option (List ℕ) → Option (List ℕ) → Option (List ℕ) → RunFault → Type 0
@@ -90,6 +89,6 @@ abbrev pub IsWhole : Option (List ℕ) → Result Verdict RunFault → Type 0
 IsWhole certificate r = IfSome certificate (λ text. proof_limit < length text → MatchResult r (λ _. ⊥) IsUnread)
 
 -- of a structure and a certificate no more was read than their limits
-abbrev pub GiveAtMost : Option (List ℕ) → Option (List ℕ) → Option (List ℕ) → Option (List ℕ) → Type 0
-GiveAtMost structure_old structure_new certificate_old certificate_new =
-    GivesAtMost structure_limit structure_old structure_new × GivesAtMost proof_limit certificate_old certificate_new
+abbrev pub GiveAtMost : Stream → Stream → Type 0
+GiveAtMost structure certificate = GivesAtMost structure_limit structure.before structure.after
+    × GivesAtMost proof_limit certificate.before certificate.after

@@ -1,5 +1,6 @@
 -- public clauses cite
 pub mod Limits
+pub mod Streams
 pub mod DarkText
 pub mod Faults
 pub mod TextRuns

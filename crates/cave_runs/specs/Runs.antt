@@ -7,6 +7,7 @@ use Rattle.cave_model.specs.Rule.{Rule}
 use Rattle.cave_reading.specs.declared.cave_fault.CaveFault.{CaveFault}
 use Rattle.cave_runs.specs.DarkText.{IsDarkText}
 use Rattle.cave_runs.specs.Faults.{run_fault_of}
+use Rattle.cave_runs.specs.Streams.{Stream}
 use Rattle.cave_runs.specs.TextRuns.{BeginsText, IsOfBytes, WritesText}
 use Rattle.cave_runs.specs.declared.fault.RunFault.{RunFault}
 
@@ -24,9 +25,9 @@ abbrev pub IsFaultOfInput : List ℕ → Option (List ℕ) → RunFault → Type
 IsFaultOfInput bytes table fault = IsOfBytes (λ b e. IsFaultOfBytes b table e) bytes fault
 
 -- the writer took the text of the dark cells, and nothing else
-abbrev pub WritesDark : List ℕ → Option (List ℕ) → Rule → Option (List ℕ) → Option (List ℕ) → Type 0
-WritesDark bytes table rule old new = WritesText (IsDarkTextOf bytes table rule) old new
+abbrev pub WritesDark : List ℕ → Option (List ℕ) → Rule → Stream → Type 0
+WritesDark bytes table rule writer = WritesText (IsDarkTextOf bytes table rule) writer
 
 -- the writer took a beginning of that text
-abbrev pub BeginsDark : List ℕ → Option (List ℕ) → Rule → Option (List ℕ) → Option (List ℕ) → Type 0
-BeginsDark bytes table rule old new = BeginsText (IsDarkTextOf bytes table rule) old new
+abbrev pub BeginsDark : List ℕ → Option (List ℕ) → Rule → Stream → Type 0
+BeginsDark bytes table rule writer = BeginsText (IsDarkTextOf bytes table rule) writer

@@ -3,6 +3,7 @@ ghost use Rattle.std.specs.Prelude.{◌≡◌, IfOk, option_copied, string_bytes
 ghost use Rattle.cave_model.specs.RuleOf.{rule_of};
 ghost use Rattle.cave_runs.specs.CheckRuns.{verdict_line};
 ghost use Rattle.cave_runs.specs.RunOfCheck.{IsRunOfCheck};
+ghost use Rattle.cave_runs.specs.Streams.{inputs, stream};
 
 use crate::fault::{Input, RunFault};
 use crate::limits::{PROOF_LIMIT, STRUCTURE_LIMIT};
@@ -35,9 +36,10 @@ where
     R: Read,
     C: Read,
     W: Write,
-    ensures { IsRunOfCheck (R.remaining reader.old) (R.remaining reader.new) (option_copied table.entry)
-        (rule_of rule) (C.remaining certificate.old) (C.remaining certificate.new) result
-        (W.contents writer.old) (W.contents writer.new) }
+    ensures { IsRunOfCheck
+        (inputs (stream (R.remaining reader.old) (R.remaining reader.new)) (option_copied table.entry) (rule_of rule))
+        (stream (C.remaining certificate.old) (C.remaining certificate.new)) result
+        (stream (W.contents writer.old) (W.contents writer.new)) }
 {
     let bytes = read_all(alloc, reader, STRUCTURE_LIMIT, Input::StructureInput)?;
     let verdict = check_from(alloc, &bytes, table, rule, certificate, PROOF_LIMIT)?;

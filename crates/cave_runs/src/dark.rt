@@ -5,6 +5,7 @@ ghost use Rattle.cave_model.specs.RuleOf.{rule_of};
 ghost use Rattle.cave_runs.specs.DarkText.{IsDarkText};
 ghost use Rattle.cave_runs.specs.RunOfDark.{IsRunOfDark};
 ghost use Rattle.cave_runs.specs.Runs.{IsDarkTextOf, IsFaultOfBytes};
+ghost use Rattle.cave_runs.specs.Streams.{inputs, stream};
 ghost use Rattle.cave_runs.specs.declared.fault.RunFault.{RunFault};
 
 use crate::fault::{Input, RunFault};
@@ -66,8 +67,9 @@ where
     R: Read,
     O: Watcher,
     W: Write,
-    ensures { IsRunOfDark (R.remaining reader.old) (R.remaining reader.new) (option_copied table.entry)
-        (rule_of rule) result (W.contents writer.old) (W.contents writer.new) }
+    ensures { IsRunOfDark
+        (inputs (stream (R.remaining reader.old) (R.remaining reader.new)) (option_copied table.entry) (rule_of rule))
+        result (stream (W.contents writer.old) (W.contents writer.new)) }
 {
     let bytes = read_all(alloc, reader, STRUCTURE_LIMIT, Input::StructureInput)?;
     let text = text_of(alloc, &bytes, table, rule, observer)?;

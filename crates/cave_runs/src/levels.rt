@@ -5,6 +5,7 @@ ghost use Rattle.cave_model.specs.RuleOf.{rule_of};
 ghost use Rattle.cave_runs.specs.LevelsRuns.{IsCaveLitBy, IsFaultOfLevels, IsFaultOfPlan, IsLevelsTextOf};
 ghost use Rattle.cave_runs.specs.LevelsText.{IsLevelsText};
 ghost use Rattle.cave_runs.specs.RunOfLevels.{IsRunOfLevels};
+ghost use Rattle.cave_runs.specs.Streams.{inputs, stream};
 ghost use Rattle.cave_runs.specs.declared.fault.RunFault.{RunFault};
 
 use crate::fault::{Input, RunFault};
@@ -88,8 +89,9 @@ where
     R: Read,
     O: Watcher,
     W: Write,
-    ensures { IsRunOfLevels (R.remaining reader.old) (R.remaining reader.new) (option_copied table.entry)
-        (rule_of rule) (option_copied plan.entry) result (W.contents writer.old) (W.contents writer.new) }
+    ensures { IsRunOfLevels
+        (inputs (stream (R.remaining reader.old) (R.remaining reader.new)) (option_copied table.entry) (rule_of rule))
+        (option_copied plan.entry) result (stream (W.contents writer.old) (W.contents writer.new)) }
 {
     let bytes = read_all(alloc, reader, STRUCTURE_LIMIT, Input::StructureInput)?;
     let text = text_of(alloc, &bytes, table, rule, plan, observer)?;

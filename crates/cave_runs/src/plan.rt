@@ -6,6 +6,7 @@ ghost use Rattle.cave_model.specs.RuleOf.{rule_of};
 ghost use Rattle.cave_plan.specs.Outline.{IsOutlineOf, IsPlanned};
 ghost use Rattle.cave_runs.specs.PlanRuns.{EndsIn, IsNoPlan, LeavesIn, LeavesProved, TellsPlans, WritesBest};
 ghost use Rattle.cave_runs.specs.RunOfPlan.{IsRunOfPlan};
+ghost use Rattle.cave_runs.specs.Streams.{inputs, outputs, stream};
 ghost use Rattle.cave_runs.specs.declared.fault.RunFault.{RunFault};
 ghost use Rattle.certificate_text.specs.PlanOf.{plans_of};
 ghost use Rattle.search_traits.specs.Planning.{PlansRegions};
@@ -55,6 +56,7 @@ fn plan_bytes<F: Fn(&Arc<Region>) -> RegionPlan, O: Watcher>(
     let world = read_cave(alloc, bytes, table, rule)?;
     tell_sides(&world, planner.observer);
     let outline = plan_cave(alloc, &world, planner)?;
+    planner.observer.searched(outline.turns);
     Ok((world, outline))
 }
 
@@ -70,10 +72,12 @@ where
     W: Write,
     V: Write,
     requires { IsPlanned world.now (string_bytes outline.now.text) (plans_of outline.now.parts.items) }
-    ensures done { OnOk result (WritesBest world.now (W.contents writer.old) (W.contents writer.new)
-        (V.contents proof.old) (V.contents proof.new)) }
+    ensures done { OnOk result (WritesBest world.now
+        (outputs (stream (W.contents writer.old) (W.contents writer.new))
+        (stream (V.contents proof.old) (V.contents proof.new)))) }
     ensures left { IfErr result (λ e. LeavesProved e world.now
-        (W.contents writer.old) (W.contents writer.new) (V.contents proof.old) (V.contents proof.new)) }
+        (outputs (stream (W.contents writer.old) (W.contents writer.new))
+        (stream (V.contents proof.old) (V.contents proof.new)))) }
 {
     write_certificate(alloc, proof, world, &outline.parts)?;
     put_all(writer, outline.text.as_bytes())
@@ -93,9 +97,11 @@ where
     V: Write,
     requires { IsOutlineOf world.now _allowance outline.now }
     ensures done { IfOk result (λ outcome. EndsIn outcome world.now _allowance
-        (W.contents writer.old) (W.contents writer.new) (V.contents proof.old) (V.contents proof.new)) }
+        (outputs (stream (W.contents writer.old) (W.contents writer.new))
+        (stream (V.contents proof.old) (V.contents proof.new)))) }
     ensures left { IfErr result (λ e. LeavesIn e world.now _allowance
-        (W.contents writer.old) (W.contents writer.new) (V.contents proof.old) (V.contents proof.new)) }
+        (outputs (stream (W.contents writer.old) (W.contents writer.new))
+        (stream (V.contents proof.old) (V.contents proof.new)))) }
 {
     if outline.stopped {
         put_all(writer, outline.text.as_bytes())?;
@@ -114,7 +120,7 @@ where
 /// planned before a byte is written, and the whole text of the plan is made before its first byte is. The rows are
 /// those of the user's table, where there is one, before the shipped ones. Where the turns of a region were spent, the
 /// text says how few torches there might be, and no certificate is written. Before the search the planner's observer is
-/// told where free cells lie at a side of the box. Who plans the regions changes no promise: where that waits for
+/// told where free cells lie at a side of the box, and after it the most turns that were granted to a region. Who plans the regions changes no promise: where that waits for
 /// nobody, this is proved to return.
 pub fn run_planner<F, O, R, W, V>(
     alloc: Global,
@@ -134,9 +140,10 @@ where
     requires callable { F.IsAlwaysCallable planner.now.plan }
     requires plans { PlansRegions (λ region. arc_value region.now) planner.now.allowance
         (F.post planner.now.plan) }
-    ensures { IsRunOfPlan (R.remaining reader.old) (R.remaining reader.new) (option_copied table.entry)
-        (rule_of rule) planner.now.allowance result
-        (W.contents writer.old) (W.contents writer.new) (V.contents proof.old) (V.contents proof.new) }
+    ensures { IsRunOfPlan
+        (inputs (stream (R.remaining reader.old) (R.remaining reader.new)) (option_copied table.entry) (rule_of rule))
+        planner.now.allowance result (outputs (stream (W.contents writer.old) (W.contents writer.new))
+        (stream (V.contents proof.old) (V.contents proof.new))) }
 {
     let bytes = read_all(alloc, reader, STRUCTURE_LIMIT, Input::StructureInput)?;
     let (world, outline) = plan_bytes(alloc, &bytes, table, rule, planner)?;

@@ -3,6 +3,7 @@ ghost use Rattle.std.specs.Prelude.{◌≡◌, ◌≢◌, IfOk, IfErr, option_co
 ghost use Rattle.cave_base.specs.Answer.{IsRefusal};
 ghost use Rattle.cave_runs.specs.RowsRuns.{IsFaultOfRows, IsRowsTextOf};
 ghost use Rattle.cave_runs.specs.RunOfRows.{IsRunOfRows};
+ghost use Rattle.cave_runs.specs.Streams.{stream};
 ghost use Rattle.cave_runs.specs.declared.fault.RunFault.{RunFault};
 
 use crate::fault::{Input, RunFault};
@@ -41,8 +42,8 @@ pub fn run_rows<R, W>(
 where
     R: Read,
     W: Write,
-    ensures { IsRunOfRows (R.remaining reader.old) (R.remaining reader.new) (option_copied table.entry) result
-        (W.contents writer.old) (W.contents writer.new) }
+    ensures { IsRunOfRows (stream (R.remaining reader.old) (R.remaining reader.new)) (option_copied table.entry) result
+        (stream (W.contents writer.old) (W.contents writer.new)) }
 {
     let bytes = read_all(alloc, reader, STRUCTURE_LIMIT, Input::StructureInput)?;
     let text = text_of(alloc, &bytes, table)?;

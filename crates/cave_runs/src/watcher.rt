@@ -9,6 +9,9 @@ use cave_plan::{Observer, Unobserved};
 pub trait Watcher: Observer {
     /// The cave's box has free cells at these sides.
     fn opened(&self, _sides: &OpenSides) {}
+
+    /// The search of all regions ended, and none was granted more turns than these.
+    fn searched(&self, _turns: u64) {}
 }
 
 impl Watcher for Unobserved {}

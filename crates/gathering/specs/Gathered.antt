@@ -12,8 +12,8 @@ use Rattle.event_core.specs.Assembled.{IsAssembled}
 use Rattle.event_core.specs.declared.event.Event.TheVariants.{Look, Offer, Take, Close}
 use Rattle.schedule_law.specs.Worked.{Worked}
 use Rattle.gathering.specs.Playing.{tries_before_closes, TriesAllCloses}
-use Rattle.gathering.specs.declared.fault.PoolFault.{PoolFault}
-use Rattle.gathering.specs.declared.fault.PoolFault.TheVariants.{Stopped, NoThread, OutOfMemory}
+use Rattle.search_traits.specs.declared.region_fault.RegionFault.{RegionFault}
+use Rattle.search_traits.specs.declared.region_fault.RegionFault.TheVariants.{Stopped, NoThread, OutOfMemory}
 
 -- the caller's thread takes the waiting piece of this name, offers the best cover that it knows, looks, and closes it
 pub record GleansOne (old : State) (caller : ℕ) (name : List ℕ) (new : State) : Type 0 where
@@ -78,7 +78,7 @@ pub record AreTurnsFor (limit : Option ℕ) (pieces granted : ℕ) : Type 0 wher
   pub each : EachTook limit pieces 0 granted
 
 -- all turns that were given were granted; and a thread is never asked for
-abbrev pub StopsGathering : Instance → Option ℕ → PoolFault → Type 0
+abbrev pub StopsGathering : Instance → Option ℕ → RegionFault → Type 0
 StopsGathering region turns (Stopped cover floor granted) =
     IsStopped region turns cover floor × AreSpent turns granted
 StopsGathering region turns NoThread = ⊥

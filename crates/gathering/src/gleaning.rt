@@ -100,8 +100,8 @@ fn finish(core: &mut Core, caller: u32, closed: Closed, cover: Cover) -> Result<
         Finishes (state_of core.old) caller closed cover (state_of core.new)) }
 {
     // What is read shows that the cover is one, and that the tree closes the piece.
-    let _ = cover.size();
-    let _ = floor_of(&closed);
+    let _ = cover.size(); // for the proof
+    let _ = floor_of(&closed); // for the proof
     core.step(Event::Offer(caller, cover))?;
     core.step(Event::Look(caller))?;
     core.step(Event::Close(caller, closed))?;

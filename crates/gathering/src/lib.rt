@@ -2,7 +2,6 @@
 //! of it is `IsGathered` of specs/Gathered.antt.
 #![tactic(auto)]
 
-mod fault;
 mod gleaning;
 mod goal_desk;
 pub mod laws;
@@ -10,5 +9,4 @@ mod merge;
 mod opening;
 mod trying;
 
-pub use fault::PoolFault;
 pub use merge::{Gathered, gather};

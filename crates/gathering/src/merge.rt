@@ -8,7 +8,6 @@ ghost use Rattle.proof_tree.specs.Shape.{tree_of};
 ghost use Rattle.search_traits.specs.Planned.{IsProvedTo};
 ghost use Rattle.search_traits.specs.Turns.{AreSpent};
 
-use crate::fault::PoolFault;
 use crate::gleaning::glean_named;
 use crate::opening::try_before_closes;
 use crate::trying::close_all;
@@ -17,7 +16,7 @@ use instance_regions::{Cover, Region};
 use pack_bound::scattered;
 use proof_tree::{Name, Piece, Proof};
 use schedule_law::Work;
-use search_traits::{AimedDesk, AloneDesk, Closer, Halt, SharedSearch};
+use search_traits::{AimedDesk, AloneDesk, Closer, Halt, RegionFault, SharedSearch};
 use std::alloc::{AllocError, Global};
 use std::marker::Brand;
 use std::sync::Arc;
@@ -45,7 +44,7 @@ pub fn gather<C: Closer>(
     aim: u64,
     works: Vec<Work>,
     turns: Option<u64>,
-) -> Result<Gathered, PoolFault>
+) -> Result<Gathered, RegionFault>
     requires begun { first.region ≡ arc_value search.region.now }
     ensures gathered { IfOk result (λ g.
         IsGathered (arc_value search.entry.region.now) first.places aim works.items (record {
@@ -61,7 +60,7 @@ pub fn gather<C: Closer>(
 {
     let SharedSearch { alloc, region, .. } = search;
     let Some(caller) = count_of(&works) else {
-        return Err(PoolFault::OutOfMemory);
+        return Err(RegionFault::OutOfMemory);
     };
     let (mut core, closed_by) = play(alloc, region, first, aim, caller, works)?;
     let desk = AimedDesk::new(AloneDesk::new(core.best().try_clone()?, turns), aim);
@@ -79,7 +78,7 @@ pub fn gather<C: Closer>(
             Err(_) => unreachable!(),
         },
         Err(Halt::TurnsSpent) => Err(stopped(alloc, region, desk)?),
-        Err(Halt::OutOfMemory) => Err(PoolFault::OutOfMemory),
+        Err(Halt::OutOfMemory) => Err(RegionFault::OutOfMemory),
     }
 }
 
@@ -114,7 +113,7 @@ fn play(
 }
 
 /// What is known once the turns are spent.
-fn stopped(alloc: Global, region: &Arc<Region>, desk: AloneDesk) -> Result<PoolFault, AllocError>
+fn stopped(alloc: Global, region: &Arc<Region>, desk: AloneDesk) -> Result<RegionFault, AllocError>
     requires of_it { desk.cover.region ≡ arc_value region.now }
     requires spent { AreSpent desk.limit desk.granted }
     ensures { IfOk result (StopsGathering (arc_value region.now) desk.limit) }
@@ -124,7 +123,7 @@ fn stopped(alloc: Global, region: &Arc<Region>, desk: AloneDesk) -> Result<PoolF
     let piece = Piece::root(alloc, region)?;
     let floor = scattered(alloc, &piece)?.len() as u64;
     let turns = desk.granted();
-    Ok(PoolFault::Stopped {
+    Ok(RegionFault::Stopped {
         cover: desk.into_cover(),
         floor,
         turns,

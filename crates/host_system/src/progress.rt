@@ -19,6 +19,8 @@ pub struct Progress<'r> {
     pieces: AtomicU64,
     /// When the last line of a search was printed, or when the run began.
     last: AtomicU64,
+    /// Whether a line of this search was printed.
+    is_told: AtomicBool,
 }
 
 impl<'r> Progress<'r> {
@@ -32,12 +34,14 @@ impl<'r> Progress<'r> {
             turns: AtomicU64::new(0),
             pieces: AtomicU64::new(0),
             last: AtomicU64::new(0),
+            is_told: AtomicBool::new(false),
         }
     }
 
     /// A run begins, of which is to be told or not.
     pub(crate) fn begin(&self, is_asked: bool) {
         self.last.store(self.now(), Ordering::SeqCst);
+        self.is_told.store(false, Ordering::SeqCst);
         self.is_asked.store(is_asked, Ordering::SeqCst);
     }
 
@@ -62,6 +66,7 @@ impl<'r> Progress<'r> {
         if !self.is_due() {
             return None;
         }
+        self.is_told.store(true, Ordering::SeqCst);
         let region = self.region.load(Ordering::SeqCst);
         Some((region, self.regions.load(Ordering::SeqCst)))
     }
@@ -123,6 +128,12 @@ impl Watcher for Progress<'_> {
     fn opened(&self, sides: &OpenSides) {
         if self.is_asked.load(Ordering::SeqCst) {
             self.tell(&Advance::Open(*sides));
+        }
+    }
+
+    fn searched(&self, turns: u64) {
+        if self.is_told.load(Ordering::SeqCst) || self.is_due() {
+            self.tell(&Advance::Searched { turns });
         }
     }
 }

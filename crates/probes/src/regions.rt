@@ -5,8 +5,9 @@ use cave_problem::{CoverFault, Problem};
 use cave_regions::split;
 use instance_regions::Region;
 use proof_tree::Proof;
-use search_core::{AloneFault, plan_alone};
+use search_core::plan_by_one;
 use search_moves::Moves;
+use search_traits::{RegionFault, Unobserved};
 use std::alloc::Global;
 use std::sync::Arc;
 
@@ -31,17 +32,17 @@ pub fn shared(alloc: Global, world: &World) -> Result<Vec<Arc<Region>>, CoverFau
 pub fn found_line(alloc: Global, region: &Arc<Region>, turns: u64) -> Result<String, OutOfMemory> {
     let cells = region.cells().len();
     let places = region.places().len();
-    match plan_alone::<Moves>(alloc, region, Some(turns)) {
+    match plan_by_one::<Moves, Unobserved>(alloc, region, Some(turns), &Unobserved) {
         Ok(plan) => {
             let lines = lines(alloc, &plan.proof)?;
             let size = plan.cover.size();
             format!(in alloc; "{cells} cells, {places} places: {size}, {lines} lines")
         }
-        Err(AloneFault::Stopped { cover, floor, .. }) => {
+        Err(RegionFault::Stopped { cover, floor, .. }) => {
             let size = cover.size();
             format!(in alloc; "{cells} cells, {places} places: {floor} to {size}")
         }
-        Err(AloneFault::OutOfMemory) => Err(OutOfMemory),
+        Err(_) => Err(OutOfMemory),
     }
 }
 

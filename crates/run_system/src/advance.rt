@@ -4,7 +4,7 @@ use cave_runs::OpenSides;
 use std::fmt;
 use std::marker::Copy;
 
-/// How far the search of a region has come; and, before a search, where the box cuts the cave.
+/// How far the search of a region has come; before it where the box cuts the cave, and after it how many turns it took.
 #[derive(Clone, Copy, Debug, PartialEq, Eq)]
 pub enum Advance {
     /// Free cells lie at these sides of the box.
@@ -17,12 +17,14 @@ pub enum Advance {
         size: u64,
         turns: u64,
     },
-    /// Many workers: so many pieces were taken.
+    /// Many workers, and how many pieces they took.
     Pieces {
         region: u64,
         regions: u64,
         pieces: u64,
     },
+    /// The search of all regions ended, and this is the most turns that were granted to one.
+    Searched { turns: u64 },
 }
 
 /// The count of a side, if it has any, after a comma where it isn't the first one: whether none was put yet.
@@ -85,6 +87,9 @@ impl fmt::Display for Advance {
                 regions,
                 pieces,
             } => write!(f, "region {region} of {regions}: {pieces} pieces taken"),
+            Advance::Searched { turns } => {
+                write!(f, "search ended, with at most {turns} turns for a region")
+            }
         }
     }
 }

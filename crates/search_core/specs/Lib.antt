@@ -1,5 +1,4 @@
 -- public clauses cite
-pub mod Alone
 pub mod SoFar
 pub mod Begun
 pub mod Rounds

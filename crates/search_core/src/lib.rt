@@ -12,7 +12,7 @@ mod so_far;
 mod told;
 
 pub use beginning::{at_root, first_cover};
-pub use one_worker::{AloneFault, plan_alone, plan_by, plan_by_one};
+pub use one_worker::{plan_by, plan_by_one};
 pub use rounds::{ByOne, Rounds};
 pub use shared_rounds::ByMany;
 pub use told::Told;

@@ -12,7 +12,7 @@ use Rattle.gathering.specs.Gathered.{Gathering, IsGathered}
 use Rattle.gathering.proofs.LawLemmas.{counted}
 use Rattle.search_traits.specs.Turns.{AreSpent, IsWithin, rest}
 use Rattle.gathering.specs.Gathered.{StopsGathering}
-use Rattle.gathering.specs.declared.fault.PoolFault.TheVariants.{Stopped}
+use Rattle.search_traits.specs.declared.region_fault.RegionFault.TheVariants.{Stopped}
 use Rattle.instance_regions.specs.Cover.{Covering}
 use Rattle.search_pool.specs.Reports.{StopsPool, sum_of}
 use Rattle.search_pool.specs.Rows.{counted as counted_sum}

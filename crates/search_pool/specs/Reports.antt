@@ -8,8 +8,8 @@ use Rattle.search_traits.specs.Turns.{AreSpent}
 use Rattle.schedule_law.specs.Joined.{all_back, all_opened, all_pieces}
 use Rattle.schedule_law.specs.Worked.{Worked}
 use Rattle.gathering.specs.Gathered.{IsGathered}
-use Rattle.gathering.specs.declared.fault.PoolFault.{PoolFault}
-use Rattle.gathering.specs.declared.fault.PoolFault.TheVariants.{Stopped, NoThread, OutOfMemory}
+use Rattle.search_traits.specs.declared.region_fault.RegionFault.{RegionFault}
+use Rattle.search_traits.specs.declared.region_fault.RegionFault.TheVariants.{Stopped, NoThread, OutOfMemory}
 use Rattle.gathering.specs.declared.merge.Gathered.{Gathered}
 use Rattle.search_pool.specs.Runs.{IsRun}
 use Rattle.search_pool.specs.Rows.{counted}
@@ -65,7 +65,7 @@ pub record IsMerged (region : Instance) (first : List ℕ) (aim workers : ℕ) (
   pub numbers : AreNumbersOf region works left names report
 
 -- turns ran out: all that were given were taken
-abbrev pub StopsPool : Instance → Option ℕ → PoolFault → Type 0
+abbrev pub StopsPool : Instance → Option ℕ → RegionFault → Type 0
 StopsPool region turns (Stopped cover floor granted) = IsStopped region turns cover floor × AreSpent turns granted
 StopsPool region turns NoThread = Unit {0}
 StopsPool region turns OutOfMemory = Unit {0}

@@ -17,7 +17,6 @@ mod stock;
 mod unrun;
 mod worker;
 
-pub use gathering::PoolFault;
 pub use plan_options::Workers;
 pub use report::Report;
 pub use round::run_round;

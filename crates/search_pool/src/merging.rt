@@ -12,10 +12,10 @@ ghost use Rattle.search_traits.specs.Turns.{IsWithin};
 use crate::piece_counts::{PieceCounts, count_pieces};
 use crate::pool::Ran;
 use crate::report::Report;
-use gathering::{Gathered, PoolFault, gather};
+use gathering::{Gathered, gather};
 use instance_regions::Cover;
 use plan_options::Workers;
-use search_traits::{Closer, SharedSearch, rest_of};
+use search_traits::{Closer, RegionFault, SharedSearch, rest_of};
 use worker_results::Joined;
 
 /// Gathers what workers did, and closes what they left with the turns that are left.
@@ -26,7 +26,7 @@ pub(crate) fn merged<C: Closer>(
     workers: Workers,
     ran: Ran,
     turns: Option<u64>,
-) -> Result<Report, PoolFault>
+) -> Result<Report, RegionFault>
     requires first { first.region ≡ arc_value search.region.now }
     requires ran { HandOver (arc_value search.region.now) (min aim (length first.places)) workers.number turns ran }
     ensures proved { IfOk result (λ report.
@@ -45,12 +45,12 @@ pub(crate) fn merged<C: Closer>(
     match gather(search, first, aim, works, rest_of(turns, granted)) {
         Ok(gathered) => Ok(report(gathered, counts, left, granted)),
         Err(
-            PoolFault::Stopped {
+            RegionFault::Stopped {
                 cover,
                 floor,
                 turns: more,
             },
-        ) => Err(PoolFault::Stopped {
+        ) => Err(RegionFault::Stopped {
             cover,
             floor,
             turns: sum(granted, more),

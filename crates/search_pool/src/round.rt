@@ -10,10 +10,9 @@ use crate::merging::merged;
 use crate::pool::Run;
 use crate::report::Report;
 use crate::starting::run_opened;
-use gathering::PoolFault;
 use instance_regions::Cover;
 use plan_options::Workers;
-use search_traits::{Closer, Observer, SharedSearch};
+use search_traits::{Closer, Observer, RegionFault, SharedSearch};
 use std::sync::Wait;
 use std::thread::Threads;
 
@@ -28,7 +27,7 @@ pub fn run_round<C, R, O>(
     first: Cover,
     aim: u64,
     turns: Option<u64>,
-) -> Result<Report, PoolFault>
+) -> Result<Report, RegionFault>
 where
     C: Closer + Send + Sync,
     C::Hand: Send + Sync,

@@ -3,7 +3,7 @@
 ghost use Rattle.std.specs.Prelude.{◌≡◌};
 ghost use Rattle.search_pool.specs.declared.unrun.Unrun.TheVariants.{OutOfMemory};
 
-use gathering::PoolFault;
+use search_traits::RegionFault;
 use std::alloc::{AllocError, AllocFailed};
 
 /// Why workers didn't run.
@@ -30,16 +30,16 @@ impl<T: Drop> From<AllocFailed<T>> for Unrun {
     }
 }
 
-impl From<Unrun> for PoolFault {
+impl From<Unrun> for RegionFault {
     ghost use Rattle.std.specs.Prelude.{◌≡◌};
     ghost use Rattle.search_pool.specs.Unruns.{fault_of};
 
     ghost from_gives = { λ unrun fault. fault ≡ fault_of unrun };
 
-    fn from(unrun: Unrun) -> PoolFault {
+    fn from(unrun: Unrun) -> RegionFault {
         match unrun {
-            Unrun::NoThread => PoolFault::NoThread,
-            Unrun::OutOfMemory => PoolFault::OutOfMemory,
+            Unrun::NoThread => RegionFault::NoThread,
+            Unrun::OutOfMemory => RegionFault::OutOfMemory,
         }
     }
 }

@@ -83,7 +83,13 @@ pub trait Strategy: Proposer + Drop {
     fn in_indices(alloc: Global, region: &Region, tree: &Proof) -> Result<Proof, AllocError>;
 
     /// The places of the region's core, ascending, by their indices: the region can do without the others.
-    fn kept_places(alloc: Global, region: &Region) -> Result<Vec<u32>, AllocError>;
+    fn kept_places(
+        &self,
+        alloc: Global,
+        region: &Region,
+        node: &Node,
+    ) -> Result<Vec<u32>, AllocError>
+        requires { IsStateOf region.now node.now };
 
     /// A cover of the region as one of its core, by indices there: of each place itself, or the one that stands in for
     /// it.

@@ -66,7 +66,7 @@ fn sum_of(turns: Option<u64>, granted: u64, later: u64, _workers: u32) -> u64
 
 /// A plan with the turns that are left, as one with all turns: so many were granted before.
 pub fn with_earlier(
-    _region: &Arc<Region>,
+    _region: &Arc<Region>, // for the proof
     workers: u32,
     turns: Option<u64>,
     granted: u64,
@@ -100,9 +100,9 @@ pub fn with_earlier(
 
 /// A plan, or where its turns were spent the smaller of two covers and the greater of two floors.
 pub fn with_known(
-    _region: &Arc<Region>,
-    _workers: u32,
-    _turns: Option<u64>,
+    _region: &Arc<Region>, // for the proof
+    _workers: u32, // for the proof
+    _turns: Option<u64>, // for the proof
     plan: RegionPlan,
     cover: Cover,
     floor: u64,
@@ -130,9 +130,9 @@ pub fn with_known(
 
 /// What is told of the region where all turns were granted.
 pub fn stopped(
-    _region: &Arc<Region>,
-    _workers: u32,
-    _turns: Option<u64>,
+    _region: &Arc<Region>, // for the proof
+    _workers: u32, // for the proof
+    _turns: Option<u64>, // for the proof
     granted: u64,
     cover: Cover,
     floor: u64,

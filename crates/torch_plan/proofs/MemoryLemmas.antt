@@ -8,6 +8,7 @@ use Rattle.cave_runs.specs.PlanRuns.{Plans}
 use Rattle.cave_runs.specs.LevelsRuns.{IsLevelsTextOf}
 use Rattle.cave_runs.specs.RowsRuns.{IsRowsTextOf}
 use Rattle.cave_runs.specs.Runs.{WritesDark}
+use Rattle.cave_runs.specs.Streams.{outputs, stream}
 use Rattle.cave_runs.specs.TextRuns.{WritesText}
 use Rattle.cave_runs.specs.declared.fault.RunFault.{RunFault}
 use Rattle.cave_runs.specs.declared.fault.RunFault.TheVariants as faults
@@ -78,7 +79,7 @@ also structure bytes what is h = subst (λ (s : Option (List ℕ)). IfSome s wha
 
 -- what a run wrote that has an answer
 wrote : (files : List NamedFile) (input output : List ℕ) (proof : Option (List ℕ)) (code : ℕ) (request : Request)
-    → Does (sources_of files input) request (Some []) (Some output) proof code → IsAnswered code
+    → Does (sources_of files input) request (stream (Some []) (Some output)) proof code → IsAnswered code
     → (bytes : List ℕ) × (rows : Option (List ℕ)) × Writes (sources_of files input) request code output proof bytes rows
 wrote files input output proof code (Dark file table rule progress) (Ok u, is, run) of =
     let known = sources_of files input in
@@ -89,9 +90,9 @@ wrote files input output proof code (Dark file table rule progress) (Ok u, is, r
         read.2,
         is,
         also (structure_in known file.now) read.0
-            (λ bytes. WritesDark bytes read.1 (rule_of rule) (Some []) (Some output)) read.2.structure
+            (λ bytes. WritesDark bytes read.1 (rule_of rule) (stream (Some []) (Some output))) read.2.structure
             (resolved (named_in known (option_copied table)) read.1 (λ rows. IfSome (structure_in known file.now)
-            (λ bytes. WritesDark bytes rows (rule_of rule) (Some []) (Some output))) read.2.user run.done),
+            (λ bytes. WritesDark bytes rows (rule_of rule) (stream (Some []) (Some output)))) read.2.user run.done),
       ),
     )
 wrote files input output proof code (Dark file table rule progress) (Err fault, is, run) of =
@@ -109,10 +110,11 @@ wrote files input output proof code (Plan file table opts out progress) (inr (ap
         outcome,
         is,
         also (structure_in known file.now) read.0
-            (λ bytes. Plans bytes read.1 (rule_of opts.rule) allowance outcome (Some []) (Some output) made proof)
+            (λ bytes. Plans bytes read.1 (rule_of opts.rule) allowance outcome
+            (outputs (stream (Some []) (Some output)) (stream made proof)))
             read.2.structure (resolved (named_in known (option_copied table)) read.1
             (λ rows. IfSome (structure_in known file.now) (λ bytes. Plans bytes rows (rule_of opts.rule) allowance
-            outcome (Some []) (Some output) made proof)) read.2.user run.done),
+            outcome (outputs (stream (Some []) (Some output)) (stream made proof)))) read.2.user run.done),
       ),
     )
 wrote files input output proof code (Plan file table opts out progress) (inr (apart, (Err fault, is, run))) of =
@@ -130,12 +132,13 @@ wrote files input output proof code (Check file certificate table rule) (Ok verd
         text.1,
         verdict,
         is,
-        subst (λ (t : Option (List ℕ)). WritesVerdict (Some read.0) read.1 (rule_of rule) t (Some []) (Some output)
-            verdict) text.1 (subst (λ (s : Option (List ℕ)). WritesVerdict s read.1 (rule_of rule)
-            (bytes_at files certificate.now) (Some []) (Some output) verdict) read.2.structure
+        subst (λ (t : Option (List ℕ)). WritesVerdict (Some read.0) read.1 (rule_of rule) t
+            (stream (Some []) (Some output)) verdict) text.1
+            (subst (λ (s : Option (List ℕ)). WritesVerdict s read.1 (rule_of rule)
+            (bytes_at files certificate.now) (stream (Some []) (Some output)) verdict) read.2.structure
             (resolved (named_in known (option_copied table)) read.1
             (λ rows. WritesVerdict (structure_in known file.now) rows (rule_of rule) (bytes_at files certificate.now)
-            (Some []) (Some output) verdict) read.2.user run.done)),
+            (stream (Some []) (Some output)) verdict) read.2.user run.done)),
       ),
     )
 wrote files input output proof code (Check file certificate table rule) (Err fault, is, run) of =
@@ -153,12 +156,12 @@ wrote files input output proof code (Levels file plan table rule progress) (Ok u
         text.1,
         is,
         also (structure_in known file.now) read.0
-            (λ bytes. WritesText (IsLevelsTextOf bytes read.1 (rule_of rule) text.0) (Some []) (Some output))
+            (λ bytes. WritesText (IsLevelsTextOf bytes read.1 (rule_of rule) text.0) (stream (Some []) (Some output)))
             read.2.structure (resolved (named_in known (option_copied table)) read.1
             (λ rows. IfSome (structure_in known file.now) (λ bytes.
-            WritesText (IsLevelsTextOf bytes rows (rule_of rule) text.0) (Some []) (Some output))) read.2.user
+            WritesText (IsLevelsTextOf bytes rows (rule_of rule) text.0) (stream (Some []) (Some output)))) read.2.user
             (resolved (named_in known (option_copied plan)) text.0 (λ t. Known known file.now (option_copied table)
-            (λ bytes rows. WritesText (IsLevelsTextOf bytes rows (rule_of rule) t) (Some []) (Some output)))
+            (λ bytes rows. WritesText (IsLevelsTextOf bytes rows (rule_of rule) t) (stream (Some []) (Some output))))
             text.1 run.done)),
       ),
     )
@@ -173,9 +176,9 @@ wrote files input output proof code (Rows file table) (Ok u, is, run) of =
         read.2,
         is,
         also (structure_in known file.now) read.0
-            (λ bytes. WritesText (IsRowsTextOf bytes read.1) (Some []) (Some output)) read.2.structure
+            (λ bytes. WritesText (IsRowsTextOf bytes read.1) (stream (Some []) (Some output))) read.2.structure
             (resolved (named_in known (option_copied table)) read.1 (λ rows. IfSome (structure_in known file.now)
-            (λ bytes. WritesText (IsRowsTextOf bytes rows) (Some []) (Some output))) read.2.user run.done),
+            (λ bytes. WritesText (IsRowsTextOf bytes rows) (stream (Some []) (Some output)))) read.2.user run.done),
       ),
     )
 wrote files input output proof code (Rows file table) (Err fault, is, run) of =
@@ -183,7 +186,7 @@ wrote files input output proof code (Rows file table) (Err fault, is, run) of =
 
 -- what words wrote that have an answer
 pub answered_in_memory : (files : List NamedFile) (input : List ℕ) (words : List (List ℕ)) (code : ℕ) (output : List ℕ)
-    (proof : Option (List ℕ)) → Answers (sources_of files input) words (Some []) (Some output) proof code
+    (proof : Option (List ℕ)) → Answers (sources_of files input) words (stream (Some []) (Some output)) proof code
     → AnswersInMemory files input words code output proof
 answered_in_memory files input words code output proof (inl (formed, request, asked, does)) = record {
   answers = inl (formed, request, asked, does);

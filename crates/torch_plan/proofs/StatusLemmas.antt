@@ -1,6 +1,7 @@
 -- A status of refusal leaves the output as it was.
 use Rattle.std.proofs.Common.{◌≢◌, ℕ, List, Option, Result, Ok, Err, inl, inr, subst, arith}
 use Rattle.std.specs.Io.KnownBytes.{Keeps}
+use Rattle.cave_runs.specs.Streams.{stream}
 use Rattle.cave_runs.specs.declared.fault.RunFault.{RunFault}
 use Rattle.cave_runs.specs.declared.fault.RunFault.TheVariants as faults
 use Rattle.cave_runs.specs.declared.plan.Outcome.{Outcome}
@@ -35,18 +36,18 @@ left_by : (old new : Option (List ℕ)) (fault : RunFault) → (fault ≢ faults
 left_by old new fault left refused =
     left (λ same. refused_6 (subst (λ (f : RunFault). IsRefused (status f)) same refused))
 
-pub text_silent : (old new : Option (List ℕ)) (ended : Result (Unit {0}) RunFault) → LeavesOutput ended old new
+pub text_silent : (old new : Option (List ℕ)) (ended : Result (Unit {0}) RunFault) → LeavesOutput ended (stream old new)
     → IsRefused (text_status ended) → Keeps old new
 text_silent old new (Ok done) left refused = absurd (refused_0 refused)
 text_silent old new (Err fault) left refused = left_by old new fault left refused
 
-pub plan_silent : (old new : Option (List ℕ)) (ended : Result Outcome RunFault) → LeavesOutput ended old new
+pub plan_silent : (old new : Option (List ℕ)) (ended : Result Outcome RunFault) → LeavesOutput ended (stream old new)
     → IsRefused (plan_status ended) → Keeps old new
 plan_silent old new (Ok (Done turns)) left refused = absurd (refused_0 refused)
 plan_silent old new (Ok (Stopped turns)) left refused = absurd (refused_5 refused)
 plan_silent old new (Err fault) left refused = left_by old new fault left refused
 
-pub check_silent : (old new : Option (List ℕ)) (ended : Result Verdict RunFault) → LeavesOutput ended old new
+pub check_silent : (old new : Option (List ℕ)) (ended : Result Verdict RunFault) → LeavesOutput ended (stream old new)
     → IsRefused (check_status ended) → Keeps old new
 check_silent old new (Ok (Accepted torches)) left refused = absurd (refused_0 refused)
 check_silent old new (Ok (Rejected reason)) left refused = absurd (refused_4 refused)

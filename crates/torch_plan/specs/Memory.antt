@@ -7,6 +7,7 @@ use Rattle.cave_runs.specs.PlanRuns.{Plans}
 use Rattle.cave_runs.specs.LevelsRuns.{IsLevelsTextOf}
 use Rattle.cave_runs.specs.RowsRuns.{IsRowsTextOf}
 use Rattle.cave_runs.specs.Runs.{WritesDark}
+use Rattle.cave_runs.specs.Streams.{outputs, stream}
 use Rattle.cave_runs.specs.TextRuns.{WritesText}
 use Rattle.cave_runs.specs.declared.plan.Outcome.{Outcome}
 use Rattle.command_words.specs.Mistakes.{AreWellFormed}
@@ -54,22 +55,22 @@ pub record Reads (sources : Sources) (file : List ℕ) (table : Option (List ℕ
 abbrev pub Writes : Sources → Request → ℕ → List ℕ → Option (List ℕ) → List ℕ → Option (List ℕ) → Type 0
 Writes sources (Dark file table rule progress) code output proof bytes rows =
     Reads sources file.now (option_copied table) bytes rows × (code ≡ 0)
-    × WritesDark bytes rows (rule_of rule) (Some []) (Some output)
+    × WritesDark bytes rows (rule_of rule) (stream (Some []) (Some output))
 Writes sources (Plan file table opts out progress) code output proof bytes rows =
     Reads sources file.now (option_copied table) bytes rows × (outcome : Outcome) × (code ≡ end_status outcome)
-    × Plans bytes rows (rule_of opts.rule) (given opts.workers.number opts.turns) outcome (Some []) (Some output)
-    (made_in sources (option_copied out)) proof
+    × Plans bytes rows (rule_of opts.rule) (given opts.workers.number opts.turns) outcome
+    (outputs (stream (Some []) (Some output)) (stream (made_in sources (option_copied out)) proof))
 Writes sources (Check file certificate table rule) code output proof bytes rows =
     Reads sources file.now (option_copied table) bytes rows × (text : List ℕ)
     × (sources.files certificate.now ≡ Some text) × (verdict : Verdict) × (code ≡ judged verdict)
-    × WritesVerdict (Some bytes) rows (rule_of rule) (Some text) (Some []) (Some output) verdict
+    × WritesVerdict (Some bytes) rows (rule_of rule) (Some text) (stream (Some []) (Some output)) verdict
 Writes sources (Levels file plan table rule progress) code output proof bytes rows =
     Reads sources file.now (option_copied table) bytes rows × (text : Option (List ℕ))
     × (named_in sources (option_copied plan) ≡ Some text) × (code ≡ 0)
-    × WritesText (IsLevelsTextOf bytes rows (rule_of rule) text) (Some []) (Some output)
+    × WritesText (IsLevelsTextOf bytes rows (rule_of rule) text) (stream (Some []) (Some output))
 Writes sources (Rows file table) code output proof bytes rows =
     Reads sources file.now (option_copied table) bytes rows × (code ≡ 0)
-    × WritesText (IsRowsTextOf bytes rows) (Some []) (Some output)
+    × WritesText (IsRowsTextOf bytes rows) (stream (Some []) (Some output))
 
 -- a status with an answer: done, rejected, or stopped
 abbrev pub IsAnswered : ℕ → Type 0
@@ -87,6 +88,6 @@ WritesAnswer sources words code output proof =
 pub record AnswersInMemory (files : List NamedFile) (input : List ℕ) (words : List (List ℕ)) (code : ℕ)
     (output : List ℕ) (proof : Option (List ℕ)) : Type 0 where
   -- as over any system
-  pub answers : Answers (sources_of files input) words (Some []) (Some output) proof code
+  pub answers : Answers (sources_of files input) words (stream (Some []) (Some output)) proof code
   -- with an answer, of bytes that are all known
   pub written : IsAnswered code → WritesAnswer (sources_of files input) words code output proof

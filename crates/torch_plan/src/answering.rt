@@ -2,6 +2,7 @@
 ghost use Rattle.std.specs.Io.KnownBytes.{Keeps};
 ghost use Rattle.std.specs.Prelude.{◌≡◌, ◌⊎◌, IsFalse, IsTrue, map, option_copied, string_bytes};
 ghost use Rattle.clap.specs.Words.{kind_of};
+ghost use Rattle.cave_runs.specs.Streams.{stream};
 ghost use Rattle.run_system.specs.Sources.{MayOverwrite, MayStandApart};
 ghost use Rattle.run_system.specs.Status.{IsRefused, status};
 ghost use Rattle.torch_plan.specs.Answers.{Answers, check_status, text_status, plan_status};
@@ -126,7 +127,7 @@ where
     // Where the words are well formed, what they ask for is done over the system's files, and the file that is handed
     // back holds the certificate; else help is explained where they ask for it, or the mistake in usage that they make.
     ensures does { Answers (S.sources system.now) (map (λ word. string_bytes word) words.now)
-        (W.contents output.old) (W.contents output.new) (held_by S.Kept.contents result.1) result.0 }
+        (stream (W.contents output.old) (W.contents output.new)) (held_by S.Kept.contents result.1) result.0 }
     // A refused input, a mistake in usage, and refused memory or threads leave the output as it was.
     ensures silent { IsRefused result.0 → Keeps (W.contents output.old) (W.contents output.new) }
 {

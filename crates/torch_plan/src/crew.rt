@@ -9,7 +9,7 @@ use instance_regions::{Cover, Region};
 use node_search::BranchAndBound;
 use plan_options::Workers;
 use search_core::{ByMany, plan_by};
-use search_pool::{PoolFault, run_round};
+use search_pool::run_round;
 use search_traits::{BestPlan, Observer, RegionFault, RegionPlan, SharedSearch, Strategy};
 use std::sync::{Arc, Wait};
 use std::thread::Threads;
@@ -76,19 +76,7 @@ impl<'e, X: Threads + Wait + Sync, O: Observer> Crew<'e, X, O> {
                 proof: report.proof,
                 turns: report.turns,
             }),
-            Err(
-                PoolFault::Stopped {
-                    cover,
-                    floor,
-                    turns,
-                },
-            ) => Err(RegionFault::Stopped {
-                cover,
-                floor,
-                turns,
-            }),
-            Err(PoolFault::NoThread) => Err(RegionFault::NoThread),
-            Err(PoolFault::OutOfMemory) => Err(RegionFault::OutOfMemory),
+            Err(fault) => Err(fault),
         }
     }
 }

@@ -5,6 +5,7 @@ ghost use Rattle.cave_runs.specs.TextRuns.{IsOfInput};
 ghost use Rattle.cave_runs.specs.declared.fault.Input.TheVariants.{PlanInput};
 ghost use Rattle.cave_runs.specs.declared.fault.RunFault.{RunFault};
 ghost use Rattle.run_system.specs.Sources.{LacksNamed};
+ghost use Rattle.cave_runs.specs.Streams.{stream};
 ghost use Rattle.torch_plan.specs.Answers.{AnswersLevels, IsOfPlan, named_in};
 
 use crate::environment::Environment;
@@ -52,7 +53,7 @@ where
     O: Watcher,
     W: Write,
     ensures { AnswersLevels (S.sources environment.now.system.now) file.now (option_copied plan.entry)
-        (option_copied table.entry) (rule_of rule) (W.contents output.old) (W.contents output.new) result }
+        (option_copied table.entry) (rule_of rule) (stream (W.contents output.old) (W.contents output.new)) result }
 {
     let alloc = environment.resources.alloc;
     let system = environment.system;

@@ -3,6 +3,7 @@
 ghost use Rattle.std.specs.Prelude.{option_copied};
 ghost use Rattle.cave_model.specs.RuleOf.{rule_of};
 ghost use Rattle.cave_runs.specs.RunOfPlan.{IsRunOfPlan};
+ghost use Rattle.cave_runs.specs.Streams.{inputs, outputs, stream};
 ghost use Rattle.torch_plan.specs.Given.{given};
 
 use crate::crew::Crew;
@@ -32,9 +33,10 @@ where
     R: Read,
     W: Write,
     V: Write,
-    ensures { IsRunOfPlan (R.remaining reader.old) (R.remaining reader.new) (option_copied table.entry)
-        (rule_of opts.now.rule) (given opts.now.workers.number opts.now.turns) result
-        (W.contents writer.old) (W.contents writer.new) (V.contents proof.old) (V.contents proof.new) }
+    ensures { IsRunOfPlan (inputs (stream (R.remaining reader.old) (R.remaining reader.new))
+        (option_copied table.entry) (rule_of opts.now.rule)) (given opts.now.workers.number opts.now.turns) result
+        (outputs (stream (W.contents writer.old) (W.contents writer.new))
+        (stream (V.contents proof.old) (V.contents proof.new))) }
 {
     if opts.workers.number == 1 {
         return run_plan_alone(
@@ -73,9 +75,10 @@ where
     R: Read,
     W: Write,
     V: Write,
-    ensures { IsRunOfPlan (R.remaining reader.old) (R.remaining reader.new) (option_copied table.entry)
-        (rule_of rule) (given 1 turns) result
-        (W.contents writer.old) (W.contents writer.new) (V.contents proof.old) (V.contents proof.new) }
+    ensures { IsRunOfPlan (inputs (stream (R.remaining reader.old) (R.remaining reader.new))
+        (option_copied table.entry) (rule_of rule)) (given 1 turns) result
+        (outputs (stream (W.contents writer.old) (W.contents writer.new))
+        (stream (V.contents proof.old) (V.contents proof.new))) }
 {
     let alloc = resources.alloc;
     let observer = resources.observer;

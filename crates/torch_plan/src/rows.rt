@@ -1,5 +1,6 @@
 //! The run of rows over the files of a system.
 ghost use Rattle.std.specs.Prelude.{option_copied};
+ghost use Rattle.cave_runs.specs.Streams.{stream};
 ghost use Rattle.torch_plan.specs.Answers.{AnswersRows};
 
 use crate::environment::Environment;
@@ -19,7 +20,7 @@ where
     S: System,
     W: Write,
     ensures { AnswersRows (S.sources environment.now.system.now) file.now (option_copied table.entry)
-        (W.contents output.old) (W.contents output.new) result }
+        (stream (W.contents output.old) (W.contents output.new)) result }
 {
     let alloc = environment.resources.alloc;
     let system = environment.system;

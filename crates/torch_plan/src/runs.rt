@@ -3,6 +3,7 @@ ghost use Rattle.std.specs.Io.KnownBytes.{Keeps};
 ghost use Rattle.std.specs.Prelude.{◌≡◌, ◌≢◌, ◌<◌, ◌⊎◌, IfErr, IfOk, IfSome, option_copied, option_map};
 ghost use Rattle.cave_model.specs.RuleOf.{rule_of};
 ghost use Rattle.cave_runs.specs.PlanRuns.{BeginsPlan, IsNoPlanOfInput, Plans};
+ghost use Rattle.cave_runs.specs.Streams.{outputs, stream};
 ghost use Rattle.cave_runs.specs.TextRuns.{IsOfInput};
 ghost use Rattle.cave_runs.specs.declared.fault.Input.TheVariants.{TableInput};
 ghost use Rattle.cave_runs.specs.declared.fault.RunFault.{RunFault};
@@ -59,7 +60,7 @@ where
     O: Watcher,
     W: Write,
     ensures { AnswersDark (S.sources environment.now.system.now) file.now (option_copied table.entry)
-        (rule_of rule) (W.contents output.old) (W.contents output.new) result }
+        (rule_of rule) (stream (W.contents output.old) (W.contents output.new)) result }
 {
     let alloc = environment.resources.alloc;
     let system = environment.system;
@@ -92,22 +93,24 @@ where
     W: Write,
     ensures done { IfOk result.0 (λ outcome. IfSome (R.remaining reader.old) (λ bytes.
         Plans bytes (option_copied table.entry) (rule_of opts.now.rule)
-        (given opts.now.workers.number opts.now.turns) outcome (W.contents output.old) (W.contents output.new)
-        (made_in (S.sources environment.now.system.now) (option_copied proof.entry))
-        (held_by S.Kept.contents result.1))) }
-    ensures left { LeavesOutput result.0 (W.contents output.old) (W.contents output.new) }
+        (given opts.now.workers.number opts.now.turns) outcome
+        (outputs (stream (W.contents output.old) (W.contents output.new))
+        (stream (made_in (S.sources environment.now.system.now) (option_copied proof.entry))
+        (held_by S.Kept.contents result.1))))) }
+    ensures left { LeavesOutput result.0 (stream (W.contents output.old) (W.contents output.new)) }
     ensures begun { IfErr result.0 (λ e. e ≡ RunFault.WriteFailed
         → Keeps (W.contents output.old) (W.contents output.new)
         ⊎ IfSome (R.remaining reader.old) (λ bytes. BeginsPlan bytes (option_copied table.entry) (rule_of opts.now.rule)
-        (given opts.now.workers.number opts.now.turns) (W.contents output.old) (W.contents output.new)
-        (made_in (S.sources environment.now.system.now) (option_copied proof.entry))
-        (held_by S.Kept.contents result.1))) }
+        (given opts.now.workers.number opts.now.turns)
+        (outputs (stream (W.contents output.old) (W.contents output.new))
+        (stream (made_in (S.sources environment.now.system.now) (option_copied proof.entry))
+        (held_by S.Kept.contents result.1))))) }
     ensures fault { IfErr result.0 (λ e. IsOfInput e → e ≢ RunFault.NoThread → IfSome (R.remaining reader.old)
         (λ bytes. IsNoPlanOfInput bytes (option_copied table.entry) (rule_of opts.now.rule) e)) }
     ensures threads { IfErr result.0 (λ e. e ≡ RunFault.NoThread → 1 < opts.now.workers.number) }
     ensures untouched { LeavesMade result.0
-        (made_in (S.sources environment.now.system.now) (option_copied proof.entry))
-        (held_by S.Kept.contents result.1) }
+        (stream (made_in (S.sources environment.now.system.now) (option_copied proof.entry))
+        (held_by S.Kept.contents result.1)) }
 {
     let resources = environment.resources;
     let Some(path) = proof else {
@@ -139,7 +142,7 @@ where
     W: Write,
     ensures { AnswersPlan (S.sources environment.now.system.now) file.now (option_copied table.entry)
         (option_copied proof.entry) (rule_of opts.now.rule) (given opts.now.workers.number opts.now.turns)
-        (W.contents output.old) (W.contents output.new) (held_by S.Kept.contents result.1) result.0 }
+        (stream (W.contents output.old) (W.contents output.new)) (held_by S.Kept.contents result.1) result.0 }
 {
     let system = environment.system;
     let table = match table_of(environment.resources.alloc, system, table) {
@@ -167,7 +170,7 @@ pub(crate) fn answer_check<X, S: System, O, W: Write>(
     output: &mut W,
 ) -> Result<Verdict, RunFault>
     ensures { AnswersCheck (S.sources environment.now.system.now) file.now proof.now (option_copied table.entry)
-        (rule_of rule) (W.contents output.old) (W.contents output.new) result }
+        (rule_of rule) (stream (W.contents output.old) (W.contents output.new)) result }
 {
     let alloc = environment.resources.alloc;
     let system = environment.system;

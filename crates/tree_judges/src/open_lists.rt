@@ -15,7 +15,7 @@ pub(crate) fn open_lists(
     region: &Region,
     node: &Node,
     claims: &[Claim],
-    _marks: &[u64],
+    _marks: &[u64], // for the proof
 ) -> Result<PlaceLists, AllocError>
     requires state { IsStateOf region.now node.now }
     requires marked { AreMarked node.now.unlit (claimed claims.now) _marks.now }

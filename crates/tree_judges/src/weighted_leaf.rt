@@ -55,7 +55,7 @@ fn may_be_weighted(
     alloc: Global,
     region: &Region,
     node: &Node,
-    _groups: &[Group],
+    _groups: &[Group], // for the proof
     claims: &[Claim],
 ) -> Result<bool, AllocError>
     requires state { IsStateOf region.now node.now }

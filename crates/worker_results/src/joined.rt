@@ -27,7 +27,7 @@ pub fn close_up<B: Naming>(
     alloc: Global,
     beacon: Beacon,
     first: Seat,
-    _goal: u64,
+    _goal: u64, // for the proof
     results: Vec<Done<B>>,
 ) -> Result<Joined, OutOfMemory>
     requires beacon { beacon ≡ B.beacon }

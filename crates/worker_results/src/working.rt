@@ -48,7 +48,7 @@ impl<B: Naming> Holdings<B> {
         {
             Ok(Worked::Closed(closed)) => {
                 // What is read shows that the tree closes the piece.
-                let _ = floor_of(&closed);
+                let _ = floor_of(&closed); // for the proof
                 self.closed.push_reserved(closed);
                 Step::Closed
             }

@@ -7,8 +7,8 @@ use pack_bound::Node;
 use proof_tree::Proof;
 use search_core::{at_root, first_cover};
 use search_moves::Moves;
-use search_pool::{PoolFault, Report, run_round};
-use search_traits::{Proposal, Proposer, SharedSearch, Task};
+use search_pool::{Report, run_round};
+use search_traits::{Proposal, Proposer, RegionFault, SharedSearch, Task};
 use std::alloc::{AllocError, Global};
 use std::process::Abort;
 use std::sync::{Arc, Wait};
@@ -25,7 +25,7 @@ pub(crate) fn end_of<R: Abort + Threads + Wait + Sync, G: Observer>(
     count: u32,
     gate: &G,
     turns: Option<u64>,
-) -> Result<Option<Result<Report, PoolFault>>, Fail> {
+) -> Result<Option<Result<Report, RegionFault>>, Fail> {
     let on = Ground::of(alloc, region, false);
     let (strategy, proposal) = at_root::<Moves>(&on)?;
     let Proposal { cover, .. } = proposal;

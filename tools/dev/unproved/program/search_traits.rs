@@ -52,7 +52,12 @@ pub trait Strategy: Proposer + Sized {
 
     fn in_indices(alloc: Global, region: &Region, tree: &Proof) -> Result<Proof, AllocError>;
 
-    fn kept_places(alloc: Global, region: &Region) -> Result<Vec<u32>, AllocError>;
+    fn kept_places(
+        &self,
+        alloc: Global,
+        region: &Region,
+        node: &Node,
+    ) -> Result<Vec<u32>, AllocError>;
 
     fn core_cover(
         &self,

@@ -1,6 +1,7 @@
 use Rattle.std.specs.Prelude.{option_copied}
 use Rattle.std.proofs.lemmas.Result.{err_from_is_err_and}
 use Rattle.cave_model.specs.RuleOf.{rule_of}
+use Rattle.cave_runs.specs.Streams.{stream}
 use Rattle.cave_runs.proofs.CheckRunLemmas.{run_ended, run_faulted, run_unread, run_unsaid, run_unwritten}
 use Rattle.cave_runs.proofs.check.run_check.Goals as goal
 
@@ -39,7 +40,7 @@ returns-in_err-put_all g c =
     (option_copied c.args.table) (rule_of c.args.rule) (g.C.Read.remaining c.args.certificate.now)
     (g.C.Read.remaining c.check_from.new.certificate) c.in_ok-bytes.bytes.items c.in_ok-bytes.ensures.all
     c.in_ok-verdict.verdict c.in_ok-bytes.ensures.within (rw c.deref.ensures.value at c.in_ok-verdict.ensures)
-    c.in_err-put_all.field-0.0 (g.W.Write.contents c.args.writer.now) (g.W.Write.contents c.put_all.new.writer)
+    c.in_err-put_all.field-0.0 (stream (g.W.Write.contents c.args.writer.now) (g.W.Write.contents c.put_all.new.writer))
     c.in_err-put_all.ensures.err
     (rw (c.as_bytes.ensures.value, c.in_ok-line.ensures) at c.in_err-put_all.ensures.begun))
 
@@ -49,6 +50,6 @@ returns g c =
     (option_copied c.args.table) (rule_of c.args.rule) (g.C.Read.remaining c.args.certificate.now)
     (g.C.Read.remaining c.check_from.new.certificate) c.in_ok-bytes.bytes.items c.in_ok-bytes.ensures.all
     c.in_ok-verdict.verdict c.in_ok-bytes.ensures.within (rw c.deref.ensures.value at c.in_ok-verdict.ensures)
-    (g.W.Write.contents c.args.writer.now) (g.W.Write.contents c.put_all.new.writer)
+    (stream (g.W.Write.contents c.args.writer.now) (g.W.Write.contents c.put_all.new.writer))
     (record { high = c.args.rule.one_or_two; needed = c.args.rule.one_or_eight })
     (rw (c.as_bytes.ensures.value, c.in_ok-line.ensures) at c.in_ok-put_all.ensures.ok)

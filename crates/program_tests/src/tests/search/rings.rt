@@ -3,8 +3,9 @@ use instance_regions::Region;
 use pack_bound::first_plan;
 use proof_tree::Proof;
 use search_cases::made;
-use search_core::{AloneFault, plan_alone};
+use search_core::plan_by_one;
 use search_moves::Moves;
+use search_traits::{RegionFault, Unobserved};
 use std::alloc::{AllocError, Global};
 use std::sync::Arc;
 use std::test::Fail;
@@ -33,10 +34,10 @@ fn fewest_of(
     region: &Arc<Region>,
     turns: Option<u64>,
 ) -> Result<(u64, usize), Fail> {
-    match plan_alone::<Moves>(alloc, region, turns) {
+    match plan_by_one::<Moves, Unobserved>(alloc, region, turns, &Unobserved) {
         Ok(plan) => Ok((plan.cover.size(), kids_of(&plan.proof))),
-        Err(AloneFault::Stopped { cover, floor, .. }) => Ok((cover.size(), floor as usize)),
-        Err(AloneFault::OutOfMemory) => Err(AllocError.into()),
+        Err(RegionFault::Stopped { cover, floor, .. }) => Ok((cover.size(), floor as usize)),
+        Err(_) => Err(AllocError.into()),
     }
 }
 

@@ -5,8 +5,9 @@
 //! of cells of which every other one is scattered, so each kid is a leaf: three nodes, and three turns.
 use super::rings::ring;
 use instance_regions::Region;
-use search_core::{AloneFault, plan_alone};
+use search_core::plan_by_one;
 use search_moves::Moves;
+use search_traits::{RegionFault, Unobserved};
 use std::alloc::{AllocError, Global};
 use std::sync::Arc;
 use std::test::Fail;
@@ -82,12 +83,12 @@ const ROWS: [Row; 13] = [
 
 /// How the search of the region ends, alone.
 fn end_of(alloc: Global, region: &Arc<Region>, turns: Option<u64>) -> Result<End, AllocError> {
-    match plan_alone::<Moves>(alloc, region, turns) {
+    match plan_by_one::<Moves, Unobserved>(alloc, region, turns, &Unobserved) {
         Ok(plan) => Ok(End::Done {
             size: plan.cover.size(),
         }),
         Err(
-            AloneFault::Stopped {
+            RegionFault::Stopped {
                 cover,
                 floor,
                 turns,
@@ -97,7 +98,7 @@ fn end_of(alloc: Global, region: &Arc<Region>, turns: Option<u64>) -> Result<End
             floor,
             turns,
         }),
-        Err(AloneFault::OutOfMemory) => Err(AllocError),
+        Err(_) => Err(AllocError),
     }
 }
 

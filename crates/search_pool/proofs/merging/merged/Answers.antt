@@ -6,7 +6,7 @@ use Rattle.search_traits.specs.Planned.{IsProvedTo}
 use Rattle.search_traits.specs.Turns.{IsWithin, rest}
 use Rattle.gathering.specs.Gathered.{IsGathered, StopsGathering}
 use Rattle.schedule_law.specs.Worked.{Worked}
-use Rattle.gathering.specs.declared.fault.PoolFault.TheVariants.{Stopped}
+use Rattle.search_traits.specs.declared.region_fault.RegionFault.TheVariants.{Stopped}
 use Rattle.search_pool.specs.Reports.{StopsPool, sum_of}
 use Rattle.search_pool.specs.Rows.{counted}
 use Rattle.search_pool.specs.Tallies.{AreTallied}

@@ -1,6 +1,7 @@
 use Rattle.std.proofs.Common.{◌∙◌, sym}
 use Rattle.std.specs.Prelude.{option_copied}
 use Rattle.cave_model.specs.RuleOf.{rule_of}
+use Rattle.cave_runs.specs.Streams.{stream}
 use Rattle.torch_plan.specs.Answers.{named_in}
 use Rattle.torch_plan.proofs.RunLemmas.{file_in, levels_answered, standard_in, there_at_file, there_at_standard}
 use Rattle.torch_plan.proofs.RunLemmas.{told_as}
@@ -17,7 +18,7 @@ returns-then-eq g c =
     (sym (copied text.result) ∙ text.ensures.value) c.in_ok-plan.ensures.known in
     let same = c.standard-input.ensures ∙ sym (standard_in sources file (sym c.eq.ensures ∙ c.if-eq.true)) in
     levels_answered sources file (option_copied c.args.plan) (option_copied c.args.table) (rule_of c.args.rule)
-    (g.W.Write.contents c.args.output.now) (g.W.Write.contents run.new.writer) _ (option_copied rows.result)
+    (stream (g.W.Write.contents c.args.output.now) (g.W.Write.contents run.new.writer)) _ (option_copied rows.result)
     (option_copied text.result) run.result same told said run.ensures.done run.ensures.untouched run.ensures.begun
     run.ensures.fault (there_at_standard sources file (option_copied c.args.table)
     (sym c.eq.ensures ∙ c.if-eq.true) c.in_ok-table.ensures.there) c.in_ok-plan.ensures.there
@@ -32,7 +33,7 @@ returns-in-Some g c =
     (sym (copied text.result) ∙ text.ensures.value) c.in_ok-plan.ensures.known in
     let same = c.in-Some.ensures.bytes ∙ sym (file_in sources file (sym c.eq.ensures ∙ c.if-eq.false)) in
     levels_answered sources file (option_copied c.args.plan) (option_copied c.args.table) (rule_of c.args.rule)
-    (g.W.Write.contents c.args.output.now) (g.W.Write.contents run.new.writer) _ (option_copied rows.result)
+    (stream (g.W.Write.contents c.args.output.now) (g.W.Write.contents run.new.writer)) _ (option_copied rows.result)
     (option_copied text.result) run.result same told said run.ensures.done run.ensures.untouched run.ensures.begun
     run.ensures.fault (there_at_file sources file (option_copied c.args.table) c.in-Some.ensures.there
     c.in_ok-table.ensures.there) c.in_ok-plan.ensures.there

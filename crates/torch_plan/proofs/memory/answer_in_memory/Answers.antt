@@ -1,5 +1,6 @@
 use Rattle.std.proofs.Common.{◌≡◌, ℕ, List, Option, Some, None, Vec, Global, refl, map, subst}
 use Rattle.std.specs.Prelude.{option_map, string_bytes}
+use Rattle.cave_runs.specs.Streams.{stream}
 use Rattle.torch_plan.specs.Answers.{Answers}
 use Rattle.torch_plan.specs.Kept.{held_by}
 use Rattle.torch_plan.specs.Memory.{sources_of}
@@ -17,7 +18,8 @@ returns-clause-does g c =
     let words = map (λ word. string_bytes word) c.args.words.now in
     answered_in_memory c.args.files.now c.args.input.now words run.result.0 run.new.output.items
     (option_map (λ v. v.items) run.result.1)
-    (subst (λ (old : List ℕ). Answers known words (Some old) (Some run.new.output.items)
+    (subst (λ (old : List ℕ). Answers known words (stream (Some old) (Some run.new.output.items))
     (option_map (λ v. v.items) run.result.1) run.result.0) c.new-output.ensures.items
-    (subst (λ (kept : Option (List ℕ)). Answers known words (Some c.new-output.result.items)
-    (Some run.new.output.items) kept run.result.0) (held_as run.result.1) run.ensures.does))
+    (subst (λ (kept : Option (List ℕ)). Answers known words
+    (stream (Some c.new-output.result.items) (Some run.new.output.items)) kept run.result.0) (held_as run.result.1)
+    run.ensures.does))

@@ -1,6 +1,7 @@
 use Rattle.std.proofs.Common.{◌∙◌, sym}
 use Rattle.std.specs.Prelude.{option_copied}
 use Rattle.cave_model.specs.RuleOf.{rule_of}
+use Rattle.cave_runs.specs.Streams.{stream}
 use Rattle.torch_plan.specs.Answers.{named_in}
 use Rattle.torch_plan.specs.Given.{given}
 use Rattle.torch_plan.specs.Kept.{held_by}
@@ -16,7 +17,8 @@ returns-then-eq g c =
     (sym (copied rows.result) ∙ rows.ensures.value) c.in-Ok.ensures.known in
     let same = c.standard-input.ensures ∙ sym (standard_in sources file (sym c.eq.ensures ∙ c.if-eq.true)) in
     plan_answered sources file (option_copied c.args.table) (option_copied c.args.proof) (rule_of opts.rule)
-    (given opts.workers.number opts.turns) (g.W.Write.contents c.args.output.now) (g.W.Write.contents run.new.output)
+    (given opts.workers.number opts.turns)
+    (stream (g.W.Write.contents c.args.output.now) (g.W.Write.contents run.new.output))
     (held_by g.S.Kept.Write.contents run.result.1) _ (option_copied rows.result) run.result.0 same told
     run.ensures.done run.ensures.left run.ensures.begun run.ensures.fault run.ensures.threads
     run.ensures.untouched (there_at_standard sources file (option_copied c.args.table)
@@ -30,7 +32,8 @@ returns-in-Some g c =
     (sym (copied rows.result) ∙ rows.ensures.value) c.in-Ok.ensures.known in
     let same = c.in-Some.ensures.bytes ∙ sym (file_in sources file (sym c.eq.ensures ∙ c.if-eq.false)) in
     plan_answered sources file (option_copied c.args.table) (option_copied c.args.proof) (rule_of opts.rule)
-    (given opts.workers.number opts.turns) (g.W.Write.contents c.args.output.now) (g.W.Write.contents run.new.output)
+    (given opts.workers.number opts.turns)
+    (stream (g.W.Write.contents c.args.output.now) (g.W.Write.contents run.new.output))
     (held_by g.S.Kept.Write.contents run.result.1) _ (option_copied rows.result) run.result.0 same told
     run.ensures.done run.ensures.left run.ensures.begun run.ensures.fault run.ensures.threads
     run.ensures.untouched (there_at_file sources file (option_copied c.args.table)
