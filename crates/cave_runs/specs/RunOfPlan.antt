@@ -10,15 +10,16 @@ use Rattle.cave_runs.specs.declared.fault.RunFault.{RunFault}
 use Rattle.cave_runs.specs.declared.fault.RunFault.TheVariants as faults
 use Rattle.cave_runs.specs.declared.plan.Outcome.{Outcome}
 
--- how a run of a plan by so many workers and turns ends, of what its reader had and has, with what its two writers held
--- and hold
+-- how a run of a plan by the allowed workers and turns ends, of what its reader had and has, with what its two writers
+-- held and hold
 pub record IsRunOfPlan (known rest table : Option (List ℕ)) (rule : Rule) (allowance : Allowance)
     (result : Result Outcome RunFault) (old new proof_old proof_new : Option (List ℕ)) : Type 0 where
   -- the fewest torches of the cave that the bytes tell, and their proof; or, where turns were limited, safe torches and
   -- a number that no safe ones are fewer than
   pub done : IfOk result (λ outcome. IfSome known (λ bytes.
       Plans bytes table rule allowance outcome old new proof_old proof_new))
-  -- a refused input leaves both writers as they were
+  -- a failed write leaves a beginning of each text, refused memory one of the certificate alone; any other fault leaves
+  -- both writers as they were
   pub left : IfErr result (λ e. Leaves e known table rule allowance old new proof_old proof_new)
   -- a fault of the input is the one that the definitions name
   pub fault : IfErr result (λ e. IsOfInput e → e ≢ faults.NoThread

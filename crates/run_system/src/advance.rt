@@ -17,7 +17,7 @@ pub enum Advance {
         size: u64,
         turns: u64,
     },
-    /// Many workers: so many pieces were taken.
+    /// Many workers: `pieces` pieces were taken.
     Pieces {
         region: u64,
         regions: u64,
