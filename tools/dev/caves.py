@@ -79,7 +79,7 @@ def mine(seed, size):
 
 
 def open_from(floor_of, size, high=2):
-    """Air so many layers high above each column that has a floor, within walls."""
+    """Air of `high` layers above each column that has a floor, within walls."""
     x_side, y_side, z_side = size
     cells = {}
     for (x, z), floor in floor_of.items():
@@ -149,7 +149,7 @@ def ledge(seed, size):
 
 
 def noise(rng, size, step):
-    """A number for each cell of the box: smooth noise, from numbers drawn every so many cells of each side."""
+    """A number for each cell of the box: smooth noise, from numbers drawn every `step` cells of each side."""
     def along(side, every):
         shares = [side_at % every / every for side_at in range(side)]
         return [(at // every, share * share * (3 - 2 * share)) for at, share in enumerate(shares)]

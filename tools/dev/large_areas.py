@@ -72,7 +72,7 @@ def dark_in(cells, rows, torches):
 
 
 def planned(program, world, folder, jobs):
-    """A run by so many jobs: how it ended, with the peak of its largest process, and its torches by the world's
+    """A run by `jobs` jobs: how it ended, with the peak of its largest process, and its torches by the world's
     coordinates, which are the area's own."""
     with tempfile.TemporaryDirectory(dir=folder) as place:
         corners = [*map(str, ["--from", *EXTENT.low, "--to", *EXTENT.high])]

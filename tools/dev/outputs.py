@@ -163,7 +163,7 @@ def try_rights(cases):
 
 
 def within(limit):
-    """In a child: no file may grow beyond so many bytes; a write that would fails."""
+    """In a child: no file may grow beyond `limit` bytes; a write that would fails."""
     signal.signal(signal.SIGXFSZ, signal.SIG_IGN)
     resource.setrlimit(resource.RLIMIT_FSIZE, (limit, limit))
 

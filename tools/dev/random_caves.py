@@ -110,8 +110,8 @@ def cave_of(rng, own=0.0):
 
 
 def felt_cave(rng):
-    """Winding passages, two high, in a block that holds no torch, and stone under so many of their cells that each is
-    lit by a torch on one of them: few places, and so trees with branches of a few kids."""
+    """Winding passages, two high, in a block that holds no torch. Stone lies under enough of their cells that a torch
+    on it lights each cell: few places, and so trees with branches of a few kids."""
     side = rng.randrange(6, 15)
     size = (side, 4, rng.randrange(4, 15))
     at, path = (rng.randrange(1, size[0] - 1), rng.randrange(1, size[2] - 1)), []

@@ -10,5 +10,5 @@ FEWER = "import sys; sys.path.insert(0, {!r}); import extents; extents.CELLS = {
 
 
 def words(cells):
-    """The words that run it; a box has at most so many cells."""
+    """The words that run it where a box has at most `cells` cells."""
     return [sys.executable, "-c", FEWER.format(os.path.join(TOOLS, "user"), cells), LIGHT]

@@ -11,7 +11,7 @@ MEMORY = 48 << 20
 TURNS = re.compile(r"torchplan: region (\d+) of (\d+): (\d+) to (\d+) torches, turn (\d+)")
 # How many turns each region of the slow cave may take. It needs more, and these take seconds.
 MANY_TURNS = 500
-# In so many seconds each region has a line.
+# Within this number of seconds each region has a line.
 FEW_SECONDS = 3
 
 

@@ -25,7 +25,7 @@ def timed(words, limit=600):
 
 
 def least(words, times=3, limit=600):
-    """Of so many runs the one that took the least processor time, with the highest peak of all; the first that doesn't
+    """Of `times` runs the one that took the least processor time, with the highest peak of all; the first that doesn't
     end well, where one doesn't."""
     runs = []
     for _ in range(times):

@@ -69,7 +69,7 @@ class AreaRun:
             self.note(f"{count:,} of {len(pieces):,} pieces")
 
     def side_by_side(self, pieces, jobs):
-        """Plans pieces by so many processes, which keep what they find."""
+        """Plans pieces by `jobs` processes, which keep what they find."""
         context, running = multiprocessing.get_context("fork"), {}
         waiting = self.left(pieces)
         try:

@@ -22,7 +22,7 @@ OTHER_LEVELS = (
     "in the Nether and the End mobs spawn at other levels than in the Overworld, some at any: by this rule torches"
     " don't keep all of them away"
 )
-MANY = 10  # so many notes are said at the terminal
+MANY = 10  # how many notes are said at the terminal
 APART = "{} only cells where nobody gets to on foot, last in the list: --reachable leaves them out"
 
 # What a run depends on beside its cave: where one gets to on foot, or None; of a piece of an area the piece, the area's

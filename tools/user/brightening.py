@@ -7,8 +7,8 @@ from places import hangs_of
 from plans import Torch
 from windows import BRIGHT, REACH, Window, count_of
 
-STEPS = 4  # a torch moves at most so far at once
-WORK = 20_000  # so many places are tried in all: some ten seconds
+STEPS = 4  # the most steps that a torch moves at once
+WORK = 20_000  # how many places are tried in all: some ten seconds
 
 # A torch that may be moved: where it stands, and which level it brings to the dark cells of its region, by number.
 Lamp = namedtuple("Lamp", "at levels")

@@ -51,7 +51,7 @@ def state_of(entries):
 
 
 def indices_of(longs, count):
-    """The index of each cell into a palette of so many states. An entry has as many bits as the palette needs, at least
+    """The index of each cell into a palette of `count` states. An entry has as many bits as the palette needs, at least
     four; the first stands in the lowest bits of the first long, and none crosses a long."""
     bits = max(LEAST_BITS, (count - 1).bit_length())
     each = 64 // bits

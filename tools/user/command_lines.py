@@ -103,7 +103,7 @@ def parser():
     words.add_argument("--from", dest="one", **point, help="a corner of the box")
     words.add_argument("--to", dest="other", **point, help="the opposite corner")
     words.add_argument("--around", **point, help="the largest box about a point (the player)")
-    words.add_argument("--radius", type=number_in(1, 10_000), metavar="R", help="so many blocks about that point")
+    words.add_argument("--radius", type=number_in(1, 10_000), metavar="R", help="R blocks about that point")
     words.add_argument("--chunks", nargs=4, type=coordinate, metavar=("X", "Z", "X2", "Z2"),
                        help="all between two chunks, in the whole height of the world")
     words.add_argument("--dimension", type=dimensions.named, metavar="NAME",

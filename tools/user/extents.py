@@ -28,7 +28,7 @@ def count_of(size):
 
 
 def grown(extent, by):
-    """The extent with so many layers more on each side."""
+    """The extent with `by` layers more on each side."""
     return Extent(tuple(at - by for at in extent.low), tuple(at + by for at in extent.high))
 
 

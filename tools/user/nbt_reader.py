@@ -9,7 +9,7 @@ from nbt_writer import BYTE, BYTES, COMPOUND, DOUBLE, END, FLOAT, INT, INTS, LIS
 from refusals import damaged
 
 DEEPEST = 512
-MOST = 2_000_000  # lists and compounds that are kept: no cave has so many, and each takes memory
+MOST = 2_000_000  # the most lists and compounds that are kept: no cave has more, and each takes memory
 FORMS = {BYTE: ">b", SHORT: ">h", INT: ">i", LONG: ">q", FLOAT: ">f", DOUBLE: ">d"}
 WIDTHS = {kind: struct.calcsize(form) for kind, form in FORMS.items()}
 ITEMS = {BYTES: 1, INTS: 4, LONGS: 8}
@@ -35,7 +35,7 @@ class Reader:
         self.data, self.size, self.at, self.left_out, self.kept = data, len(data), 0, left_out, 0
 
     def take(self, count):
-        """Where the next bytes begin, so many of which are there."""
+        """Where the next `count` bytes begin, all of which are there."""
         at = self.at
         if self.size - at < count:
             raise damaged(f"nbt: truncated at {self.size}")

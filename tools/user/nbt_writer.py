@@ -43,7 +43,7 @@ class Writer:
             self.number(number)
 
     def compounds(self, name, count):
-        """The head of a list of so many compounds; an empty list has the id 0."""
+        """The head of a list of `count` compounds; an empty list has the id 0."""
         self.name(LIST, name)
         self.put(bytes([COMPOUND if count else END]), "id")
         self.count(count)

@@ -111,7 +111,7 @@ def changing(box, before, away, release):
 
 
 def parts(lines):
-    """How many functions are needed for so many commands."""
+    """How many functions these commands need."""
     return max(1, -(-len(lines) // LONGEST))
 
 

@@ -25,7 +25,7 @@ from reaching import Reached
 from refusals import Refusal
 
 JOB = "job.json"
-NEAR = 2  # so many layers about a piece are those of which it asks whether one gets there
+NEAR = 2  # of how many layers about a piece it asks whether one gets there
 HERE = os.path.dirname(os.path.abspath(__file__))
 
 

@@ -20,7 +20,7 @@ class Ground:
 
     room    the cells in which somebody fits, with the feet there
     held    those of them from which one doesn't fall
-    found   the cells that feet have got to with so many steps in the air left at least: 0, 1, and so on"""
+    found   for 0, 1, 2 and so on the cells that feet have got to with at least that number of steps in the air left"""
 
     def __init__(self, box, rows):
         wide, tall, long = self.size = box.size

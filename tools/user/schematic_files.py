@@ -45,7 +45,7 @@ def vector(entries, name):
 
 
 def unpacked_indices(data, bits, count):
-    """So many numbers of so many bits in longs, the first in the lowest bits; one may lie across two longs."""
+    """`count` numbers of `bits` bits each in longs, the first in the lowest bits; one may lie across two longs."""
     if len(data) * 8 < bits * count:
         raise damaged("a region has fewer block states than cells")
     longs = struct.unpack(f">{len(data) // 8}Q", data)
@@ -101,7 +101,7 @@ def read_litematic(root, name):
 
 
 def varints(data, count):
-    """So many numbers of seven bits a byte, the lowest first."""
+    """`count` numbers of seven bits a byte, the lowest first."""
     found, number, shift = [], 0, 0
     for byte in data:
         number |= (byte & 127) << shift

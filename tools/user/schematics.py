@@ -11,7 +11,7 @@ AIR = torches.AIR
 
 
 def packed(indices, bits):
-    """Numbers of so many bits in longs, the first in the lowest bits; one may lie across two longs."""
+    """Numbers of `bits` bits each in longs, the first in the lowest bits; one may lie across two longs."""
     whole, shift, longs = 0, 0, []
     for index in indices:
         whole |= index << shift

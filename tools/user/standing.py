@@ -10,15 +10,15 @@ def is_torch(state):
 
 
 def torches_of(box, layers=0):
-    """Where torches stand in a box, but in so many layers at each side."""
+    """Where torches stand in a box, leaving out `layers` layers at each side."""
     kinds = {index for index, state in enumerate(box.palette) if is_torch(state)}
     places = (box.position(number) for number, cell in enumerate(box.cells) if cell in kinds)
     return [at for at in places if all(layers <= place < side - layers for place, side in zip(at, box.size))]
 
 
 def without(box, places, layers=0):
-    """The box with air in these places, which are told by the world's coordinates or its own; but in so many layers at
-    each side."""
+    """The box with air in these places, which are told by the world's coordinates or its own, leaving out `layers`
+    layers at each side."""
     own = [at for at in map(box.own, places)
            if all(layers <= place < side - layers for place, side in zip(at, box.size))]
     if not own:

@@ -1,7 +1,7 @@
 """The order in which torches are placed: a short walk, layer by layer where that costs little."""
 
-ONE_LAYER_MORE = 1.2  # a walk by layers may be longer by so much
-FEW = 12  # from so many torches each is tried as the first, of more only the one in the corner
+ONE_LAYER_MORE = 1.2  # by how much a walk by layers may be longer
+FEW = 12  # of up to this number of torches each is tried as the first, of more only the one in the corner
 TRIES = 1_000_000  # pairs of steps that are looked at for a shorter way
 
 

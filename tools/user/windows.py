@@ -11,7 +11,7 @@ class Window:
     """The cells of a field about a position, as far as a side of the box. A row and a layer have one place more, which
     is closed, so that no step leads from one into the next.
 
-    masks  the cells that cost so much to enter, by what it costs"""
+    masks  for each cost the cells that cost it to enter"""
 
     def __init__(self, field, middle, radius):
         self.low = [max(0, at - radius) for at in middle]

@@ -94,7 +94,7 @@ def extent_around(world, point):
 
 
 def extent_within(world, point, radius):
-    """The extent of so many blocks about a point on each side, within the world's heights."""
+    """The extent of `radius` blocks about a point on each side, within the world's heights."""
     require_chunks(world, [(point[0] // SIDE, point[2] // SIDE)])
     low, high = world.heights()
     return extents.Extent((point[0] - radius, max(low, point[1] - radius), point[2] - radius),

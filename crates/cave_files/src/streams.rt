@@ -26,7 +26,7 @@ impl Read for Endless {
     }
 }
 
-/// Gives so many zeros, as many a call as are asked for, and counts them.
+/// Gives zeros, as many a call as are asked for, until none are left, and counts them.
 #[derive(Drop)]
 pub struct Zeros {
     left: usize,
@@ -45,7 +45,7 @@ impl Read for Zeros {
     }
 }
 
-/// So many zeros.
+/// `left` zeros.
 pub const fn zeros_of(left: usize) -> Zeros {
     Zeros { left, given: 0 }
 }

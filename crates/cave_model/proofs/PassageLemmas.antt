@@ -18,14 +18,14 @@ use Rattle.cave_model.proofs.NeighbourLemmas.{listed_shares, index_of, index_bel
 
 -- ---- one neighbour after another
 
--- one of the first so many of these cells, which light can enter
+-- the cell `to` is one of the first `count` of these cells, and light can enter it
 pub record IsAmong (cave : Cave) (near : List (Option ℕ)) (count to : ℕ) : Type 0 where
   pub index : ℕ
   pub early : index < count
   pub there : get_or near index None ≡ Some to
   pub passes : entering_cost cave to < 15
 
--- the list goes on with those of the first so many of these cells that light can enter
+-- the list goes on with those of the first `count` of these cells that light can enter
 pub record GoesOnBy (cave : Cave) (near : List (Option ℕ)) (count : ℕ) (old new : List ℕ) : Type 0 where
   pub more : List ℕ
   pub joined : new ≡ old ++ more
@@ -121,7 +121,7 @@ part_past starts cells row h =
     let long = length-map-range_with_len (part starts cells) 0 (length starts - 1) in
     get_or_past (parts starts cells) row [] (omega (arith, long))
 
--- the rows of the first so many cells
+-- the rows of the first `count` cells
 pub record ListsPassages (cave : Cave) (count : ℕ) (starts cells : List ℕ) : Type 0 where
   pub whole : length starts ≡ count + 1
   pub starting : AreStarts starts cells

@@ -53,7 +53,7 @@ pub record LightsDarkness (cave : Cave) (torches : List Torch) : Type 0 where
   pub distinct : AreDistinct (cells_of torches)
   pub covered : (cell : ℕ) → IsDark cave cell → (place : ℕ) × Contains (cells_of torches) place × Lights cave place cell
 
--- so many torches are enough, and no fewer
+-- `count` torches are enough, and no fewer
 pub record IsFewest (cave : Cave) (count : ℕ) : Type 0 where
   pub enough : (torches : List Torch) × IsSafe cave torches × (length torches ≡ count)
   pub least : (torches : List Torch) → IsSafe cave torches → count ≤ length torches

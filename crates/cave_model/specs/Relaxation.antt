@@ -19,7 +19,7 @@ best_of cave levels cell = max (levels cell)
     (max (brought cave levels cell (beyond cave.size below cell))
     (brought cave levels cell (beyond cave.size above cell)))))))
 
--- the level after so many rounds
+-- the level after a given number of rounds
 unfoldable pub relaxed : Cave → ℕ → ℕ → ℕ
 relaxed cave zero cell = (class_at cave cell).emission
 relaxed cave (suc rounds) cell = best_of cave (relaxed cave rounds) cell

@@ -1,4 +1,4 @@
--- The texts of the first so many, one after another.
+-- The texts of the numbers below n, one after another.
 use Rattle.std.proofs.Common.{◌≡◌, ◌≢◌, ℕ, suc, ◌+◌, Bool, true, false, ◌||◌, nat_eq, List, [], ◌∷◌, ◌++◌, codes}
 use Rattle.std.proofs.Common.{decimal, Contains, Option, Some, None, MatchOption, refl, sym, ap, subst, ◌∙◌, arith}
 use Rattle.std.proofs.Common.{inl, inr, append_assoc}
@@ -19,7 +19,7 @@ pub up_to_more : (text : ℕ → List ℕ) (n : ℕ) → up_to text (n + 1) ≡ 
 unfolding up_to
 up_to_more text n = let e : n + 1 ≡ suc n = omega arith in ap (up_to text) e
 
--- one more text behind the first so many, and what stands before them
+-- one more text behind those of the numbers below n, and what stands before them
 pub put_next : (text : ℕ → List ℕ) (n : ℕ) (front old put new : List ℕ) → new ≡ old ++ put → old ≡ front
     ++ up_to text n → put ≡ text n → new ≡ front ++ up_to text (n + 1)
 put_next text n front old put new is so_far next =

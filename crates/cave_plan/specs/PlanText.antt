@@ -44,7 +44,7 @@ abbrev pub mark_at : Cave → List ℕ → ℕ → List ℕ
 mark_at cave torches cell = if is_torch torches cell then hang_mark (hang_at cave cell)
     else block_mark (class_at cave cell)
 
--- the texts of the first so many, one after another
+-- the texts of the numbers below n, one after another
 unfoldable pub up_to : (ℕ → List ℕ) → ℕ → List ℕ
 up_to text zero = []
 up_to text (suc n) = up_to text n ++ text n
@@ -80,7 +80,7 @@ head_text torches dark (Some floor) =
     codes "torches " ++ (decimal torches ++ (codes " at-least "
     ++ (decimal floor ++ (codes "\ndark " ++ (decimal dark ++ codes "\n")))))
 
--- the text of these torches, in the order of their cells, of a cave with so many dark cells
+-- the text of these torches, in the order of their cells, of a cave with `dark` dark cells
 abbrev pub plan_text : Cave → List ℕ → ℕ → Option ℕ → List ℕ
 plan_text cave torches dark floor = head_text (length torches) dark floor
     ++ (flat_map (torch_line cave) torches ++ up_to (layer_if cave torches) cave.size.y)

@@ -19,12 +19,12 @@ use Rattle.cave_problem.specs.Storing.{IsBlock, IsSourceOf, IsStored}
 use Rattle.cave_problem.proofs.LightingLemmas.{place_cost, lights_back}
 use Rattle.cave_problem.proofs.MoreLemmas.{lists_start, lists_more}
 
--- those of the first so many cells that some place lights
+-- those of the first `count` cells that some place lights
 pub record AreReached (cave : Cave) (cells places : List ℕ) (width count : ℕ) (covered : List ℕ) : Type 0 where
   pub whole : length covered ≡ width
   pub exact : (cell : ℕ) → Has covered cell ↔ ((cell < count) × (place : ℕ) × LightsBy cave cells places place cell)
 
--- lists and row have the first so many cells
+-- lists and row have the first `count` cells
 pub record Filling (cave : Cave) (cells places : List ℕ) (width count : ℕ) (lit : List (List ℕ)) (covered : List ℕ)
     : Type 0 where
   pub lists : Grouping (LightsBy cave cells places) (length places) count lit

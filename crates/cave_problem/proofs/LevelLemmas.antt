@@ -30,7 +30,7 @@ room_kept cave reach near old new sources count same s = record {
   few = s.few;
 }
 
--- so many of the reach's cells have their words at the level
+-- the first `count` of the reach's cells have their words at the level
 pub record Settling (cave : Cave) (cells reach : List ℕ) (level count : ℕ) (levels : List ℕ) : Type 0 where
   pub there : AreExact cave cells reach (level + 1) levels
   pub none : (number lower : ℕ) → lower < level → lower < 16 → word_at levels number lower ≡ 0

@@ -113,7 +113,7 @@ linked_more sides old new near count le b s = record {
       (slice_index near (6 * number + face)) b (s.each number face lt small)));
 }
 
--- so many sides of a cell are linked
+-- the first `count` sides of a cell are linked
 pub record Linking (sides first reach near : List ℕ) (number count : ℕ) : Type 0 where
   pub kept : BeginsWith first reach
   pub before : AreLinked sides reach near number
@@ -149,7 +149,7 @@ linking_next sides first reach new near number face found h room small b is s = 
 
 -- ---- a reach is forgotten
 
--- the first so many cells have no number any longer
+-- the first `count` cells have no number any longer
 pub record Forgetting (local reach : List ℕ) (count : ℕ) : Type 0 where
   pub inside : All (λ cell. cell < length local) reach
   pub others : (cell : ℕ) → cell < length local

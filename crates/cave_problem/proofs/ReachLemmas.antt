@@ -37,7 +37,7 @@ either_set a b bit = (
 -- ---- where light comes from
 
 module _ (cave : Cave) (source : ℕ) where
-  -- a source brings a level to itself where entering it leaves so much
+  -- a source brings a level to itself where entering it leaves that much
   pub reaches_here : (level : ℕ) → source < cell_count cave.size → level + entering_cost cave source < 16
       → Reaches cave source level source
   reaches_here level inside le = (0, start inside, omega arith)

@@ -111,7 +111,7 @@ module _ (key block word : ℕ) where
 
 -- ---- storing
 
--- the cell is one of the first so many of the reach
+-- the cell is one of the first `count` of the reach
 pub record IsFound (reach : List ℕ) (count cell : ℕ) : Type 0 where
   pub number : ℕ
   pub before : number < count
@@ -128,7 +128,7 @@ pub record IsServed (cave : Cave) (sources reach places : List ℕ) (block count
   pub found : IsFound reach count (slice_index places place)
   pub more : HasMore (IsSourceOf cave sources block (slice_index places place)) (bucket old place) (bucket new place)
 
--- so many of the reach's cells have what they light in the lists
+-- the first `count` of the reach's cells have what they light in the lists
 pub record Storing (cave : Cave) (sources reach places : List ℕ) (block count : ℕ) (old new : List (List ℕ)) (all : ℕ)
     : Type 0 where
   pub whole : length new ≡ length old

@@ -6,14 +6,14 @@ use Rattle.cave_problem.specs.Blocks.{AreBlank, AreExact, AreSized, IsComplete, 
 use Rattle.cave_problem.specs.Reach.{IsReach}
 use Rattle.cave_problem.specs.declared.block_flood.BlockFlood.{BlockFlood}
 
--- numbers for so many cells, with six sides and 16 words for each
+-- numbers for `count` cells, with six sides and 16 words for each
 pub record AreWide (count : ℕ) (local near levels : List ℕ) : Type 0 where
   pub small : count ≤ most_cells
   pub numbers : length local ≡ count
   pub sides : length near ≡ 6 * count
   pub words : length levels ≡ 16 * count
 
--- the memory of a flood, for so many cells, after one flood: a reach, and words of its cells alone
+-- the memory of a flood, for `count` cells, after one flood: a reach, and words of its cells alone
 pub record IsLeft (count : ℕ) (flood : BlockFlood) : Type 0 where
   pub wide : AreWide count flood.local.items flood.near.items flood.levels.items
   pub found : IsReach flood.local.items flood.reach.items
@@ -24,8 +24,8 @@ pub record IsReady (count : ℕ) (flood : BlockFlood) : Type 0 where
   pub left : IsLeft count flood
   pub none : flood.reach.items ≡ []
 
--- the words at the levels above the one that is needed are there, and one of the first so many cells is each to which
--- a source brings what is needed
+-- the words at the levels above the one that is needed are there, and each cell to which a source brings what is needed
+-- is one of the first `count`
 pub record HasSpread (cave : Cave) (sources : List ℕ) (flood : BlockFlood) (count : ℕ) : Type 0 where
   pub left : IsLeft (cell_count cave.size) flood
   pub sized : AreSized (length flood.reach.items) flood.near.items flood.levels.items count

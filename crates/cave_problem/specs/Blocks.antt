@@ -33,20 +33,20 @@ pub record AreInRoom (near levels : List ℕ) (number : ℕ) : Type 0 where
   pub sides : 6 * number + 6 ≤ length near
   pub words : (face : ℕ) → face < 6 → 16 * slice_index near (6 * number + face) + 16 ≤ length levels
 
--- the same for the first so many numbers of a reach of that length, whose words are there too
+-- the same for the first `count` numbers of a reach of `long` cells, whose words are there too
 pub record AreSized (long : ℕ) (near levels : List ℕ) (count : ℕ) : Type 0 where
   pub few : count ≤ long
   pub here : 16 * long ≤ length levels
   pub each : (number : ℕ) → number < count → AreInRoom near levels number
 
--- a reach in the box, of which the first so many cells are linked, with at most 64 sources
+-- a reach in the box, of which the first `count` cells are linked, with at most 64 sources
 pub record HasRoom (cave : Cave) (reach near levels : List ℕ) (sources count : ℕ) : Type 0 where
   pub inside : All (λ cell. cell < cell_count cave.size) reach
   pub sized : AreSized (length reach) near levels count
   pub small : length reach < 2 ^ 32
   pub few : sources ≤ 64
 
--- the word has just the bits that one of the first so many sides has at the level
+-- the word has just the bits that one of the first `count` sides has at the level
 pub record IsUnion (near levels : List ℕ) (number level count word : ℕ) : Type 0 where
   pub exact : (bit : ℕ) → IsSet word bit
       ↔ ((face : ℕ) × (face < count) × IsSet (word_at levels (slice_index near (6 * number + face)) level) bit)
@@ -56,7 +56,7 @@ pub record AreExact (cave : Cave) (sources reach : List ℕ) (least : ℕ) (leve
   pub exact : (number level : ℕ) → number < length reach → least ≤ level → level < 16
       → IsWordAt cave sources level (slice_index reach number) (word_at levels number level)
 
--- a reach that begins with the sources, with the links of its first so many cells
+-- a reach that begins with the sources, with the links of its first `count` cells
 pub record IsLinked (cave : Cave) (sources reach near : List ℕ) (count : ℕ) : Type 0 where
   pub begins : BeginsWith sources reach
   pub once : AreOnce reach
@@ -67,7 +67,7 @@ pub record IsWordBy (cave : Cave) (reach near levels : List ℕ) (sources number
   pub exact : (cells : List ℕ) → length cells ≡ sources → IsLinked cave cells reach near (number + 1)
       → AreExact cave cells reach (level + 1) levels → IsWordAt cave cells level (slice_index reach number) word
 
--- each cell to which one of the sources brings the level is one of the first so many
+-- each cell to which one of the sources brings the level is one of the first `count`
 pub record IsComplete (cave : Cave) (sources reach : List ℕ) (count level : ℕ) : Type 0 where
   pub each : (bit cell : ℕ) → bit < length sources → Reaches cave (slice_index sources bit) level cell
       → (number : ℕ) × (number < count) × (slice_index reach number ≡ cell)

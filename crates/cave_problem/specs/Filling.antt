@@ -9,7 +9,7 @@ use Rattle.set_cover.specs.Instance.{words_for}
 use Rattle.cave_model.specs.Cave.{Cave}
 use Rattle.cave_model.specs.Torches.{ArePlaces, Lights}
 
--- for each of so many cells its index in the list, where it stands there
+-- for each of `count` cells its index in the list, where it stands there
 pub record AreIndices (count : ℕ) (cells indices : List ℕ) : Type 0 where
   pub whole : length indices ≡ count
   pub exact : (cell index : ℕ) → cell < count → index < length cells

@@ -12,7 +12,7 @@ pub record IsSide (cave : Cave) (cell : ℕ) (beyond : Option ℕ) (to : ℕ) : 
   pub leads : (to ≡ cell) ⊎ (beyond ≡ Some to)
   pub opens : (other : ℕ) → beyond ≡ Some other → entering_cost cave other < 15 → to ≡ other
 
--- six sides for each of so many cells
+-- six sides for each cell, of which those of the first `count` are known
 pub record AreSides (cave : Cave) (count : ℕ) (sides : List ℕ) : Type 0 where
   pub whole : length sides ≡ 6 * cell_count cave.size
   pub each : (cell face : ℕ) → cell < count → face < 6
@@ -61,13 +61,13 @@ pub record IsLongerReach (old local reach : List ℕ) : Type 0 where
   pub found : IsReach local reach
   pub kept : BeginsWith old reach
 
--- the numbers of the sides of the first so many cells
+-- the numbers of the sides of the first `count` cells
 pub record AreLinked (sides reach near : List ℕ) (count : ℕ) : Type 0 where
   pub each : (number face : ℕ) → number < count → face < 6
       → IsNumberOf reach (slice_index sides (6 * slice_index reach number + face))
       (slice_index near (6 * number + face))
 
--- six sides for each of so many cells, which lie below that number
+-- six sides for each of `count` cells, all of them below `count`
 pub record AreInside (count : ℕ) (sides : List ℕ) : Type 0 where
   pub whole : length sides ≡ 6 * count
   pub each : (cell face : ℕ) → cell < count → face < 6 → slice_index sides (6 * cell + face) < count
@@ -78,7 +78,7 @@ pub record HaveRoom (sides local near : List ℕ) : Type 0 where
   pub inside : AreInside (length local) sides
   pub room : length near ≡ 6 * length local
 
--- a reach whose first so many cells are linked
+-- a reach whose first `count` cells are linked
 pub record IsLinkedReach (sides local reach near : List ℕ) (count : ℕ) : Type 0 where
   pub found : IsReach local reach
   pub linked : AreLinked sides reach near count

@@ -24,7 +24,7 @@ pub struct BlockFlood {
 }
 
 impl BlockFlood {
-    /// The memory for a box of so many cells.
+    /// The memory for a box of `count` cells.
     pub fn new(alloc: Global, count: u32) -> Result<BlockFlood, AllocError>
         requires small { count ≤ most_cells }
         ensures { IfOk result (IsReady count) }

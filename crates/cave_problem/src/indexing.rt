@@ -11,7 +11,7 @@ use std::alloc::Global;
 /// What stands for a cell that isn't listed.
 const NONE: u32 = u32::MAX;
 
-/// For each of so many cells its index in the list.
+/// For each of `count` cells its index in the list.
 pub fn indices_of(alloc: Global, count: u32, cells: &[Cell]) -> Result<Vec<u32>, OutOfMemory>
     requires inside { All (λ cell. cell < count) cells.now }
     requires ascending { IsStrictlyIncreasing cells.now }

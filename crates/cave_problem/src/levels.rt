@@ -55,7 +55,7 @@ pub fn settle(world: &World, linked: &Linked<'_>, levels: &mut [u64], level: u8)
     }
 }
 
-/// Takes the words of the first so many cells away.
+/// Takes the words of the first `count` cells away.
 pub fn blank(levels: &mut [u64], count: usize)
     requires room { 16 * count ≤ length levels.old }
     requires others { AreBlank levels.old count }

@@ -11,8 +11,8 @@ use std::alloc::AllocError;
 /// The number of a cell that isn't there.
 pub const NONE: u32 = u32::MAX;
 
-/// A reach that begins with so many sources, and whose first so many cells are linked: to each the six numbers of its
-/// sides.
+/// A reach that begins with `sources` sources, and whose first `count` cells are linked: `near` has the six numbers of
+/// the sides of each.
 #[derive(Clone, Copy)]
 pub struct Linked<'a> {
     pub reach: &'a [Cell],

@@ -7,12 +7,12 @@ use Rattle.cave_base.specs.Class.{IsSoundClass, void}
 use Rattle.block_rows.specs.Rows.{Table}
 use Rattle.cave_reading.specs.World.{IsClassOf}
 
--- which of so many block states the cells name
+-- which of `states` block states the cells name
 pub record AreUsed (cells : List (Option ℕ)) (states : ℕ) (used : List Bool) : Type 0 where
   pub whole : length used ≡ states
   pub exact : (index : ℕ) → IsTrue (slice_index_or used index false) ↔ Contains cells (Some index)
 
--- the classes of the first so many block states, as far as the cells name them
+-- the classes of the first `states` block states, as far as the cells name them
 pub record AreClassesOf (cells : List (Option ℕ)) (palette : List BlockState) (rows : Table) (states : ℕ)
     (classes : List Class) : Type 0 where
   pub whole : length classes ≡ states

@@ -33,8 +33,8 @@ pub record WritesVerdict (structure table : Option (List ℕ)) (rule : Rule) (ce
   pub judges : Judges structure table rule certificate verdict
   pub written : Takes writer (verdict_line verdict)
 
--- the text is a certificate of the cave that the bytes tell; its own torches are safe and the fewest, and this is their
--- number
+-- the text is a certificate of the cave that the bytes tell, and its own torches, whose number is `torches`, are safe
+-- and the fewest
 pub record ShowsFewest (bytes : List ℕ) (table : Option (List ℕ)) (rule : Rule) (text : List ℕ) (torches : ℕ)
     : Type 0 where
   pub cave : Cave

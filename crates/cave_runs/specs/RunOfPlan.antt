@@ -18,7 +18,7 @@ pub record IsRunOfPlan (inputs : Inputs) (allowance : Allowance) (result : Resul
   -- a number that no safe ones are fewer than
   pub done : IfOk result (λ outcome. IfSome inputs.structure.before (λ bytes.
       Plans bytes inputs.table inputs.rule allowance outcome out))
-  -- a failed write leaves a beginning of each text, refused memory one of the certificate at most, and a refused input
+  -- a failed write leaves a beginning of each text, refused memory one of the certificate alone; any other fault leaves
   -- both writers as they were
   pub left : IfErr result (λ e. Leaves e inputs allowance out)
   -- a fault of the input is the one that the definitions name

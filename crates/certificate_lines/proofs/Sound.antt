@@ -21,7 +21,7 @@ abbrev pub forest_append : Forest → Forest → Forest
 forest_append none others = others
 forest_append (more tree trees) others = more tree (forest_append trees others)
 
--- a front of so many trees, and the others
+-- a front of k trees, and the p others
 pub record Cut (version count k p : ℕ) (trees : Forest) : Type 0 where
   pub front : Forest
   pub others : Forest

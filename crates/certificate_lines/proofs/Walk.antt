@@ -79,7 +79,7 @@ sound_after stage.Done next text h m = absurd m
 
 -- ---- some lines lead on from each sound stage to the end
 
--- so many numbers, from one on
+-- n numbers, from `a` on
 abbrev run : ℕ → ℕ → List ℕ
 run a zero = []
 run a (suc n) = a ∷ run (a + 1) n

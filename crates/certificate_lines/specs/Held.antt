@@ -76,7 +76,7 @@ pub record TakesLine (piece after : List ℕ) (k : LineKind) (old new : HeldText
 pub record EndsPiece (piece : List ℕ) (old new : HeldText) : Type 0 where
   pub each : (bytes : List ℕ) (all : List Said) → Holds bytes all old → Holds (bytes ++ piece) all new
 
--- with room for so many bytes more
+-- with room for `more` bytes
 pub record HasRoom (kept : HeldText) (more : ℕ) : Type 0 where
   pub bytes : List ℕ
   pub all : List Said

@@ -6,13 +6,13 @@ use Rattle.proof_rules.specs.Certificate.{AreListed}
 use Rattle.certificate_lines.specs.declared.stage.Stage.{Stage}
 use Rattle.certificate_lines.specs.declared.stage.Stage.TheVariants as stage
 
--- with so many trees still to come
+-- the stage where as many trees are still to come as the last argument says
 abbrev pub after_node : ℕ → ℕ → ℕ → ℕ → Stage
 after_node version count to_come zero = stage.Region version count to_come
 after_node version count to_come (suc p) = stage.Node version count to_come (suc p)
 
--- with so many groups of a weighted leaf still to come, whose first cells are at least this one, and after them so many
--- trees
+-- the stage where `left` groups of a weighted leaf are still to come, whose first cells are at least `from`, and then
+-- `pending` trees
 abbrev pub after_group : ℕ → ℕ → ℕ → ℕ → ℕ → ℕ → Stage
 after_group version count to_come pending zero from = after_node version count to_come pending
 after_group version count to_come pending (suc left) from =
@@ -34,7 +34,7 @@ abbrev pub LeafMeans : ℕ → ℕ → ℕ → ℕ → List ℕ → Stage → Ty
 LeafMeans version count to_come pending numbers next = (p : ℕ) × (cells : List ℕ) × (pending ≡ p + 1)
     × (numbers ≡ length cells ∷ cells) × AreListed count cells × (next ≡ after_node version count to_come p)
 
--- a cell of the box and how many kids the branch has, no more than the box has cells; so many trees come in its place
+-- a cell of the box and how many kids the branch has, no more than the box has cells; the kids' trees come in its place
 abbrev pub BranchMeans : ℕ → ℕ → ℕ → ℕ → List ℕ → Stage → Type 0
 BranchMeans version count to_come pending numbers next = (p cell kids : ℕ) × (pending ≡ p + 1)
     × (numbers ≡ cell ∷ kids ∷ []) × (cell < count) × (kids ≤ count)
@@ -57,14 +57,13 @@ abbrev pub PickMeans : ℕ → ℕ → ℕ → ℕ → List ℕ → Stage → Ty
 PickMeans version count to_come pending numbers next = (p place : ℕ) × (4 ≤ version) × (pending ≡ p + 1)
     × (numbers ≡ place ∷ []) × (place < count) × (next ≡ stage.Node version count to_come (pending + 1))
 
--- how many groups a weighted leaf has, some, no more than the box has cells, from the third version on; so many groups
--- come next
+-- how many groups a weighted leaf has, some, no more than the box has cells, from the third version on; they come next
 abbrev pub WeightedMeans : ℕ → ℕ → ℕ → ℕ → List ℕ → Stage → Type 0
 WeightedMeans version count to_come pending numbers next = (groups : ℕ) × (3 ≤ version) × (numbers ≡ groups ∷ [])
     × (0 < groups) × (groups ≤ count) × (next ≡ stage.Group version count to_come pending groups 0)
 
--- a group with cells of the box, of which the first is at least this one and leaves greater ones for the groups to
--- come; one group less is to come, and after the last one tree less
+-- a group with cells of the box, of which the first is at least `from` and leaves greater ones for the groups to come;
+-- one group less is to come, and one tree less after the last group
 abbrev pub GroupMeans : ℕ → ℕ → ℕ → ℕ → ℕ → ℕ → List ℕ → Stage → Type 0
 GroupMeans version count to_come pending left from numbers next = (p l : ℕ) × (group : Group) × (pending ≡ p + 1)
     × (left ≡ l + 1) × (numbers ≡ group_numbers group) × IsGroup group

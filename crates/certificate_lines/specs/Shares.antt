@@ -4,15 +4,14 @@ use Rattle.proof_rules.specs.declared.groups.Group.{Group}
 use Rattle.proof_rules.specs.Groups.{most_weight, cells_of, IsGroup}
 use Rattle.certificate_lines.specs.Nodes.{group_numbers, first_cell}
 
--- cells that ascend from this one on, of a box of so many, each with a weight of at least 1
+-- cells of a box of `count` cells, which ascend from `from` on, each with a weight of at least 1
 abbrev pub AreSharesIn : ℕ → ℕ → List ℕ → Type 0
 AreSharesIn count from [] = Unit {0}
 AreSharesIn count from (cell ∷ []) = ⊥
 AreSharesIn count from (cell ∷ weight ∷ more) = (from ≤ cell) × (cell < count) × (0 < weight) × (weight ≤ most_weight)
     × AreSharesIn count (cell + 1) more
 
--- the numbers are those of a group with cells of a box of so many, and this is its first cell, which is at least that
--- one
+-- the numbers are those of a group in a box of `count` cells, whose first cell is `cell`, which is at least `from`
 pub record IsGroupFrom (count from : ℕ) (numbers : List ℕ) (cell : ℕ) : Type 0 where
   pub group : Group
   pub is : numbers ≡ group_numbers group

@@ -37,7 +37,7 @@ HeadroomMeans version count numbers next = ((numbers ≡ 1 ∷ []) ⊎ (numbers 
 abbrev pub NeedMeans : ℕ → ℕ → List ℕ → Stage → Type 0
 NeedMeans version count numbers next = ((numbers ≡ 1 ∷ []) ⊎ (numbers ≡ 8 ∷ [])) × (next ≡ stage.Regions version count)
 
--- how many regions there are, no more than the box has cells; so many are to come
+-- how many regions there are, no more than the box has cells; all of them are to come
 abbrev pub RegionsMeans : ℕ → ℕ → List ℕ → Stage → Type 0
 RegionsMeans version count numbers next = (k : ℕ) × (numbers ≡ k ∷ []) × (k ≤ count)
     × (next ≡ stage.Region version count k)
@@ -51,7 +51,7 @@ abbrev pub RegionMeans : ℕ → ℕ → ℕ → List ℕ → Stage → Type 0
 RegionMeans version count to_come numbers next = (k n t : ℕ) × (to_come ≡ k + 1) × (numbers ≡ n ∷ t ∷ [])
     × (0 < n) × (n ≤ count) × (0 < t) × (t ≤ count) × (next ≡ stage.Dark version count k n t)
 
--- so many cells of the box, ascending; this stage comes next
+-- `many` cells of the box, ascending; the stage `after` comes next
 abbrev pub CellsMean : ℕ → ℕ → Stage → List ℕ → Stage → Type 0
 CellsMean count many after numbers next = AreListed count numbers × (length numbers ≡ many) × (next ≡ after)
 

@@ -8,7 +8,7 @@ use Rattle.certificate_lines.specs.Sound.{IsSoundStage, pending_of}
 use Rattle.certificate_lines.specs.declared.stage.Stage.{Stage}
 use Rattle.certificate_lines.specs.declared.stage.Stage.TheVariants as stage
 
--- so many lines were taken, which lead from the start to this stage alone
+-- `taken` lines were taken, which lead from the start to this stage alone
 pub record Walked (bytes : List ℕ) (s : Stage) (taken : ℕ) (rest : List ℕ) : Type 0 where
   pub before : List (List ℕ)
   pub parts : bytes ≡ ended before ++ rest

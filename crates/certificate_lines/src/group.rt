@@ -4,7 +4,7 @@ ghost use Rattle.certificate_lines.specs.Shares.{AreSharesIn, IsGroupFrom, IsNoG
 
 use crate::shape::first_two;
 
-/// The first cell of a group whose numbers these are, with cells of a box of so many that are at least this one.
+/// The first cell of a group whose numbers these are, with cells of a box of `count` cells that are at least `from`.
 pub fn first_of_group(count: u32, from: u32, numbers: &[u32]) -> Option<u32>
     ensures { MatchOption result (IsNoGroup count from numbers.now) (IsGroupFrom count from numbers.now) }
 {

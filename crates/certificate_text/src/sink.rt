@@ -11,7 +11,7 @@ use crate::writing::put_all;
 use std::alloc::Global;
 use std::io::Write;
 
-/// From so many bytes on the buffer is written.
+/// From this number of bytes on the buffer is written.
 const FULL: usize = 8192;
 
 /// A writer, and the buffer before it with what is on its way.

@@ -61,7 +61,7 @@ no_rule name rows other none (Check file proof table rule) is = none (rule_of ru
 no_rule name rows other none (Levels file plan table rule progress) is = none (rule_of rule) is.4
 no_rule name rows other none (Rows file table) is = absurd (apart name (codes "rows") other is.0)
 
--- so many workers are none
+-- the number of workers that is named isn't one from 1 to 64
 pub no_crew : (rows : List Row) → ((workers : Workers) → ¬ IsCrewOf rows workers.number)
     → NoneIsAskedBy (codes "plan") rows
 no_crew rows none (Dark file table rule progress) is = absurd (apart (codes "plan") (codes "dark") refl is.0)

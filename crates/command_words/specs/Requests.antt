@@ -11,11 +11,11 @@ use Rattle.command_words.specs.Versions.{IsNeedFor}
 use Rattle.command_words.specs.declared.request.Request.{Request}
 use Rattle.command_words.specs.declared.request.Request.TheVariants.{Dark, Plan, Check, Levels, Rows}
 
--- a number of so many bits in decimal digits, after a plus or without one; and which
+-- the text is a number of `bits` bits in decimal digits, after a plus or without one
 abbrev pub IsNumber : ℕ → Text → Type 0
 IsNumber bits text = IsNumeral 10 (without_leading_plus text) × (digits_value 10 (without_leading_plus text) < 2 ^ bits)
 
--- the number of so many bits that the text spells, if it does
+-- the number of `bits` bits that the text spells, if it does
 abbrev pub Reads : ℕ → Text → Option ℕ → Type 0
 Reads bits text (Some n) = IsNumber bits text × (n ≡ digits_value 10 (without_leading_plus text))
 Reads bits text None = ¬ IsNumber bits text
@@ -37,7 +37,7 @@ pub record IsRuleOf (rows : List Row) (rule : Rule) : Type 0 where
   pub headroom : rule.headroom ≡ headroom_by told
   pub need : IsNeedFor (first_of (codes "rule") rows) rule.need
 
--- so many workers as the matches tell, and else one
+-- as many workers as the matches tell, and else one
 pub record IsCrewOf (rows : List Row) (workers : ℕ) : Type 0 where
   pub told : Option ℕ
   pub tells : Tells 8 (one_of (codes "workers") rows) told

@@ -137,7 +137,7 @@ rest_below c b (q ∷ qs) zero number k rest = refl
 rest_below c b (q ∷ qs) (suc count) zero k rest = refl
 rest_below c b (q ∷ qs) (suc count) (suc number) k rest = rest_below c b qs count number k rest
 
--- there are so many kids at rest
+-- there are `count` kids at rest
 rest_count : (count : ℕ) → shape_count (all_at_rest count) ≡ count
 rest_count zero = refl
 rest_count (suc count) = omega (arith, rest_count count)

@@ -71,7 +71,7 @@ abbrev mutual
 
 -- ---- the beginning
 
--- so many waiting kids
+-- as many waiting kids as the argument says
 abbrev pub all_at_rest : ℕ → Shapes
 all_at_rest zero = no_shape
 all_at_rest (suc count) = one_shape at_rest (all_at_rest count)

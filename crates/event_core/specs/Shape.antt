@@ -13,7 +13,8 @@ mutual
     in_hand : ℕ → Shape
     -- at this floor, by this tree
     settled : ℕ → Tree → Shape
-    -- in a way, with the places of its kids, room for so many trees, and for so many below others
+    -- in a way, with the places of its kids, room for this number of their trees and for that number below bars and
+    -- picks, and the kids
     parted : Way → List ℕ → ℕ → ℕ → Shapes → Shape
 
   -- shapes, one after another: those of the kids of a piece

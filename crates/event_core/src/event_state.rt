@@ -63,7 +63,7 @@ impl Model for Core {
 }
 
 impl Core {
-    /// A core in which the root waits. Each of so many workers has seen the aim, or the size of this cover of the
+    /// A core in which the root waits. Each of `workers` workers has seen the aim, or the size of this cover of the
     /// region where that is smaller.
     pub fn new(
         alloc: Global,

@@ -55,7 +55,7 @@ fn newly_opened(
     })
 }
 
-/// So many waiting nodes.
+/// `count` waiting nodes.
 fn waiting(alloc: Global, count: usize) -> Result<Siblings, AllocError>
     ensures { IfOk result (λ nodes. nodes ≡ all_at_rest count) }
 {
@@ -71,7 +71,7 @@ fn empty_leaf(alloc: Global) -> Proof {
     Proof::Leaf(Sequence::from_vec(Vec::new(alloc)))
 }
 
-/// So many empty leaves, where trees are to stand.
+/// `count` empty leaves, where trees are to stand.
 fn trees_for(alloc: Global, count: usize) -> Result<Vec<Proof>, AllocError>
     ensures { IfOk result (λ trees. length trees.items ≡ count) }
 {

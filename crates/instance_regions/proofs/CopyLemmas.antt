@@ -53,7 +53,7 @@ moves_as old Kind Other moved new is s = record {
   );
 }
 
--- one of the first so many in a list
+-- the item is one of the first `count` in the list
 abbrev pub IsEarly : List ℕ → ℕ → ℕ → Type 0
 IsEarly items count item = (k : ℕ) × (k < count) × (slice_index items k ≡ item)
 

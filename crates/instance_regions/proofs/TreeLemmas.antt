@@ -272,7 +272,7 @@ listed_inside sparse place k lit parents are h e inside =
     let has = subst (λ (l : List ℕ). Contains l cell) e (element_of lit cell k inside refl) in
     omega (arith, are.kept.of_cells place cell h has, are.sized)
 
--- the first so many cells of a place's list have the root of the first of all
+-- the first `count` cells of a place's list have the root of the first of all
 pub record JoiningRow (sparse : Sparse) (place count : ℕ) (old new : List ℕ) : Type 0 where
   pub whole : length new ≡ length old
   pub forest : IsForest new

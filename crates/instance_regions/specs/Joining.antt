@@ -77,7 +77,7 @@ pub record AreLabels (sparse : Sparse) (labels : List ℕ) : Type 0 where
   pub low : (cell : ℕ) → cell < length labels → slice_index labels cell ≤ cell
   pub top : (cell : ℕ) → cell < length labels → slice_index labels (slice_index labels cell) ≡ slice_index labels cell
 
--- so many cells, each its own parent
+-- `count` cells, each its own parent
 pub record AreAlone (count : ℕ) (parents : List ℕ) : Type 0 where
   pub whole : length parents ≡ count
   pub each : (cell : ℕ) → cell < count → slice_index parents cell ≡ cell

@@ -53,7 +53,7 @@ pub record HasRoom (cells ranks : List ℕ) (base : ℕ) (words : List ℕ) : Ty
   pub each : (cell : ℕ) → Contains cells cell
       → (cell < length ranks) × (base + slice_index ranks cell < 64 * length words)
 
--- the rows of the first so many places are there, and the others are empty
+-- the rows of the first `count` places are there, and the others are empty
 pub record AreCopied (sparse : Sparse) (own placed : List ℕ) (width count : ℕ) (words : List ℕ) : Type 0 where
   pub whole : length words ≡ length placed * width
   pub exact : (place cell : ℕ) → place < length placed → cell < 64 * width
@@ -65,7 +65,7 @@ pub record AreRanks (sparse : Sparse) (own ranks : List ℕ) : Type 0 where
   pub whole : length ranks ≡ length sparse.cells
   pub listed : (index : ℕ) → index < length own → slice_index ranks (slice_index own index) ≡ index
 
--- words without a bit, for so many rows of so many cells
+-- words without a bit, with room for `rows` rows of `cells` cells
 pub record AreEmpty (rows cells : ℕ) (words : List ℕ) : Type 0 where
   pub whole : length words ≡ rows * words_for cells
   pub none : (bit : ℕ) → ¬ Has words bit

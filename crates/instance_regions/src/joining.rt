@@ -59,7 +59,7 @@ pub fn count_of(cells: &[Cell]) -> usize
     cells.len()
 }
 
-/// So many cells, each by itself.
+/// A forest of `count` cells, each by itself.
 pub fn alone(alloc: Global, count: usize) -> Result<Vec<u32>, OutOfMemory>
     requires { count ≤ 2 ^ 32 }
     ensures { IfOk result (λ v. AreAlone count v.items) }

@@ -40,7 +40,7 @@ pub replaced_as : {V : Type 0} (f : V → List ℕ) (lists : List V) (level : �
 replaced_as f lists level cells old now e long low is =
     subst (λ l. IsWaiting old level l (map f (set lists level cells))) is (replaced f lists level cells old e long low)
 
--- so many empty lists
+-- `count` empty lists
 pub record AreEmpty (count : ℕ) (lists : List (Vec ℕ)) : Type 0 where
   pub counted : length lists ≡ count
   pub empty : (k : ℕ) (d : Vec ℕ) → k < length lists → (get_or lists k d).items ≡ []

@@ -5,7 +5,7 @@ use Rattle.cave_base.specs.Box.{cell_count}
 use Rattle.cave_model.specs.Cave.{Cave}
 use Rattle.cave_model.specs.Light.{IsLevelOf, IsReachOf}
 
--- so many cells, none with light
+-- `count` cells, none with light
 pub record HasNoLight (count : ℕ) (levels : List ℕ) : Type 0 where
   pub counted : length levels ≡ count
   pub dark : (cell : ℕ) → slice_index levels cell ≡ 0

@@ -43,7 +43,7 @@ pub record IsFlood (cave : Cave) (passed waits : ℕ) (levels : ℕ → ℕ) (wa
       → Contains (waiting_at waiting (levels cell)) cell
   pub inside : (level cell : ℕ) → Contains (waiting_at waiting level) cell → cell < cell_count cave.size
 
--- a flood in a store of so many cells, one for each of the box
+-- a flood in a store of `cells` cells, one for each of the box
 pub record IsFloodIn (cave : Cave) (passed waits cells : ℕ) (levels : ℕ → ℕ) (waiting : List (List ℕ)) : Type 0 where
   pub whole : cells ≡ cell_count cave.size
   pub flood : IsFlood cave passed waits levels waiting

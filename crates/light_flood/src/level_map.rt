@@ -8,7 +8,7 @@ use cave_base::Cell;
 use std::alloc::{AllocError, Global};
 use std::collections::BTreeMap;
 
-/// The levels of the cells that have light, out of so many cells: memory for those alone.
+/// The levels of the cells that have light, out of `count` cells: memory for those alone.
 #[derive(Debug, Drop)]
 pub struct LevelMap {
     count: u32,
@@ -16,7 +16,7 @@ pub struct LevelMap {
 }
 
 impl LevelMap {
-    /// So many cells without light.
+    /// `count` cells without light.
     pub fn new(alloc: Global, count: u32) -> LevelMap
         ensures count { result.count ≡ count }
         ensures none { result.levels.entries ≡ [] }

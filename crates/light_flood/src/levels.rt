@@ -22,7 +22,7 @@ impl Model for Levels {
 }
 
 impl Levels {
-    /// So many cells without light.
+    /// `count` cells without light.
     pub(crate) fn new(alloc: Global, count: u32) -> Result<Levels, AllocError>
         ensures { IfOk result (HasNoLight count) }
     {

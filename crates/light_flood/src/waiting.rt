@@ -7,7 +7,7 @@ use std::alloc::{AllocError, Global};
 use std::marker::Model;
 use std::mem;
 
-/// So many levels are there, 0 included.
+/// How many levels there are, 0 included.
 pub const LEVELS: usize = 16;
 
 /// The cells that have yet to pass their light on, by their level.

@@ -24,7 +24,7 @@ pub(crate) struct ActiveSet {
 }
 
 impl ActiveSet {
-    /// None of so many places and cells.
+    /// None of `places` places and `cells` cells.
     pub(crate) fn none(
         alloc: Global,
         places: usize,

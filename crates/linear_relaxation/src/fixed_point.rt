@@ -2,7 +2,7 @@
 
 use std::alloc::{AllocError, Global};
 
-/// One: so many bits stand behind the point.
+/// How many bits stand behind the point.
 pub const BITS: u32 = 20;
 
 /// One.
@@ -29,7 +29,7 @@ pub(crate) fn ratio(amount: i64, by: i64) -> i64 {
     signed(found)
 }
 
-/// So many whole ones.
+/// The number `count`, which is whole.
 pub fn ones(count: u64) -> i64 {
     signed(count).saturating_mul(ONE)
 }

@@ -24,7 +24,7 @@ pub(crate) struct LaneSide {
 }
 
 impl LaneSide {
-    /// The side of numbers of which each meets those of its list, of so many on the other side.
+    /// The side of numbers of which each meets those of its list, out of `others` numbers on the other side.
     pub(crate) fn new(
         alloc: Global,
         meets: &NumberLists,

@@ -4,7 +4,7 @@ use crate::lane_side::LaneSide;
 use crate::side::Lack;
 use std::num::nearest_u32_to_f32;
 
-/// Makes so many steps, each gone twice as far, and a part of the way back to where they began.
+/// Makes `steps` steps. Each goes twice as far, and then a part of the way back to where the first one began.
 pub(crate) fn run_steps(taken: &mut LaneSide, weights: &mut LaneSide, steps: u32) {
     taken.begin_run();
     weights.begin_run();

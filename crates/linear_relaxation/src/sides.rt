@@ -35,7 +35,7 @@ impl Sides {
         self.weights.step(self.taken.ahead(), Lack::Raises);
     }
 
-    /// Makes so many steps, each gone twice as far, and a part of the way back to where they began.
+    /// Makes `steps` steps. Each goes twice as far, and then a part of the way back to where the first one began.
     pub(crate) fn run(&mut self, steps: u32) {
         self.taken.begin_run();
         self.weights.begin_run();

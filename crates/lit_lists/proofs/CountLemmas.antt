@@ -70,7 +70,7 @@ counts_all count numbers counts index h s =
 
 -- ---- sums
 
--- the sums of the first so many counts
+-- the sums of the first counts: of none, of one, and so on up to `index` of them
 pub record SumsSoFar (counts sums : List ℕ) (index total : ℕ) : Type 0 where
   pub whole : length sums ≡ index + 1
   pub each : (k : ℕ) → k ≤ index → slice_index sums k ≡ sum (take k counts)

@@ -39,7 +39,7 @@ list_past starts next numbers part h =
     let long = length-map-range_with_len (filled starts next numbers) 0 (length starts - 1) in
     get_or_past (lists_in starts next numbers) part [] (omega (arith, long))
 
--- so many lists are there
+-- there are as many lists as starts, less one
 pub length-lists_in : (starts next numbers : List ℕ) → length (lists_in starts next numbers) ≡ length starts - 1
 length-lists_in starts next numbers = length-map-range_with_len (filled starts next numbers) 0 (length starts - 1)
 
@@ -68,7 +68,7 @@ piece_after : (numbers : List ℕ) (from to at number : ℕ) → at < from
     → take (to - from) (drop from (set numbers at number)) ≡ take (to - from) (drop from numbers)
 piece_after numbers from to at number h = ap (take (to - from)) (drop-set-lt from numbers at number h)
 
--- parts for so many numbers each, with nothing in them
+-- parts with room for these counts of numbers, and nothing in them
 pub filling_none : (counts starts next numbers : List ℕ) → AreSumsOf counts starts → next ≡ starts
     → length numbers ≡ slice_index starts (length counts) → IsFilling starts next numbers
 filling_none counts starts next numbers s empty long = record {
@@ -194,7 +194,7 @@ module _ (starts next numbers : List ℕ) (part number : ℕ) (s : IsFilling sta
 
 -- ---- a number at the end of the lists in many parts
 
--- the first so many of the parts, and the next
+-- a part is once more among the first `index + 1` parts than among those before it
 times_next : (parts : List ℕ) (index : ℕ) → index < length parts
     → times (take (index + 1) parts) (slice_index parts index) ≡ times (take index parts) (slice_index parts index) + 1
 times_next parts index h = count_by_more_yes (λ (other : ℕ). eqb other (slice_index parts index)) parts index 0 h

@@ -11,7 +11,7 @@ use Rattle.cave_model.specs.Parts.{part, parts}
 use Rattle.cave_model.proofs.PassageLemmas.{part_there}
 use Rattle.lit_lists.specs.Rows.{AreWhole}
 
--- so many lists there are
+-- there are as many lists as starts, less one
 pub length-parts : (starts numbers : List ℕ) → length (parts starts numbers) ≡ length starts - 1
 length-parts starts numbers = length-map-range_with_len (part starts numbers) 0 (length starts - 1)
 
@@ -48,7 +48,7 @@ module _ (starts numbers more : List ℕ) (s : AreWhole starts numbers) where
   abbrev next : List ℕ
   next = starts ++ length (numbers ++ more) ∷ []
 
-  -- so many lists there were
+  -- how many lists there were
   abbrev count : ℕ
   count = length starts - 1
 

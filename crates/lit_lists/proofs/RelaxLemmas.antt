@@ -258,7 +258,7 @@ passing_end cave from f g a b around index all s = record {
 
 -- ---- the neighbours that light can enter
 
--- so many of them have been offered light
+-- the first `index` of them have been offered light
 pub record ListedOn (cave : Cave) (from : ℕ) (f : ℕ → ℕ) (queue : List ℕ) (g : ℕ → ℕ) (next : List ℕ)
     (around : List ℕ) (index : ℕ) : Type 0 where
   pub grows : Grows cave (f from) f queue g next

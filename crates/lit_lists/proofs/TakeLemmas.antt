@@ -44,7 +44,7 @@ has_or_not (x ∷ xs) y = elim (cases_eq x y) [
 pub element_of : (cells : List ℕ) (k : ℕ) → k < length cells → Contains cells (slice_index cells k)
 element_of cells k h = (k, h, get_or_default_zero cells k (get_or cells k 0) h)
 
--- so many cells of the queue are done
+-- the levels of the cells that are done were taken away
 pub record Taking (old done new cells : List ℕ) : Type 0 where
   pub whole : length new ≡ length old
   pub out : (cell : ℕ) → Contains done cell → slice_index new cell ≡ 0

@@ -7,7 +7,7 @@ use Rattle.lit_lists.specs.Rows.{AreEmptyRows, AreWhole}
 abbrev pub times : List ℕ → ℕ → ℕ
 times numbers number = count_by (λ other. other == number) numbers
 
--- so many numbers are counted, each as often as it stands in the list, which has no others
+-- each of the numbers below `count` is counted as often as it stands in the list, which has no others
 pub record AreCounts (count : ℕ) (numbers counts : List ℕ) : Type 0 where
   pub whole : length counts ≡ count
   pub each : (number : ℕ) → number < count → slice_index counts number ≡ times numbers number
@@ -57,7 +57,7 @@ pub record AreOfSize (starts next parts : List ℕ) : Type 0 where
 pub record AreFull (starts next : List ℕ) : Type 0 where
   pub each : (part : ℕ) → part + 1 < length starts → slice_index next part ≡ slice_index starts (part + 1)
 
--- so many empty lists, each with room for just as many numbers as its part stands in the list
+-- `count` empty lists, each with room for just as many numbers as its part stands in the list
 pub record AreReady (count : ℕ) (starts next numbers parts : List ℕ) : Type 0 where
   pub lists : length starts ≡ count + 1
   pub empty : AreEmptyRows count (lists_in starts next numbers)

@@ -32,7 +32,7 @@ pub record IsPair (cave : Cave) (place cell : ℕ) : Type 0 where
   pub dark : IsDark cave cell
   pub lights : Lights cave place cell
 
--- of so many cells the list of each has the places that light it, where it is dark, each once
+-- `count` lists, each with the places that light its cell where that is dark, each once
 pub record ArePlacesOf (cave : Cave) (count : ℕ) (rows : List (List ℕ)) : Type 0 where
   pub whole : length rows ≡ count
   pub exact : (place cell : ℕ) → Contains (row_at rows cell) place ↔ ((cell < count) × IsPair cave place cell)

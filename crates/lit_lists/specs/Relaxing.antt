@@ -67,7 +67,7 @@ pub record IsSeeded (cave : Cave) (levels : ℕ → ℕ) (queue : List ℕ) : Ty
   pub low : (cell : ℕ) → levels cell ≤ 15
   pub queued : Queues cave levels queue
 
--- so many cells of the queue are done; those from there on are at most at this level, and from the end on below it
+-- `done` cells of the queue are done; those from there on are at most at `level`, and those from `end` on below it
 pub record Relaxing (cave : Cave) (start levels : ℕ → ℕ) (queue : List ℕ) (done end level : ℕ) : Type 0 where
   pub up : (cell : ℕ) → start cell ≤ levels cell
   pub spreads : Spreads cave start levels

@@ -11,7 +11,7 @@ pub record AreWhole (starts numbers : List ℕ) : Type 0 where
   pub first : slice_index starts 0 ≡ 0
   pub last : slice_index starts (length starts - 1) ≡ length numbers
 
--- so many lists, all of them empty
+-- `count` lists, all of them empty
 pub record AreEmptyRows (count : ℕ) (rows : List (List ℕ)) : Type 0 where
   pub whole : length rows ≡ count
   pub empty : (cell : ℕ) → row_at rows cell ≡ []
@@ -33,7 +33,7 @@ pub record AreOfOneBox (rows : List (List ℕ)) : Type 0 where
   pub inside : (cell number : ℕ) → Contains (row_at rows cell) number → number < length rows
   pub once : (cell : ℕ) → AreDistinct (row_at rows cell)
 
--- so many lists of numbers below their count, one after another in one list of all numbers
+-- `count` lists of numbers below `count`, one after another in one list of all numbers
 pub record AreRowsOf (count : ℕ) (starts numbers : List ℕ) : Type 0 where
   pub whole : AreWhole starts numbers
   pub lists : length starts ≡ count + 1

@@ -50,7 +50,7 @@ impl CellLists {
         }
     }
 
-    /// For each number, the cells whose lists it is in; there are so many cells.
+    /// For each of `count` numbers, the cells whose lists it is in. There are as many cells as numbers.
     pub fn turned(&self, alloc: Global, count: u32) -> Result<CellLists, AllocError>
         requires count { length self.now ≡ count }
         requires boxed { AreOfOneBox self.now }

@@ -67,8 +67,7 @@ impl Filling {
         }
     }
 
-    /// Fills each part with the numbers of the lists that it is in, where there are so many lists. They stand in one
-    /// list one after another.
+    /// Fills each part with the numbers of the lists that it is in. `parts` holds the `count` lists in turn.
     pub fn fill(&mut self, starts: &[usize], parts: &[u32], count: u32)
         requires rows { AreRowsOf count starts.now parts.now }
         requires ready { AreReady count self.old.starts.items self.old.next.items self.old.numbers.items parts.now }

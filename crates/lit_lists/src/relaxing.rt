@@ -10,7 +10,7 @@ use cave_base::Cell;
 use cave_model::{Passages, World};
 use std::alloc::AllocError;
 
-/// Levels are at most 15 and fall by one a step at least, so that after so many rounds no cell is left that can raise
+/// Levels are at most 15 and fall by one a step at least, so that after 14 rounds no cell is left that can raise
 /// another.
 const ROUNDS: u8 = 14;
 

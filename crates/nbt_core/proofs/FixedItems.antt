@@ -1,4 +1,4 @@
--- Payloads of a fixed size: so many of them are passed over as one run of bytes.
+-- Payloads of a fixed size: any number of them is passed over as one run of bytes.
 use Rattle.std.proofs.Common.{◌≡◌, ℕ, zero, suc, ◌+◌, ◌*◌, ◌<◌, ◌≤◌, List, length, take, drop, Some, Result, Ok, Err}
 use Rattle.std.proofs.Common.{refl, sym, ap, subst, ◌∙◌, arith, length-drop, ltb, inl, inr}
 use Rattle.std.proofs.lemmas.List.{drop-drop}
@@ -22,7 +22,7 @@ use Rattle.nbt_core.proofs.Results.{chosen, ok_is, err_never}
 use Rattle.nbt_core.proofs.Pieces.{run_err}
 use Rattle.nbt_core.proofs.Steps.{fails_too, value_leaf}
 
--- reading takes so many bytes, and meets no fault but that there are fewer
+-- reading takes `size` bytes, and meets no fault but that there are fewer
 pub record IsFixed {A : Type 0} (end size : ℕ) (read : List ℕ → Reads A) : Type 0 where
   pub short : (bytes : List ℕ) → length bytes < size → read bytes ≡ Err (Truncated end)
   pub whole : (bytes : List ℕ) → size ≤ length bytes → IsRead (read bytes) (drop size bytes)
@@ -110,7 +110,7 @@ item_passed : (one : List ℕ → Reads Nbt) (n : ℕ) (bytes : List ℕ) (t : N
 unfolding items_at
 item_passed one n bytes t b1 ts b2 left h1 h2 e = record { value = item t ts; is = rw (h1, h2, e) refl }
 
--- so many payloads of a fixed size
+-- `count` payloads of a fixed size
 pub fixed_items : (end size : ℕ) (one : List ℕ → Reads Nbt) → IsFixed end size one → (count : ℕ)
     → IsFixed end (size * count) (items_at one count)
 unfolding items_at

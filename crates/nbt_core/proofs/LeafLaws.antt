@@ -22,7 +22,7 @@ use Rattle.nbt_core.proofs.Numbers.{length-numbers_in, numbers_in-spelled, numbe
 abbrev with_count : ℕ → List ℕ → ℕ × List ℕ
 with_count n run = (n, run)
 
--- a count, and the bytes of so many numbers
+-- a count, and the bytes of that number of numbers, each of `size` bytes
 abbrev IsCounted : ℕ → ℕ × List ℕ → List ℕ → Type 0
 IsCounted size counted = IsInt (pos counted.0) ▷ IsRun (size * counted.0) counted.1
 

@@ -50,7 +50,7 @@ module _ {X : Type 0} (r : Result X NbtFault) (left : List ℕ) (end : ℕ) (byt
   unfolding leaf_at
   skips_double s = skips_mapped _ r left _ s
 
-  -- over a count and so many bytes, a Byte_Array
+  -- over a count and that number of bytes, a Byte_Array
   pub skips_bytes : Skips r left (counted_at end 1 bytes) → Skips r left (leaf_at end leaves.ByteArray bytes)
   unfolding leaf_at array_at
   skips_bytes s = skips_mapped _ r left _ (skips_mapped _ r left _ s)

@@ -11,7 +11,7 @@ use Rattle.nbt_core.specs.Skipping.{IsReadable, read_or}
 abbrev pub payload_value : ℕ → ℕ → Kind → List ℕ → Nbt
 payload_value end room kind bytes = read_or (list no_items) (value_at end room kind bytes)
 
--- the values of so many payloads
+-- the values of `count` payloads
 abbrev pub item_values : ℕ → ℕ → Kind → ℕ → List ℕ → List Nbt
 item_values end room kind count bytes = listed (read_or no_items (items_at (value_at end room kind) count bytes))
 

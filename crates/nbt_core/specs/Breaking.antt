@@ -22,7 +22,7 @@ IsShort end fault n bytes = (length bytes < n) × (fault ≡ Truncated end)
 abbrev pub BreaksText : ℕ → NbtFault → List ℕ → Type 0
 BreaksText end fault bytes = IsShort end fault 2 bytes ⊎ ((n : ℕ) × (IsSize n ▷ IsShort end fault n) bytes)
 
--- an array of numbers of so many bytes: no count, a negative one, or too few bytes
+-- an array of numbers of `size` bytes each: no count, a negative one, or too few bytes
 abbrev pub BreaksArray : ℕ → NbtFault → ℕ → List ℕ → Type 0
 BreaksArray end fault size bytes = IsShort end fault 4 bytes
     ⊎ ((n : ℕ) × (IsInt (negsuc n) ▷ Anything) bytes × (fault ≡ BadLength (end - length bytes)))
@@ -71,7 +71,7 @@ abbrev pub BreaksCompound : ℕ → NbtFault → ℕ → (Kind → List ℕ → 
 BreaksCompound end fault depth Inner bytes = (done : Members)
     × (AreMembers done depth ▷ BreaksMember end fault Inner) bytes
 
--- a payload at this depth, where so many containers may still nest: one too many is refused before its first piece
+-- a payload at this depth, where `room` containers may still nest: one too many is refused before its first piece
 unfoldable pub Breaks : ℕ → NbtFault → ℕ → ℕ → Kind → List ℕ → Type 0
 Breaks end fault zero depth (kinds.Leaf kind) bytes = BreaksLeaf end fault kind bytes
 Breaks end fault zero depth kinds.List bytes = fault ≡ TooDeep (end - length bytes)

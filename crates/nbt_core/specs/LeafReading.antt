@@ -8,7 +8,7 @@ use Rattle.nbt_core.specs.declared.kind.LeafKind.TheVariants as leaves
 use Rattle.nbt_core.specs.Reading.{Reads, ◌>>=◌, mapped, run_at, signed_at, int_at, text_at}
 use Rattle.nbt_core.specs.Value as values
 
--- the first so many numbers of a run, each of so many bytes
+-- the first numbers of a run, as many as asked for, each of `size` bytes
 unfoldable pub numbers_in : Width → ℕ → ℕ → List ℕ → List ℤ
 numbers_in width size zero run = []
 numbers_in width size (suc n) run = cast_signed width (big_number size run) ∷ numbers_in width size n (drop size run)
@@ -18,14 +18,14 @@ abbrev pub by_sign : {A : Type 0} → ℤ → A → (ℕ → A) → A
 by_sign (negsuc n) below others = below
 by_sign (pos n) below others = others n
 
--- a count, and the bytes of so many numbers
+-- a count, and the bytes of that number of numbers, each of `size` bytes
 unfoldable pub counted_at : ℕ → ℕ → List ℕ → Reads (ℕ × List ℕ)
 counted_at end size bytes = do
   n ← int_at end bytes
   by_sign n.0 (Err (BadLength (end - length bytes)))
       λ count. mapped (λ run. (count, run)) (run_at end (size * count) n.1)
 
--- a count, and so many numbers
+-- a count, and that number of numbers
 unfoldable pub array_at : ℕ → Width → ℕ → List ℕ → Reads (List ℤ)
 array_at end width size bytes = mapped (λ run. numbers_in width size run.0 run.1) (counted_at end size bytes)
 

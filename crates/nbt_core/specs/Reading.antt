@@ -40,11 +40,11 @@ abbrev pub GivesWhole : {X Y : Type 0} → (X → Y) → Result X NbtFault → R
 GivesWhole view (Ok x) read = read ≡ Ok (view x)
 GivesWhole view (Err e) read = Fails e read
 
--- so many bytes
+-- the first n bytes
 unfoldable pub run_at : ℕ → ℕ → List ℕ → Reads (List ℕ)
 run_at end n bytes = if nat_lt (length bytes) n then Err (Truncated end) else Ok (take n bytes, drop n bytes)
 
--- a number of so many bytes
+-- a number of `size` bytes
 unfoldable pub signed_at : ℕ → Width → ℕ → List ℕ → Reads ℤ
 signed_at end width size bytes = mapped (λ run. cast_signed width (big_number size run)) (run_at end size bytes)
 
@@ -52,7 +52,7 @@ signed_at end width size bytes = mapped (λ run. cast_signed width (big_number s
 abbrev pub int_at : ℕ → List ℕ → Reads ℤ
 int_at end bytes = signed_at end w32 4 bytes
 
--- a length of two bytes, and so many bytes
+-- a length of two bytes, and that number of bytes
 unfoldable pub text_at : ℕ → List ℕ → Reads (List ℕ)
 text_at end bytes = do
   size ← run_at end 2 bytes

@@ -32,7 +32,7 @@ IsByte b bytes = bytes ≡ b ∷ []
 
 -- ---- the values that hold no others
 
--- so many bytes, the highest first, in two's complement of this width
+-- `size` bytes, the highest first, in two's complement of this width
 abbrev pub IsSigned : Width → ℕ → ℤ → List ℕ → Type 0
 IsSigned width size n bytes = (length bytes ≡ size) × (cast_signed width (big_number size bytes) ≡ n)
 
@@ -44,7 +44,7 @@ IsInt = IsSigned w32 4
 abbrev pub IsSize : ℕ → List ℕ → Type 0
 IsSize n bytes = (length bytes ≡ 2) × (big_number 2 bytes ≡ n)
 
--- a length of two bytes, and so many bytes
+-- a length of two bytes, and that number of bytes
 abbrev pub IsText : List ℕ → List ℕ → Type 0
 IsText name = IsSize (length name) ▷ λ bytes. bytes ≡ name
 
@@ -57,7 +57,7 @@ abbrev pub AreSigned : Width → ℕ → List ℤ → List ℕ → Type 0
 AreSigned width size [] bytes = bytes ≡ []
 AreSigned width size (n ∷ ns) bytes = (IsSigned width size n ▷ AreSigned width size ns) bytes
 
--- a count, which isn't negative, and so many numbers
+-- a count, which isn't negative, and that number of numbers
 abbrev pub IsArray : Width → ℕ → List ℤ → List ℕ → Type 0
 IsArray width size ns = IsInt (pos (length ns)) ▷ AreSigned width size ns
 

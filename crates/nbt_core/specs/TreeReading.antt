@@ -9,7 +9,7 @@ use Rattle.nbt_core.specs.Value.{Nbt, leaf, list, compound, Items, no_items, ite
 use Rattle.nbt_core.specs.Reading.{Reads, ◌>>=◌, mapped, text_at, kind_at, count_at}
 use Rattle.nbt_core.specs.LeafReading.{leaf_at}
 
--- so many payloads, each by the same reader
+-- a given number of payloads, each by the same reader
 unfoldable pub items_at : (List ℕ → Reads Nbt) → ℕ → List ℕ → Reads Items
 items_at one zero bytes = Ok (no_items, bytes)
 items_at one (suc n) bytes = do
@@ -21,7 +21,7 @@ abbrev pub by_kind : {A : Type 0} → Option Kind → A → (Kind → A) → A
 by_kind None none some = none
 by_kind (Some kind) none some = some kind
 
--- named payloads up to an End, at most so many
+-- named payloads up to an End, fewer than a given number
 unfoldable pub members_at : ℕ → (Kind → List ℕ → Reads Nbt) → ℕ → List ℕ → Reads Members
 members_at end inner zero bytes = Err (Truncated end)
 members_at end inner (suc fuel) bytes = do
@@ -31,7 +31,7 @@ members_at end inner (suc fuel) bytes = do
     first ← inner k name.1
     mapped (λ others. member name.0 first.0 others) (members_at end inner fuel first.1)
 
--- a kind, a count, and so many payloads
+-- a kind, a count, and that number of payloads
 unfoldable pub list_at : ℕ → (Kind → List ℕ → Reads Nbt) → List ℕ → Reads Nbt
 list_at end inner bytes = do
   kind ← kind_at end bytes
@@ -43,7 +43,7 @@ list_at end inner bytes = do
 unfoldable pub compound_at : ℕ → (Kind → List ℕ → Reads Nbt) → List ℕ → Reads Nbt
 compound_at end inner bytes = mapped compound (members_at end inner (length bytes) bytes)
 
--- a payload, where so many containers may still nest
+-- a payload, where `room` containers may still nest
 unfoldable pub value_at : ℕ → ℕ → Kind → List ℕ → Reads Nbt
 value_at end zero (kinds.Leaf kind) bytes = mapped leaf (leaf_at end kind bytes)
 value_at end zero kinds.List bytes = Err (TooDeep (end - length bytes))

@@ -37,7 +37,7 @@ impl<'a> ItemsView<'a> {
     ghost use Rattle.nbt_core.specs.Fields.{AreFieldsOfFront};
     ghost use Rattle.nbt_core.specs.Borrowed.{item_values, ArePayloads};
 
-    /// So many payloads of this kind at the front of `rest`, up to offset `end`; in each `room` containers may nest.
+    /// `count` payloads of this kind at the front of `rest`, up to offset `end`; in each `room` containers may nest.
     pub(crate) fn new(
         rest: &'a [u8],
         end: usize,

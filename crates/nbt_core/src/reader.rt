@@ -109,7 +109,7 @@ impl<'a> Reader<'a> {
         Ok(if count > 0 { count as u32 } else { 0 })
     }
 
-    /// The count of an array, and the bytes of so many numbers of `size` bytes.
+    /// The count of an array, and the bytes of that number of numbers, each of `size` bytes.
     #[tactic(auto, unfolding(crate::specs::LeafReading::counted_at))]
     pub fn counted(&mut self, size: usize) -> Result<(usize, &'a [u8]), NbtFault>
         requires { size ≤ 8 }
@@ -129,7 +129,7 @@ impl<'a> Reader<'a> {
         Ok((count, self.run(size * count)?))
     }
 
-    /// A length of two bytes, and so many bytes.
+    /// A length of two bytes, and that number of bytes.
     #[tactic(auto, unfolding(crate::specs::Reading::text_at))]
     pub fn text(&mut self) -> Result<&'a [u8], NbtFault>
         ensures read { Gives (λ text. text.now) result self.new.rest.now (text_at self.old.end self.old.rest.now) }

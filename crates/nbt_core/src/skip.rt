@@ -64,7 +64,7 @@ impl Reader<'_> {
         Ok(())
     }
 
-    /// Passes over a length of two bytes, and so many bytes.
+    /// Passes over a length of two bytes, and that number of bytes.
     fn skip_text(&mut self) -> Result<(), NbtFault>
         ensures read { Skips result self.new.rest.now (text_at self.old.end self.old.rest.now) }
         ensures end { self.new.end ≡ self.old.end }
@@ -75,7 +75,7 @@ impl Reader<'_> {
         Ok(())
     }
 
-    /// Passes over the count of an array, and so many numbers of `size` bytes.
+    /// Passes over the count of an array, and that number of numbers of `size` bytes.
     fn skip_array(&mut self, size: usize) -> Result<(), NbtFault>
         requires { size ≤ 8 }
         ensures read { Skips result self.new.rest.now (counted_at self.old.end size self.old.rest.now) }
@@ -106,7 +106,7 @@ impl Reader<'_> {
         }
     }
 
-    /// Passes over so many payloads of this kind.
+    /// Passes over `count` payloads of this kind.
     #[cycle(skip)]
     fn skip_items(&mut self, kind: Kind, count: u32, room: u16) -> Result<(), NbtFault>
         ensures read { Skips result self.new.rest.now
@@ -121,7 +121,7 @@ impl Reader<'_> {
         }
     }
 
-    /// Passes over so many payloads of this kind, one after another.
+    /// Passes over `count` payloads of this kind, one after another.
     #[cycle(skip)]
     fn skip_each(&mut self, kind: Kind, count: u32, room: u16) -> Result<(), NbtFault>
         ensures read { Skips result self.new.rest.now

@@ -94,7 +94,7 @@ impl Reader<'_> {
         }
     }
 
-    /// So many payloads of this kind.
+    /// `count` payloads of this kind.
     #[cycle(payload)]
     fn items(
         &mut self,

@@ -35,7 +35,7 @@ down_has (suc n) z lt = elim (cases_eq n z) [
   | inr ne ↦ later n (down n) z (down_has n z (omega (arith, lt, ne)))
 ]
 
--- so many at most
+-- at most n distinct numbers are below n
 pub few_below : (n : ℕ) (xs : List ℕ) → AreDistinct xs → All (λ x. x < n) xs → length xs ≤ n
 few_below n xs once below = omega (
   arith,

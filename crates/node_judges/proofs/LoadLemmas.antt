@@ -178,7 +178,7 @@ held_barred lists barred (x ∷ xs) (l ∷ ls) a place out = elim (bool_cases (i
 
 -- ---- claim after claim
 
--- each place that isn't barred has the room that the first so many claims leave it
+-- each place that isn't barred has the room that the first `i` claims leave it
 pub record AreRoomsTo (lists : LitLists) (barred : List ℕ) (claims : List Claim) (i : ℕ) (rooms : List (Option Room))
     : Type 0 where
   pub each : (lefts : List (List ℕ)) → AreAllLeft lists barred claims lefts → (place : ℕ)
@@ -253,7 +253,7 @@ within_none lists claims rooms n = record { whole = refl; none = λ place out. n
 
 -- ---- claims cleared, one after another
 
--- the places that light the cells of the first so many claims have no room
+-- the places that light the cells of the first `i` claims have no room
 pub record AreClearedTo (lists : LitLists) (claims : List Claim) (i : ℕ) (rooms : List (Option Room)) : Type 0 where
   pub each : (claim : Claim) → Contains (take i claims) claim → (place : ℕ) → Contains (lit_by lists claim.cell) place
       → room_at rooms place ≡ None
@@ -309,7 +309,7 @@ module _ (lists : LitLists) (claims : List Claim) where
 
 -- ---- places of a cell
 
--- they lie in the box, whose places have so many rooms
+-- they lie in the box, which has `count` cells, each with its room
 pub places_inside : (lists : LitLists) (limit : ℕ) (cell : ℕ) (places : List ℕ) → AreInside lists limit
     → places ≡ lit_by lists cell → (count : ℕ) → count ≡ limit → All (λ place. place < count) places
 places_inside lists limit cell places inside e count same = λ i d h.

@@ -32,7 +32,7 @@ pub record AreCleared (places : List ℕ) (old new : List (Option Room)) : Type 
 abbrev pub LightsNone : LitLists → List Claim → ℕ → Type 0
 LightsNone lists claims place = (claim : Claim) → Contains claims claim → ¬ Contains (lit_by lists claim.cell) place
 
--- so many places, of which none has a room but those that light a cell of the claims
+-- `count` places, of which none has a room but those that light a cell of the claims
 pub record AreWithin (lists : LitLists) (claims : List Claim) (count : ℕ) (rooms : List (Option Room)) : Type 0 where
   pub whole : length rooms ≡ count
   pub none : (place : ℕ) → LightsNone lists claims place → room_at rooms place ≡ None

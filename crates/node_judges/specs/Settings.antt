@@ -11,13 +11,13 @@ use Rattle.node_judges.specs.declared.setting.Setting.{Setting}
 abbrev pub left_in : Setting → List ℕ
 left_in setting = left_without setting.omitted.now.items setting.region.now.items
 
--- the lists and the region are those of a box of so many cells
+-- the lists and the region are those of a box of `count` cells
 pub record IsOfBox (setting : Setting) (count : ℕ) : Type 0 where
   pub region : length setting.region.now.counts ≡ count
   pub places : AreAscendingBelow setting.lists.now count
   pub matched : AreMatched setting.lists.now count
 
--- no cell is seen, and none of so many places has a room
+-- no cell is seen, and none of `count` places has a room
 pub record AreClear (count : ℕ) (seen : Tally) (rooms : List (Option Room)) : Type 0 where
   pub none : seen.items ≡ []
   pub no_rooms : AreNoRooms count rooms

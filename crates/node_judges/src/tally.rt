@@ -25,7 +25,7 @@ impl Model for Tally {
 }
 
 impl Tally {
-    /// No cell, of a box of so many.
+    /// No cell, of a box of `count` cells.
     pub fn new(alloc: Global, count: u32) -> Result<Tally, AllocError>
         ensures none { IfOk result (λ t. t.items ≡ []) }
         ensures whole { IfOk result (λ t. length t.counts ≡ count) }
@@ -71,7 +71,7 @@ impl Tally {
         }
     }
 
-    /// Leaves the first so many cells.
+    /// Leaves the first `count` cells.
     pub fn cut(&mut self, count: usize)
         ensures items { self.new.items ≡ take count self.old.items }
         ensures whole { length self.new.counts ≡ length self.old.counts }

@@ -11,7 +11,7 @@ pub struct Coverage {
 }
 
 impl Coverage {
-    /// That of places which light these of so many cells.
+    /// The coverage of places that light these cells, out of `cells` cells.
     pub fn of(alloc: Global, lights: NumberLists, cells: usize) -> Result<Coverage, AllocError> {
         let lit_by = lights.turned(alloc, cells)?;
         Ok(Coverage { lights, lit_by })

@@ -6,7 +6,7 @@ use Rattle.piece_deque.specs.declared.dealt.Dealt.{Dealt}
 use Rattle.piece_deque.specs.Deals.{owner_pass}
 
 module _ {T A P : Type 0} where
-  -- nothing was pushed; it is first in, first out, and has room for so many pieces
+  -- nothing was pushed; it is first in, first out, and has room for `room` pieces
   pub record IsNew (room : ℕ) (owner : Worker T A Dealt P) : Type 0 where
     pub first_out : worker_flavor owner ≡ 0
     pub index : worker_index owner ≡ 0

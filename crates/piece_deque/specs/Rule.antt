@@ -54,7 +54,7 @@ pub record HeldPieces (pass : Dealt) (items : List Subproblem) : Type 0 where
 abbrev pub WasEmpty : Dealt → Type 0
 WasEmpty pass = HeldPieces pass []
 
--- at one moment so many pieces lay in the deque, and the pass was as it is
+-- at one moment `count` pieces lay in the deque, and the pass was as it is
 pub record HeldCount (pass : Dealt) (count : ℕ) : Type 0 where
   pub items : List Subproblem
   pub held : HeldPieces pass items

@@ -13,7 +13,7 @@ pub struct Workers {
 }
 
 impl Workers {
-    /// So many workers. None for no worker, or more than 64.
+    /// `number` workers. None for no worker, or more than 64.
     pub fn new(number: u32) -> Option<Workers>
         ensures { MatchOption result (IsFalse (is_crew number)) (λ workers. workers.number ≡ number) }
     {

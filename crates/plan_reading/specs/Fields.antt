@@ -37,7 +37,7 @@ pub record BeginsWithTorch (text : List ℕ) (torch : ToldTorch) (rest : List �
 abbrev pub HasNoTorch : List ℕ → Type 0
 HasNoTorch text = (torch : ToldTorch) → (rest : List ℕ) → ¬ BeginsWithTorch text torch rest
 
--- the text begins with the line of so many torches
+-- the text begins with the line of `count` torches
 pub record BeginsWithHead (text : List ℕ) (count : ℕ) (floor : Option ℕ) (rest : List ℕ) : Type 0 where
   pub small : IsSmall count
   pub floored : IfSome floor IsSmall
@@ -47,7 +47,7 @@ pub record BeginsWithHead (text : List ℕ) (count : ℕ) (floor : Option ℕ) (
 abbrev pub HasNoHead : List ℕ → Type 0
 HasNoHead text = (count : ℕ) → (floor : Option ℕ) → (rest : List ℕ) → ¬ BeginsWithHead text count floor rest
 
--- the text begins with the line of so many dark cells
+-- the text begins with the line of `dark` dark cells
 pub record BeginsWithDark (text : List ℕ) (dark : ℕ) (rest : List ℕ) : Type 0 where
   pub small : IsSmall dark
   pub is : text ≡ dark_line dark ++ 10 ∷ rest

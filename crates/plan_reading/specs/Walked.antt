@@ -38,7 +38,7 @@ pub record Walks (bytes : List ℕ) (opening : Opening) (taken : List ToldTorch)
   pub parts : bytes ≡ ended (opening_lines opening) ++ (ended (map torch_line taken) ++ rest)
   pub last : opening.corner ≡ None → taken ≡ [] → HasNoCorner rest
 
--- the bytes begin with so many lines, which tell so many torches, of which these were taken
+-- the bytes begin with `lines` lines, which tell `count` torches, of which these were taken
 pub record Took (bytes : List ℕ) (count lines : ℕ) (taken : List ToldTorch) (rest : List ℕ) : Type 0 where
   pub opening : Opening
   pub walks : Walks bytes opening taken rest

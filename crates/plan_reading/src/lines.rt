@@ -30,7 +30,7 @@ pub(crate) fn after_head(text: &[u8]) -> Option<(u32, &[u8])>
     }
 }
 
-/// What comes after the line of so many dark cells.
+/// What comes after the line that tells how many cells are dark.
 pub(crate) fn after_dark(text: &[u8]) -> Option<&[u8]>
     ensures { MatchOption result (HasNoDark text.now)
         (λ rest. (dark : ℕ) × BeginsWithDark text.now dark rest.now) }

@@ -37,7 +37,7 @@ fn open(text: &[u8]) -> Result<(u32, u64, &[u8]), u64>
     Ok((count, 2 + lines, rest))
 }
 
-/// So many torches from the lines that come next. The others are for the proof.
+/// `count` torches from the lines that come next, which stand behind `lines` lines of the text.
 fn take_torches(
     alloc: Global,
     _text: &[u8], // for the proof

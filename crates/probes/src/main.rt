@@ -1,7 +1,7 @@
 //! What scripts measure, and a run that the gate compares.
 //!
 //! `PART FILE [TIMES]`, where PART is `cave`, `light`, `reach`, `coverage` or `split`, prints what the part counts,
-//! after doing it so many times; `plan FILE TURNS [RULE]` plans each region alone and prints for each its cells, its
+//! after doing it TIMES times; `plan FILE TURNS [RULE]` plans each region alone and prints for each its cells, its
 //! places, the size of the plan (or the range in which it lies) and the lines of its tree.
 //! `whole FILE OUT RULE [TURNS]` plans the cave as the program does by one worker, writes the proof to OUT, and prints
 //! the turns that it took. `calls` makes each call that takes memory on the pillar from standard input.

@@ -28,7 +28,7 @@ impl Watcher for Counts {
     fn opened(&self, _sides: &OpenSides) {}
 }
 
-/// Plans the cave in the file under this version's rule, with so many turns a region or any number of them, writes the
+/// Plans the cave in the file under this version's rule, with `limit` turns a region or any number of them, writes the
 /// proof to `out`, and prints the first two lines of the plan, the regions, and the turns: of all regions together, and
 /// of that with the most.
 pub fn run(

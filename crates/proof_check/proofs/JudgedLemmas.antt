@@ -70,7 +70,7 @@ module _ (cave : Cave) (box : ℕ) (cells : List ℕ) (floor : ℕ) where
     frames = frames;
   }
 
-  -- the state where these groups are told and so many are to come of a weighted leaf on that line
+  -- the state where these groups of the weighted leaf on line `leaf_line` are told, and `to_come` are to come
   abbrev weighing_state : ℕ → Spot → Option ℕ → ℕ → ℕ → List Group → JudgeState
   weighing_state line spot weak leaf_line to_come groups = record (state line spot weak) {
     weighing = record { line = leaf_line; to_come = to_come; groups = groups };

@@ -41,7 +41,7 @@ known_all None new a P p e h = tt
 known_all (Some xs) None a P p e h = absurd p
 known_all (Some xs) (Some ys) a P p e h = subst P (sym (p ∙ ap (λ (l : List ℕ). a ++ l) e ∙ append-nil a)) h
 
--- ---- so many bytes were read, and there is room for so many
+-- ---- bytes that were read, and the room that is left
 
 pub record IsRead (old now : Option (List ℕ)) (limit room : ℕ) (bytes : List ℕ) : Type 0 where
   pub taken : Consumes old now bytes

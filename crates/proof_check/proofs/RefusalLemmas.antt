@@ -48,7 +48,7 @@ not_below a b e = grind (arith, nat_tests)
 one_more : (chosen : List ℕ) (place count : ℕ) → length chosen ≡ count → length (chosen ++ place ∷ []) ≡ count + 1
 one_more chosen place count n = length-append chosen (place ∷ []) ∙ ap (λ (m : ℕ). m + 1) n
 
--- where no leaf is too weak, the tree proves so much
+-- where no leaf is too weak, the tree proves the floor
 mutual
   -- a sound tree with no weak leaf proves the floor
   pub strong : (cave : Cave) (cells chosen barred : List ℕ) (floor count line : ℕ) (tree : Tree) → length chosen ≡ count

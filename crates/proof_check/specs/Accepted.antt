@@ -26,7 +26,7 @@ pub record AreDistinctPlaces (cave : Cave) (cells : List ℕ) : Type 0 where
 abbrev pub LeaveNoneDark : Cave → List ℕ → Type 0
 LeaveNoneDark cave places = (cell : ℕ) → IsDark cave cell → IsLitBy (of_cave cave) places cell
 
--- each tree proves so much of its region, with nothing chosen or barred
+-- each tree proves the floor of its section, with nothing chosen or barred
 abbrev pub AreProved : Cave → (Section → ℕ) → List Section → Type 0
 AreProved cave floor sections = All (λ section. Good (of_cave cave) section.cells [] []
     (floor section) section.tree) sections

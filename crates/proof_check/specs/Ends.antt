@@ -32,7 +32,7 @@ is_unparted home.Nowhere needed = needed
 is_unparted (home.Only i) needed = not needed
 is_unparted home.Several needed = true
 
--- it holds of no cell of a box of so many
+-- it holds of no cell of a box of `count` cells
 pub record IsNoneBelow (LineKind : ℕ → Type 0) (count : ℕ) : Type 0 where
   pub each : (cell : ℕ) → cell < count → ¬ LineKind cell
 
@@ -46,7 +46,7 @@ pub record IsFirstBelow (LineKind : ℕ → Type 0) (count cell : ℕ) : Type 0 
 abbrev pub IsFirst : (ℕ → Type 0) → ℕ → Option ℕ → Type 0
 IsFirst LineKind count result = MatchOption result (IsNoneBelow LineKind count) (IsFirstBelow LineKind count)
 
--- in a box of so many cells each dark one stands in just one list, and no other in any
+-- in a box of `count` cells each dark one stands in just one list, and no other in any
 pub record AreParted (lists : LitLists) (regions : Homes) (count : ℕ) : Type 0 where
   pub each : (cell : ℕ) → cell < count → is_unparted (home_of regions cell) (is_marked lists.dark cell) ≡ false
 

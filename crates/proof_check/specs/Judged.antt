@@ -128,7 +128,7 @@ pub data Judged : Type 0 where
   at : JudgeState → Judged
   stuck : ℕ → Judged
 
--- the state after a leaf of so many cells, at what comes after it; its line is the first weak one where none was before
+-- the state after a leaf of `count` cells, at what comes after it; its line is the first weak one where none was before
 -- and the cells and the chosen places are fewer than the size to prove
 abbrev pub after_leaf : JudgeState → ℕ → JudgeState
 after_leaf j count = record j {
@@ -175,7 +175,7 @@ GroupSteps cave group j new =
       weighing = record { line = j.weighing.line; to_come = more; groups = j.weighing.groups ++ group ∷ [] };
     })))
 
--- whether the cell is unlit and so many places may light it: the branch on these is entered, or its line is bad
+-- whether the cell is unlit and `count` places may light it: the branch on these is entered, or its line is bad
 abbrev pub BranchSteps : Cave → ℕ → ℕ → JudgeState → Judged → Type 0
 BranchSteps cave cell count j new =
     ((places : List ℕ) × IsBranching cave (left j) j.spot.chosen j.spot.barred cell places count

@@ -29,7 +29,7 @@ pub record IsWide (lists : LitLists) (nodes : NodeJudge) : Type 0 where
   pub matched : AreMatched lists (length lists.places)
   pub rooms : AreNoRooms (length lists.places) nodes.rooms
 
--- nothing is judged, in a box of so many cells
+-- nothing is judged, in a box of `count` cells
 pub record IsNew (count : ℕ) (nodes : NodeJudge) : Type 0 where
   pub region : length nodes.region.counts ≡ count
   pub seen : length nodes.seen.counts ≡ count
@@ -82,7 +82,7 @@ pub record JudgesLeaf (lists : LitLists) (these : List ℕ) (line : ℕ) (old ne
   pub each : (cave : Cave) (state : JudgeState) → AreListsOf cave lists → IsIn cave lists old state → line ≡ state.line
       → (next : Judged) × LeafSteps cave these state next × Keeps cave lists new next
 
--- from any state on this line the judge takes the step of a branch on this cell with so many kids
+-- from any state on this line the judge takes the step of a branch on this cell with `count` kids
 pub record JudgesBranch (lists : LitLists) (cell count line : ℕ) (old new : NodeJudge) : Type 0 where
   pub each : (cave : Cave) (state : JudgeState) → AreListsOf cave lists → IsIn cave lists old state → line ≡ state.line
       → (next : Judged) × BranchSteps cave cell count state next × Keeps cave lists new next
@@ -141,7 +141,7 @@ pub record BeginsRegion (cells : List ℕ) (old new : NodeJudge) : Type 0 where
   pub bad : new.bad ≡ old.bad
   pub weighing : new.weighing ≡ old.weighing
 
--- so many are to be proved, and no branch or pick is open; all else stays
+-- `count` places are to be proved, and no branch or pick is open; all else stays
 pub record Expects (count : ℕ) (old new : NodeJudge) : Type 0 where
   pub floor : new.floor ≡ count
   pub chosen : new.track.chosen.items ≡ []

@@ -7,7 +7,7 @@ use Rattle.proof_check.specs.declared.fault.CheckFault.{CheckFault}
 use Rattle.proof_check.specs.declared.fault.CheckFault.TheVariants as faults
 use Rattle.proof_check.specs.declared.verdict.Verdict.{Verdict}
 
--- how the check of a certificate of at most so many bytes ends, of what its reader had and has
+-- how the check of a certificate of at most `limit` bytes ends, of what its reader had and has
 pub record IsReadCheck (structure : List ℕ) (table : Option (List ℕ)) (rule : Rule) (known rest : Option (List ℕ))
     (limit : ℕ) (result : Result Verdict CheckFault) : Type 0 where
   -- what is answered is the verdict of what the reader had

@@ -4,11 +4,11 @@ use Rattle.std.specs.Io.KnownBytes.{Consumes, IsAtEnd, Keeps}
 use Rattle.proof_check.specs.declared.fault.CheckFault.{CheckFault}
 use Rattle.proof_check.specs.declared.fault.CheckFault.TheVariants as faults
 
--- known bytes lose a beginning of at most so many
+-- known bytes lose a beginning of at most `most` bytes
 abbrev pub GivesAtMost : ℕ → Option (List ℕ) → Option (List ℕ) → Type 0
 GivesAtMost most old new = (front : List ℕ) × (length front ≤ most) × Consumes old new front
 
--- a piece of so many bytes came, no more than there is room for; none comes at the end alone
+-- a piece of `count` bytes came, no more than there is room for; an empty one comes at the end alone
 pub record Gives (old new : Option (List ℕ)) (room : ℕ) (buffer : List ℕ) (count : ℕ) : Type 0 where
   pub within : count ≤ length buffer
   pub fits : count ≤ room

@@ -57,7 +57,7 @@ IsBadCell cave regions cell = (IsDark cave cell × ((¬ IsListed regions cell) �
 
 -- ---- nodes
 
--- the cell is unlit, and so many places may light it
+-- the cell is unlit, and `count` places may light it
 abbrev pub IsBranching : Cave → List ℕ → List ℕ → List ℕ → ℕ → List ℕ → ℕ → Type 0
 IsBranching cave cells chosen barred cell places count = IsUnlit (of_cave cave) cells chosen cell
     × AreOpen (of_cave cave) barred cell places × (length places ≡ count)
@@ -106,8 +106,8 @@ IsFirstBad cave (section ∷ sections) line bad =
     × IsFirstBad cave sections (line + 3 + node_count section.tree) bad)
 
 abbrev mutual
-  -- the line of the first leaf whose cells, or the places that its groups need, and so many chosen places are fewer
-  -- than the floor; of a weighted leaf the line before those of its groups
+  -- the line of the first leaf whose cells, or the places that its groups need, are together with the `chosen` places
+  -- fewer than the floor; of a weighted leaf the line before those of its groups
   pub weak_leaf : ℕ → ℕ → Tree → ℕ → Option ℕ
   weak_leaf floor chosen (leaf cells) line = if nat_lt (chosen + length cells) floor then Some line else None
   weak_leaf floor chosen (weighted groups) line =

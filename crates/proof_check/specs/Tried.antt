@@ -53,7 +53,7 @@ pub record Tried (cave : Cave) (bytes : List ℕ) (t : Trial) : Type 0 where
   pub holds : Holds bytes all t.pieces
   pub follows : Follows cave t all
 
--- with room for so many bytes more
+-- with room for `more` bytes
 pub record HasRoom (cave : Cave) (t : Trial) (more : ℕ) : Type 0 where
   pub bytes : List ℕ
   pub tried : Tried cave bytes t

@@ -39,7 +39,7 @@ fn has_torch(places: &[Cell], torches: &Homes) -> bool
     false
 }
 
-/// The first torch of a box of so many cells that is at no place, or is listed twice.
+/// The first torch of a box of `count` cells that is at no place, or is listed twice.
 pub fn first_misplaced(lists: &Lists, torches: &Homes, count: Cell) -> Option<Cell>
     ensures { ends.IsFirst (ends.IsMisplaced lists.now.places torches.now) count result }
 {
@@ -61,7 +61,7 @@ fn is_unlit(lists: &Lists, torches: &Homes, cell: Cell) -> bool
     !has_torch(lists.lit_by(cell), torches)
 }
 
-/// The first dark cell of a box of so many that no listed place lights.
+/// The first dark cell of a box of `count` cells that no listed place lights.
 pub fn first_unlit(lists: &Lists, torches: &Homes, count: Cell) -> Option<Cell>
     ensures { ends.IsFirst (ends.IsUnlitBy lists.now torches.now) count result }
 {

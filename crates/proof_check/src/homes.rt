@@ -34,7 +34,7 @@ impl Model for Homes {
 }
 
 impl Homes {
-    /// No list, in a box of so many cells.
+    /// No list, in a box of `count` cells.
     pub fn new(alloc: Global, count: u32) -> Result<Homes, AllocError>
         ensures none { IfOk result (AreHomesOf []) }
         ensures whole { IfOk result (λ h. length h.homes ≡ count) }

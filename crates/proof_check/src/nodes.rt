@@ -42,7 +42,7 @@ pub struct NodeJudge {
 }
 
 impl NodeJudge {
-    /// Nothing judged, in a box of so many cells.
+    /// Nothing judged, in a box of `count` cells.
     pub fn new(alloc: Global, count: u32) -> Result<NodeJudge, AllocError>
         ensures { IfOk result (IsNew count) }
     {
@@ -71,7 +71,7 @@ impl NodeJudge {
         })
     }
 
-    /// Whether a leaf with so many cells proves less than the region's tree is to.
+    /// Whether a leaf with `count` cells proves less than the region's tree is to.
     fn is_weak(&self, count: usize) -> bool
         ensures { result ≡ nat_lt (length self.now.track.chosen.items + count) self.now.floor }
     {
@@ -141,7 +141,7 @@ impl NodeJudge {
         Ok(())
     }
 
-    /// A branch on the cell, with so many kids.
+    /// A branch on the cell, with `count` kids.
     pub fn branch(
         &mut self,
         lists: &Lists,
@@ -222,7 +222,7 @@ impl NodeJudge {
         Ok(())
     }
 
-    /// Its torches: so many is its tree to prove.
+    /// The region has `count` torches: its tree is to prove that it needs as many.
     pub fn expect(&mut self, count: usize)
         ensures { Expects count self.old self.new }
     {

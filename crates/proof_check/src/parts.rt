@@ -21,7 +21,7 @@ fn is_unparted(home: Home, needed: bool) -> bool
     }
 }
 
-/// Whether in a box of so many cells each dark one is in just one list, and no other is in any.
+/// Whether in a box of `count` cells each dark one is in just one list, and no other is in any.
 fn are_parted(lists: &Lists, regions: &Homes, count: Cell) -> bool
     ensures { IsTrue result ↔ ends.AreParted lists.now regions.now count }
 {

@@ -12,13 +12,14 @@ use cave_model::World;
 use std::alloc::Global;
 use std::io::Read;
 
-/// Reading an input ends after so many calls of its reader (this project's own).
+/// After this number of calls of its reader the reading of an input ends (this project's own).
 pub const READ_CALLS: u32 = 134_217_728;
 
 /// How many bytes are asked for at once (this project's own).
 pub const READ_SIZE: usize = 8192;
 
-/// The next piece of what the reader has left: so many bytes of the buffer, none at the end. There is room for so many.
+/// The next piece of what the reader has left: how many bytes of the buffer it fills, none at the end. No more than
+/// `room` bytes may come.
 fn read_piece<C: Read>(reader: &mut C, buffer: &mut [u8], room: u64) -> Result<usize, CheckFault>
     requires some { 0 < length buffer.old }
     ensures { MatchResult result (Gives (C.remaining reader.old) (C.remaining reader.new) room buffer.new)

@@ -5,7 +5,7 @@ use std::fmt;
 /// What is said of a certificate.
 #[derive(Clone, Copy, Debug, PartialEq, Eq)]
 pub enum Verdict {
-    /// It proves that so many torches are the fewest.
+    /// It proves that its torches, whose number this is, are the fewest.
     Accepted { torches: u64 },
     Rejected(Reason),
 }

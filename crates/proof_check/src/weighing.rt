@@ -18,7 +18,7 @@ pub struct Weighing {
 }
 
 impl Weighing {
-    /// A weighted leaf on this line with so many groups, none of them told.
+    /// A weighted leaf on this line with `to_come` groups, none of them told.
     pub fn new(alloc: Global, line: u64, to_come: u32) -> Weighing
         ensures line { result.line ≡ line }
         ensures to_come { result.to_come ≡ to_come }

@@ -14,7 +14,7 @@ use Rattle.proof_rules.specs.Good.{AreLitShares}
 use Rattle.proof_rules.proofs.ListLemmas.{no_member, cons_cases, later, here, distinct_nil, distinct_cons}
 use Rattle.proof_rules.proofs.ListLemmas.{distinct_tail, distinct_head}
 
--- so many places that take so much each are enough for a weight of no more than that
+-- `count` places of this capacity are enough for a weight of at most `count * capacity`
 pub ceil_at_most : (weight capacity count : ℕ) → 0 < capacity → weight ≤ count * capacity
     → div_ceil weight capacity ≤ count
 ceil_at_most weight capacity count some le =
@@ -126,7 +126,7 @@ module _ (coverage : Coverage) (shares : List Share) where
           | inr h ↦ (t.0, x ∷ t.1, rest_more x xs t.0 t.1 first once (by.0, h, by.2) t.2)
         ]
 
-  -- what so many places light weighs no more than so often what one may light
+  -- what some places light weighs at most their number times the capacity, which is the most that one may light
   pub weighs_at_most : (capacity : ℕ) (places : List ℕ)
       → ((place : ℕ) → Contains places place → (some : List Share) → AreLitShares coverage place shares some
       → weight_of some ≤ capacity)

@@ -56,19 +56,19 @@ torches_of sections = all_cells (torch_lists sections)
 
 -- ---- ranges
 
--- ascending cells of a box of so many
+-- ascending cells of a box of `count` cells
 pub record AreListed (count : ℕ) (cells : List ℕ) : Type 0 where
   pub ascending : IsStrictlyIncreasing cells
   pub below : All (λ cell. cell < count) cells
 
--- groups of cells of a box of so many, in their one form
+-- groups of cells of a box of `count` cells, in their one form
 pub record AreGroupsIn (count : ℕ) (groups : List Group) : Type 0 where
   pub groups_are : AreGroups groups
   pub below : All (λ cell. cell < count) (all_cells_of groups)
 
 abbrev mutual
-  -- all its numbers are cells of a box of so many, those of a leaf and those left out ascend, and no branch has more
-  -- kids than that
+  -- all its numbers are cells of a box of `count` cells, those of a leaf and those left out ascend, and no branch has
+  -- more than `count` kids
   pub IsTreeIn : ℕ → Tree → Type 0
   IsTreeIn count (leaf cells) = AreListed count cells
   IsTreeIn count (weighted groups) = AreGroupsIn count groups
@@ -103,7 +103,7 @@ pub record IsVersionOf (sections : List Section) (version : Version) : Type 0 wh
   pub known : All (λ section. IsKnownTo (version_number version) section.tree) sections
   pub needed : (need_of version ≡ 1) ⊎ (need_of version ≡ 8)
 
--- ascending cells and ascending torches of a box of so many cells, some of each, and a tree in it
+-- ascending cells and ascending torches of a box of `count` cells, some of each, and a tree in it
 pub record IsSectionIn (count : ℕ) (section : Section) : Type 0 where
   pub dark : AreListed count section.cells
   pub filled : 0 < length section.cells

@@ -13,7 +13,7 @@ pub fn good_bounds()
         → IsCoverOfPiece (of_cave cave) cells chosen barred places → floor ≤ length places }
 {}
 
-/// A tree that proves so many proves each smaller number.
+/// A tree that proves `floor` proves each smaller number.
 pub fn good_at_less()
     ensures { (cave : Cave) → (cells chosen barred : List ℕ) → (tree : Tree) → (less floor : ℕ) → less ≤ floor
         → Good (of_cave cave) cells chosen barred floor tree → Good (of_cave cave) cells chosen barred less tree }

@@ -7,7 +7,7 @@ use crate::piece::Piece;
 use crate::proof::Proof;
 use std::marker::Model;
 
-/// A piece with a tree which proves that each of its covers has at least so many places.
+/// A piece with a tree which proves that each of its covers has at least `floor` places.
 #[derive(Drop)]
 pub struct Closed {
     piece: Piece,

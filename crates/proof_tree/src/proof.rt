@@ -20,7 +20,7 @@ pub struct Kids {
     items: Vec<Proof>,
 }
 
-/// Why each cover of a piece has at least so many places.
+/// Why each cover of a piece has at least a given number of places.
 #[cycle(proof)]
 #[derive(Drop)]
 pub enum Proof {

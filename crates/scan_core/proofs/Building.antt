@@ -184,7 +184,7 @@ build_entry size states i t e =
       (place.2, index.2),
     )
 
--- what f gives from one number on, for so many
+-- the first n values of f, from one number on
 unfoldable pub table : {X : Type 0} → (ℕ → X) → ℕ → ℕ → List X
 table f from zero = []
 table f from (suc n) = f from ∷ table f (suc from) n

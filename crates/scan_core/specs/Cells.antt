@@ -10,7 +10,7 @@ pub record IsPointOf (found : Option Nbt) (size at : Point) : Type 0 where
   pub placed : found ≡ Some (point_value at)
   pub inside : IsTrue (is_within size at)
 
--- an index that was found, which is one of so many states
+-- an index that was found, which is one of `states` states
 pub record IsIndexOf (found : Option Nbt) (states index : ℕ) : Type 0 where
   pub indexed : found ≡ Some (leaf (values.int (pos index)))
   pub known : index < states

@@ -52,7 +52,7 @@ abbrev pub pos_fault : Point → ℕ → Option Nbt → Option ScanFault
 pos_fault size index found = on_field found (Some (faults.Missing (PosField index)))
     (on_triple (Some (faults.WrongType (PosField index))) (place_fault size index))
 
--- the index of an entry of the blocks: one of so many states
+-- the index of an entry of the blocks: one of `states` states
 abbrev pub index_fault : ℕ → ℕ → ℤ → Option ScanFault
 index_fault states index (pos n) = if nat_lt n states then None else Some (faults.BadState index)
 index_fault states index (negsuc n) = Some (faults.BadState index)
@@ -67,7 +67,7 @@ abbrev pub entry_faults : Point → ℕ → ℕ → Nbt → List (Option ScanFau
 entry_faults size states index entry = pos_fault size index (field (codes "pos") entry)
     ∷ state_fault states index (field (codes "state") entry) ∷ []
 
--- the blocks of a box of this size, over so many states
+-- the blocks of a box of this size, over `states` states
 abbrev pub blocks_fault : Point → ℕ → Option Nbt → Option ScanFault
 blocks_fault size states found = list_fault BlocksField (entry_faults size states) found
 

@@ -15,8 +15,7 @@ use cave_base::{Cell, is_within, number};
 use nbt_core::{ItemsView, View};
 use std::alloc::Global;
 
-/// For each cell of a box of this size the state that the root's blocks tell: an index into so many
-/// states, or none.
+/// For each cell of a box of this size the state that the root's blocks tell: an index below `states`, or none.
 pub fn cells_of(
     alloc: Global,
     found: Option<View<'_>>,
@@ -117,7 +116,7 @@ fn place_of(size: [u32; 3], index: usize, found: Option<View<'_>>) -> Result<[u3
     }
 }
 
-/// The index into so many states of the entry with this index.
+/// The state of the entry with this index: an index below `states`.
 fn index_of(states: usize, index: usize, found: Option<View<'_>>) -> Result<u32, ScanFault>
     ensures { let told = found.entry in
         TellsOrFaults result (λ state. IsIndexOf told states state) (state_fault states index told) }

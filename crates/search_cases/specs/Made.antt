@@ -2,7 +2,7 @@
 use Rattle.std.specs.Prelude.{◌≡◌, ℕ, ◌+◌, ◌*◌, ◌<◌, List, length, slice_index, slice_range}
 use Rattle.set_cover.specs.Bits.{Has, HasNoneFrom}
 
--- 0, 1 and so on, so many
+-- the numbers below `count`, in order
 pub record CountsUp (count : ℕ) (numbers : List ℕ) : Type 0 where
   pub long : length numbers ≡ count
   pub each : (k : ℕ) → k < count → slice_index numbers k ≡ k
@@ -20,7 +20,7 @@ pub record IsRowFor (count : ℕ) (row : List ℕ) : Type 0 where
 abbrev pub IsLitIn : ℕ → ℕ → List ℕ → ℕ → Type 0
 IsLitIn places width words bit = (place : ℕ) × (place < places) × Has (made_row width words place) bit
 
--- the rows of so many places over some cells: each has some bit and none past the cells, and each cell is lit
+-- the rows of `places` places over `count` cells: each has some bit and none past the cells, and each cell is lit
 pub record AreRows (count places width : ℕ) (words : List ℕ) : Type 0 where
   pub filled : 0 < count
   pub each : (place : ℕ) → place < places → IsRowFor count (made_row width words place)

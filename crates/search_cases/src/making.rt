@@ -10,7 +10,7 @@ use std::alloc::{AllocError, Global};
 /// No region made here has more cells or places.
 const MOST: usize = 1000;
 
-/// The region of so many cells, numbered from 0, in which each place lights these two; none where that is no region:
+/// The region of `count` cells, numbered from 0, in which each place lights these two; none where that is no region:
 /// where a number is no cell, where no place lights some cell, or where there are too many.
 pub fn made(alloc: Global, count: usize, rows: &[[u32; 2]]) -> Result<Option<Region>, AllocError> {
     if count > MOST || rows.len() > MOST {
@@ -27,7 +27,7 @@ pub fn made(alloc: Global, count: usize, rows: &[[u32; 2]]) -> Result<Option<Reg
     Ok(Some(region))
 }
 
-/// The numbers from 0, so many.
+/// The numbers below `count`, in order.
 fn numbers(alloc: Global, count: usize) -> Result<Vec<u32>, AllocError>
     requires { count ≤ 1000 }
     ensures { IfOk result (λ numbers. CountsUp count numbers.items) }
@@ -39,7 +39,7 @@ fn numbers(alloc: Global, count: usize) -> Result<Vec<u32>, AllocError>
     Ok(numbers)
 }
 
-/// Rows of so many words, with a bit for each cell that a place lights.
+/// Rows of `width` words, with a bit for each cell that a place lights.
 fn words_of(alloc: Global, width: usize, rows: &[[u32; 2]]) -> Result<Vec<u64>, AllocError>
     requires narrow { width ≤ 1000 }
     requires few { length rows.now ≤ 1000 }

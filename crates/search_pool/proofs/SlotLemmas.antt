@@ -55,7 +55,7 @@ pub numbers_push : (owned : List Owned) (own : Owned)
 numbers_push [] own = refl
 numbers_push (one ∷ owned) own = ap (one.worker ∷◌) (numbers_push owned own)
 
--- so many numbers in order
+-- there are `count` numbers from `first` on
 length-numbers : (first count : ℕ) → length (numbers_from first count) ≡ count
 length-numbers first zero = refl
 length-numbers first (suc count) = omega (arith, length-numbers (first + 1) count)

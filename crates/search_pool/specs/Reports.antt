@@ -37,8 +37,8 @@ pub record AreNumbersOf (region : Instance) (works : List Worked) (left : List S
   pub left_over : report.left ≡ length left
   pub gleaned : report.gleaned + length (all_kept works) ≡ length names
 
--- the report of what was gathered, where workers handed over these counts of pieces, left so many, and were granted
--- this number of turns
+-- the report of what was gathered, where workers handed over these counts of pieces, left `left` pieces, and were
+-- granted `granted` turns
 pub record TellsOf (gathered : Gathered) (counts : PieceCounts) (left granted : ℕ) (report : Report) : Type 0 where
   pub cover : report.cover ≡ gathered.cover
   pub tree : tree_of report.proof ≡ tree_of gathered.proof

@@ -7,7 +7,7 @@ use Rattle.schedule_law.specs.Joined.{AreJoined}
 use Rattle.search_traits.specs.Turns.{IsWithin}
 use Rattle.search_pool.specs.declared.pool.Ran.{Ran}
 
--- the joined results of so many workers, whose floors reach this size or that of a smaller cover
+-- the joined results of `workers` workers, whose floors reach the goal or the size of a smaller cover
 pub record IsRun (region : Instance) (goal workers : ℕ) (works : List Worked) (left : List Subproblem)
     : Type 0 where
   pub joined : AreJoined region goal works left

@@ -2,7 +2,7 @@
 use Rattle.std.specs.Prelude.{◌≡◌, ℕ, ◌+◌, true}
 use Rattle.beacon.specs.Marks.{Seated}
 
--- so many seats were split off, and it has told what it had
+-- `count` seats were split off, and the first one has told what it had
 pub record SplitsOff (old : Seated) (count : ℕ) (new : Seated) : Type 0 where
   pub same : new.beacon ≡ old.beacon
   pub chief : new.knows.first ≡ true

@@ -15,7 +15,7 @@ use Rattle.worker_results.specs.Passes.{KnownPass, Owned}
 abbrev pub Owner : Type 0
 Owner = Worker Subproblem Global Dealt EachOnce
 
--- the owner's pass when these pieces were pushed, none was taken and so many passes are out
+-- the owner's pass when these pieces were pushed, none was taken and `out` passes are out
 abbrev pub ready : List Subproblem → ℕ → Dealt
 ready pushed out = record { first = true; spent = false; out = out; pushed = pushed; taken = [] }
 

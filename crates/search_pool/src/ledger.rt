@@ -29,7 +29,7 @@ pub(crate) struct Ledger {
 }
 
 impl Ledger {
-    /// One piece is open, and so many turns may be taken, or any number.
+    /// One piece is open, and `limit` turns may be taken, or any number.
     pub(crate) fn new(limit: Option<u64>) -> Ledger {
         Ledger {
             entries: Mutex::new(Entries {
@@ -73,7 +73,7 @@ impl Ledger {
         true
     }
 
-    /// A piece was closed, or opened with so many kids.
+    /// A piece was closed, or opened with `kids` kids.
     pub(crate) fn end_piece<R: Wait>(&self, rt: &R, kids: usize) {
         let mut entries = self.entries.lock(rt);
         entries.open = entries.open.saturating_add(kids as u64).saturating_sub(1);
@@ -89,7 +89,7 @@ impl Ledger {
         self.changed.notify_all();
     }
 
-    /// A worker leaves with so many pieces, which nobody works on any more.
+    /// A worker leaves with `pieces` pieces, which nobody works on any more.
     pub(crate) fn leave<R: Wait>(&self, rt: &R, pieces: usize) {
         let mut entries = self.entries.lock(rt);
         entries.open = entries.open.saturating_sub(pieces as u64);

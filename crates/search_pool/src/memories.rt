@@ -4,7 +4,7 @@ use proof_tree::Name;
 use std::alloc::{AllocError, Global};
 use std::sync::{Arc, Mutex, Wait};
 
-/// What is remembered of the piece of this name, for so many kids that are yet to come.
+/// What is remembered of the piece of this name, for those of its kids that are yet to come.
 #[derive(Drop)]
 struct Entry<M> {
     name: Vec<u32>,
@@ -28,7 +28,7 @@ impl<M: Drop> Memories<M> {
         }
     }
 
-    /// Keeps what is remembered of the piece of this name, for so many kids.
+    /// Keeps what is remembered of the piece of this name, for its `kids` kids.
     pub(crate) fn keep<R: Wait>(
         &self,
         rt: &R,

@@ -99,7 +99,7 @@ where
     Ok(Ran { joined, turns })
 }
 
-/// So many turns, and no more than there are.
+/// The turns that were taken, and no more than there are.
 fn within(turns: Option<u64>, taken: u64) -> u64
     ensures within { IsWithin turns result }
     ensures fits { IfSome turns (λ limit. limit < 2 ^ 64) }

@@ -6,8 +6,8 @@ use Rattle.search_traits.specs.Turns.{IsShareSpent}
 use Rattle.search_traits.specs.declared.region_fault.RegionFault.{RegionFault}
 use Rattle.search_traits.specs.declared.region_fault.RegionFault.TheVariants as region
 
--- what so many workers tell where they have no plan: turns are spent where the share of one of them is, and threads are
--- wanted only by more than one
+-- what `workers` workers tell where they have no plan: turns are spent where the share of one of them is, and threads
+-- are wanted only by more than one
 abbrev pub StopsRegion : ℕ → Instance → Option ℕ → RegionFault → Type 0
 StopsRegion workers instance turns (region.Stopped cover floor granted) =
     IsStopped instance turns cover floor × IsShareSpent workers turns granted

@@ -48,7 +48,7 @@ impl Model for AloneDesk {
 }
 
 impl AloneDesk {
-    /// A desk that begins with a cover, and grants so many turns, or any number of them.
+    /// A desk that begins with a cover, and grants `turns` turns, or any number of them.
     pub fn new(cover: Cover, turns: Option<u64>) -> AloneDesk
         ensures cover { result.cover ≡ cover }
         ensures turns { (result.limit ≡ turns) × (result.granted ≡ 0) }

@@ -16,7 +16,7 @@ pub trait RoundDesk: Desk {
     fn left(&self) -> Option<u64>
         ensures { result ≡ rest (Self.state self.now).limit (Self.state self.now).granted };
 
-    /// Counts so many turns as granted, as far as they are left.
+    /// Counts `turns` turns as granted, as far as they are left.
     fn count(&mut self, turns: u64)
         ensures counted { (Self.state self.new).granted
             ≡ counted_on (Self.state self.old).limit (Self.state self.old).granted turns }

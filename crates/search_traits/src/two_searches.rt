@@ -12,7 +12,7 @@ use crate::region_fault::{RegionFault, RegionPlan};
 use instance_regions::{Cover, Region};
 use std::sync::Arc;
 
-/// The first turns, no more than the most, of so many or of any number.
+/// The first turns, at most `most`, of a limit or of any number.
 pub fn first_of(turns: Option<u64>, most: u64) -> u64
     ensures within { IsWithin turns result }
     ensures first { lesser turns most ≡ Some result }
@@ -23,7 +23,7 @@ pub fn first_of(turns: Option<u64>, most: u64) -> u64
     }
 }
 
-/// The turns that are left of so many, or any number of them.
+/// The turns that are left of a limit, or any number of them.
 pub fn rest_of(turns: Option<u64>, granted: u64) -> Option<u64>
     requires { IsWithin turns granted }
     ensures { result ≡ rest turns granted }
@@ -64,7 +64,7 @@ fn sum_of(turns: Option<u64>, granted: u64, later: u64, _workers: u32) -> u64
     }
 }
 
-/// A plan with the turns that are left, as one with all turns: so many were granted before.
+/// A plan with the turns that are left, as one with all turns: `granted` turns were granted before.
 pub fn with_earlier(
     _region: &Arc<Region>, // for the proof
     workers: u32,

@@ -36,7 +36,7 @@ pub list_at : (lists : List (Vec ℕ)) (key : ℕ) (d : Vec ℕ) (old : List (Li
 list_at lists key d old e h = sym (get_or-map (λ (v : Vec ℕ). v.items) lists key d [] h)
     ∙ ap (λ (l : List (List ℕ)). get_or l key []) e
 
--- so many empty lists
+-- `count` empty lists
 pub record AreEmptyLists (count : ℕ) (lists : List (Vec ℕ)) : Type 0 where
   pub counted : length lists ≡ count
   pub empty : (k : ℕ) (d : Vec ℕ) → k < length lists → (get_or lists k d).items ≡ []
@@ -53,7 +53,7 @@ empty_push count lists v s e = record {
   ]);
 }
 
--- so many empty lists are groups with nothing in them
+-- `count` empty lists are groups with nothing in them
 pub all_none : (count : ℕ) (lists : List (Vec ℕ)) → AreEmptyLists count lists → AreNone count (map (λ v. v.items) lists)
 all_none count lists s = record {
   whole = length-map lists (λ (v : Vec ℕ). v.items) ∙ s.counted;

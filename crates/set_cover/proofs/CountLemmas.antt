@@ -86,7 +86,7 @@ of_word (suc size) word base le = elim (cases_eq word 0) [
 
 -- ---- word by word
 
--- the bits of the first so many words, each once
+-- the bits of the first `index` words, each once, and their sum
 pub record Counting (word : ℕ → ℕ) (index total : ℕ) : Type 0 where
   pub bits : List ℕ
   pub once : AllPairs (λ a b. a ≢ b) bits

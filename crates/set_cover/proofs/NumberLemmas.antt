@@ -5,7 +5,7 @@ use Rattle.std.specs.List.Sorted.{IsStrictlyIncreasing}
 use Rattle.std.proofs.lemmas.Bool.{cases_lt, cases_eq}
 use Rattle.set_cover.proofs.OrderLemmas.{rises, element_of}
 
--- the first so many cells have got theirs
+-- the first `count` cells have got their indices
 pub record Numbering (old cells : List ℕ) (count : ℕ) (new : List ℕ) : Type 0 where
   pub whole : length new ≡ length old
   pub listed : (index : ℕ) → index < count → slice_index new (slice_index cells index) ≡ index

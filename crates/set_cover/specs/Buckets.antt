@@ -6,7 +6,7 @@ use Rattle.cave_model.specs.Listing.{ListsAll}
 abbrev pub bucket : List (List ℕ) → ℕ → List ℕ
 bucket buckets key = slice_index_or buckets key []
 
--- so many empty lists
+-- `count` empty lists
 pub record AreNone (count : ℕ) (buckets : List (List ℕ)) : Type 0 where
   pub whole : length buckets ≡ count
   pub none : (key : ℕ) → bucket buckets key ≡ []

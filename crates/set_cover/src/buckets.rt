@@ -20,7 +20,7 @@ impl Model for Buckets {
 }
 
 impl Buckets {
-    /// An empty list for each of so many keys.
+    /// An empty list for each of `count` keys.
     pub fn new(alloc: Global, count: usize) -> Result<Buckets, AllocError>
         ensures { IfOk result (AreNone count) }
     {

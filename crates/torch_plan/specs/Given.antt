@@ -2,6 +2,6 @@
 use Rattle.std.specs.Prelude.{ℕ, Option}
 use Rattle.search_traits.specs.declared.planner.Allowance.{Allowance}
 
--- so many workers, and so many turns a region or any number of them
+-- what is allowed: `workers` workers, and `turns` turns a region or any number of them
 abbrev pub given : ℕ → Option ℕ → Allowance
 given workers turns = record { workers = workers; turns = turns }

@@ -17,7 +17,7 @@ use Rattle.weight_judge.specs.declared.claims.Claim.{Claim}
 use Rattle.weight_judge.specs.Held.{places_at, AreAllOpen}
 use Rattle.tree_judges.specs.Weighted.{AreOpenLists}
 
--- the lists of the first so many claims
+-- the lists of the first `count` claims
 pub record AreListsTo (region : Instance) (state : NodeState) (claims : List Claim) (count : ℕ) (lists : List (List ℕ))
     : Type 0 where
   pub whole : length lists ≡ count

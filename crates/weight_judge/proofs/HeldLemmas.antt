@@ -123,7 +123,7 @@ kept_front xs ys k = record {
   );
 }
 
--- one claim more takes so much of the room
+-- one claim more takes its weight from the room
 room_takes : (xs : List Claim) (c : Claim) (old : Option Room) (new : Room)
     → ((a : Claim) → Contains xs a → a.group ≡ c.group → a.capacity ≡ c.capacity)
     → IsRoomOf xs old → Takes c old new → HasRoom (xs ++ c ∷ []) new

@@ -9,7 +9,7 @@ use Rattle.weight_judge.specs.Held.{held, weight_claimed}
 abbrev pub room_at : List (Option Room) → ℕ → Option Room
 room_at rooms place = slice_index_or rooms place None
 
--- so many places, none of which lights a cell
+-- `count` places, none of which lights a cell
 pub record AreNoRooms (count : ℕ) (rooms : List (Option Room)) : Type 0 where
   pub whole : length rooms ≡ count
   pub none : (place : ℕ) → room_at rooms place ≡ None

@@ -27,7 +27,7 @@ pub fn keep_capacities(
     Ok(kept)
 }
 
-/// Takes all claims from rooms of which none lights a cell, if they have so much.
+/// Takes all claims from rooms of which none lights a cell, if each room has enough left.
 fn take_all(rooms: &mut Rooms, claims: &[Claim], lists: &PlaceLists) -> bool
     requires claims { AreClaims claims.now }
     requires lists { AreListsBelow (length rooms.old) lists.now }

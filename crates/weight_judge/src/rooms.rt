@@ -74,7 +74,7 @@ impl Model for Rooms {
 }
 
 impl Rooms {
-    /// So many places that light no cell.
+    /// `count` places that light no cell.
     pub fn new(alloc: Global, count: usize) -> Result<Rooms, AllocError>
         ensures { IfOk result (AreNoRooms count) }
     {
@@ -82,7 +82,7 @@ impl Rooms {
         Ok(Rooms { rooms })
     }
 
-    /// Takes the claim's weight from the room of a place, if that has so much.
+    /// Takes the claim's weight from the room of a place, if enough is left in it.
     pub fn take(&mut self, place: u32, claim: Claim) -> bool
         requires inside { place < length self.old }
         ensures { MatchBool result (IsTaken place claim self.old self.new)
@@ -106,7 +106,7 @@ impl Rooms {
     }
 }
 
-/// Takes the claim's weight from the rooms of the places that light its cell, if all have so much.
+/// Takes the claim's weight from the rooms of the places that light its cell, if enough is left in all.
 pub fn take_places(rooms: &mut Rooms, places: &[u32], claim: Claim) -> bool
     requires inside { All (λ place. place < length rooms.old) places.now }
     requires once { AreDistinct places.now }

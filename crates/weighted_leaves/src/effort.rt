@@ -27,7 +27,7 @@ pub(crate) struct Effort {
 }
 
 impl Effort {
-    /// That at the first node before a cover is sought.
+    /// The effort at the first node, before a cover is sought.
     pub(crate) fn before_covers() -> Effort {
         Effort {
             runs: RUNS_BEFORE_COVERS,
@@ -35,8 +35,8 @@ impl Effort {
         }
     }
 
-    /// That at a node where so many came before it. A search that may pick is long below its first node, and one that
-    /// is part of a longer one is so from there on.
+    /// The effort at a node that `nodes` nodes came before. A search that may pick is long below its first node, and
+    /// one that is part of a longer one from its first node on.
     pub(crate) fn at(sought: Sought, nodes: u64) -> Effort {
         if sought.depth == 0 && !sought.is_part {
             return Effort {

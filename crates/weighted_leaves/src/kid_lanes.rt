@@ -1,4 +1,4 @@
-//! The kids of a branch in lanes: each is run until all is known of it, or for so many runs. Then the next kid takes
+//! The kids of a branch in lanes: each is run until all is known of it, or for `KID_RUNS` runs. Then the next kid takes
 //! its lane, so that lanes stand idle only at the end.
 
 use crate::kid_bounds::KidBounds;

@@ -36,7 +36,7 @@ fn word_behind<'a>(line: &'a str, word: &str) -> &'a str {
     ""
 }
 
-/// The command of a line, by so many workers where they are named.
+/// The command of a line, by `workers` workers where a number is named.
 pub fn command_of<'a>(
     alloc: Global,
     line: &'a str,

@@ -23,7 +23,7 @@ fn differs(alloc: Global, what: &str, due: &str, came: &str) -> Difference {
     Ok(Some(format!(in alloc; "{what}: `{due}` was due, `{came}` came")?))
 }
 
-/// The line that is due: `{n}` is the number of the series, `{29n}` so often that number.
+/// The line that is due: `{n}` is the number of the series, `{29n}` 29 times that number.
 fn filled(alloc: Global, line: &str, number: usize) -> Result<String, AllocError> {
     let Some((front, rest)) = line.split_once('{') else {
         return String::from_str(alloc, line);
@@ -146,7 +146,7 @@ fn made_otherwise(alloc: Global, due: &Due<'_>, came: &Option<Vec<u8>>) -> Diffe
     }
 }
 
-/// Of the torches: so many lines `T` stand behind the first two lines, and nowhere else.
+/// Of the torches: `due` lines `T` stand behind the first two lines, and nowhere else.
 fn torches_otherwise(alloc: Global, due: Option<usize>, text: &[u8]) -> Difference {
     let Some(torches) = due else {
         return Ok(None);

@@ -7,7 +7,7 @@ use std::alloc::Global;
 use std::io::{self, Read};
 use torch_plan::{RunFault, System};
 
-/// A file that gives so many bytes a call at most, and of whose bytes nothing is known to contracts, as of those of a
+/// A file that gives at most `step` bytes a call, and of whose bytes nothing is known to contracts, as of those of a
 /// host.
 #[derive(Drop)]
 pub struct MemoryFile<'a> {

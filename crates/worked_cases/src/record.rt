@@ -33,7 +33,7 @@ impl Record {
         self.told.set(told);
     }
 
-    /// Standard output, which takes so many bytes a call at most.
+    /// Standard output, which takes at most `step` bytes a call.
     pub fn output(&self, step: usize) -> Kept<'_> {
         Kept {
             alloc: self.alloc,
@@ -42,7 +42,7 @@ impl Record {
         }
     }
 
-    /// A file is made, or emptied. It takes so many bytes a call at most.
+    /// A file is made, or emptied. It takes at most `step` bytes a call.
     pub fn make(&self, step: usize) -> Kept<'_> {
         self.is_made.set(true);
         self.made.set(Vec::new(self.alloc));

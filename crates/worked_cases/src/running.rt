@@ -33,7 +33,7 @@ struct Place<'a> {
     number: usize,
 }
 
-/// What comes of a command over these files, where so many bytes are read and written at a time.
+/// What comes of a command over these files, where `step` bytes are read and written at a time.
 fn came_of<X: Threads + Wait + Sync>(
     rt: &X,
     alloc: Global,
@@ -66,7 +66,7 @@ fn came_of<X: Threads + Wait + Sync>(
     })
 }
 
-/// Checks the proof of a plan of so many torches: what came where it isn't accepted at that number.
+/// Checks the proof of a plan of `torches` torches: what came where it isn't accepted at that number.
 fn accepted_otherwise<X: Threads + Wait + Sync>(
     rt: &X,
     place: Place<'_>,
@@ -91,7 +91,7 @@ fn accepted_otherwise<X: Threads + Wait + Sync>(
     Ok(Some(format!(in alloc; "check: accepted {torches} was due, status {status} came")?))
 }
 
-/// Runs a command of the case, so many bytes at a time: what came otherwise than it is due.
+/// Runs a command of the case, `step` bytes at a time: what came otherwise than it is due.
 fn run_once<X: Threads + Wait + Sync>(
     rt: &X,
     place: Place<'_>,
@@ -124,7 +124,7 @@ fn run_each_step<X: Threads + Wait + Sync>(
     Ok(None)
 }
 
-/// Runs a line of the case by so many workers, from the file that it names and from standard input.
+/// Runs a line of the case by `workers` workers, from the file that it names and from standard input.
 fn run_line<X: Threads + Wait + Sync>(
     rt: &X,
     place: Place<'_>,

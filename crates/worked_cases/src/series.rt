@@ -9,7 +9,7 @@ use std::test::Fail;
 /// What the number says of the file.
 #[derive(Clone, Copy)]
 enum Change {
-    /// So many bytes are left of it.
+    /// As many bytes are left of it as the number says.
     Cut,
     /// The byte at this place is the number.
     Byte(usize),

@@ -32,7 +32,7 @@ numbers_of-set [] k o d e = refl
 numbers_of-set (x ∷ xs) zero o d e = ap (λ n. n ∷ numbers_of xs) e
 numbers_of-set (x ∷ xs) (suc k) o d e = ap (λ l. x.worker ∷ l) (numbers_of-set xs k o d e)
 
--- so many numbers in order
+-- there are n numbers from `from` on
 length-numbers_from : (from n : ℕ) → length (numbers_from from n) ≡ n
 length-numbers_from from zero = refl
 length-numbers_from from (suc n) = ap suc (length-numbers_from (from + 1) n)

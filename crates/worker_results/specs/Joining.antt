@@ -38,7 +38,7 @@ abbrev pub StartWith : (ℕ → List Subproblem) → ℕ → List Subproblem →
 StartWith start workers pieces = (weight : Subproblem → ℕ)
     → total (λ worker. weigh weight (start worker)) (numbers_from 0 workers) ≡ weigh weight pieces
 
--- the first seat of the beacon told this size, and so many others are out
+-- the first seat of the beacon told `size`, and `others` other seats are out
 pub record IsFirstSeat (named : TableId) (size others : ℕ) (seat : Seated) : Type 0 where
   pub of_it : seat.beacon ≡ named
   pub first : seat.knows.first ≡ true

@@ -20,7 +20,7 @@ PiecePass = Pass Subproblem Dealt Global
 abbrev pub Thief : Type 0
 Thief = Stealer Subproblem Global Dealt EachOnce
 
--- so many numbers, from the first one on
+-- numbers in order from `first` on, as many as the second argument says
 abbrev pub numbers_from : ℕ → ℕ → List ℕ
 numbers_from first zero = []
 numbers_from first (suc count) = first ∷ numbers_from (first + 1) count

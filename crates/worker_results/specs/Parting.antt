@@ -13,7 +13,7 @@ use Rattle.worker_results.specs.Results.{Handed, IsHandedIn}
 use Rattle.worker_results.specs.Holdings.{work_of}
 use Rattle.worker_results.specs.Joining.{numbers_of, total, workers_of, works_of}
 
--- so many passes at each deque are still out
+-- `passes` passes at each deque are still out
 abbrev pub AreOut : ℕ → List Owned → Type 0
 AreOut passes owners = All (λ own. own.knows.out ≡ passes) owners
 

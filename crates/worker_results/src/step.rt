@@ -16,7 +16,7 @@ pub enum Tried {
 #[derive(Drop)]
 pub enum Step<M> {
     Closed,
-    /// With so many kids, and what is remembered of it.
+    /// With this number of kids, and what is remembered of it.
     Opened { kids: usize, memory: M },
     /// It isn't of the region, or none is held.
     NotMade,

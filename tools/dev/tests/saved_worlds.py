@@ -54,7 +54,7 @@ def nbt(value):
 
 
 def packed(indices, count):
-    """The longs of a section whose palette has so many states: as many bits an entry as tell them all, at least four,
+    """The longs of a section whose palette has `count` states: as many bits an entry as tell them all, at least four,
     and as many whole entries a long as it holds, the first in its lowest bits."""
     bits = 4
     while 2**bits < count:

@@ -75,7 +75,7 @@ class Areas(unittest.TestCase):
         made_worlds.write_world(self.world, cells, [(x, z) for x in range(-2, 7) for z in range(-2, 4)], [-1, 0, 1])
 
     def run_light(self, limit, low, high, *words, status=(0, 5)):
-        """A run over the extent, of which a box may have so many cells."""
+        """A run over the extent where a box has at most `limit` cells."""
         said, folder = [io.StringIO(), io.StringIO()], tempfile.mkdtemp(dir=self.room.name)
         given = ["--world", self.world, "--from", *low, "--to", *high, "--into", folder, *words]
         with contextlib.redirect_stdout(said[0]), contextlib.redirect_stderr(said[1]):

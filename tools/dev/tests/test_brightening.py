@@ -19,7 +19,7 @@ FOG = [Row(b"cave:fog", {}, 3, 0, True, False, False, False, False)]
 
 
 def room(wide, long, floor=STONE):
-    """A room of so many cells, two high, within stone."""
+    """A room of `wide` by `long` cells, two high, within stone."""
     cells = {(x, y, z): STONE for x in range(wide + 2) for y in range(4) for z in range(long + 2)}
     for x in range(1, wide + 1):
         for z in range(1, long + 1):

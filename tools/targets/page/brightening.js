@@ -4,8 +4,8 @@
 // are moved one by one to where they stand better, while all cells stay lit. Better is, in each region: the darkest
 // cell brighter, else more light in all. It tries the same moves in the same order, so that both find the same plan.
 
-const MOVED_STEPS = 4; // a torch moves at most so far at once
-const MOVES = 20_000; // so many places are tried in all
+const MOVED_STEPS = 4; // the most steps that a torch moves at once
+const MOVES = 20_000; // how many places are tried in all
 const REACH = TORCH_EMISSION - 1; // the most steps that light of a torch goes
 
 /** Whether two torches, one of which may move, may light cells of one window. */

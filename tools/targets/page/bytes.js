@@ -17,7 +17,7 @@ function fromBase64(text) {
   return Uint8Array.from(atob(text), (letter) => letter.charCodeAt(0));
 }
 
-/** Bytes through one of the streams that a browser has for packing, at most so many of them. */
+/** Bytes through one of the streams that a browser has for packing, at most `most` of them. */
 async function through(bytes, stream, most = Infinity) {
   const parts = [], writer = stream.writable.getWriter(), reader = stream.readable.getReader();
   writer.write(bytes).then(() => writer.close()).catch(() => {}); // the reader hears of it too

@@ -8,7 +8,7 @@ const FULL_STATUSES = ["full", "minecraft:full"];
 // What has no part in the blocks.
 const NO_CHUNK_PART = new Set(DATA.chunks.leftOut);
 
-/** The index of each cell into a palette of so many states, of a section's longs. An entry has as many bits as the
+/** The index of each cell into a palette of `count` states, of a section's longs. An entry has as many bits as the
  * palette needs, at least four; the first stands in the lowest bits of the first long, and none crosses a long. */
 function indicesOf(longs, count) {
   const bits = Math.max(LEAST_BITS, 32 - Math.clz32(count - 1)), each = Math.floor(64 / bits);

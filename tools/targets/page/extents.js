@@ -15,7 +15,7 @@ const extentOfSize = (low, size) => ({ low, high: low.map((at, axis) => at + siz
 /** The three sides. */
 const sizeOfExtent = ({ low, high }) => low.map((at, axis) => high[axis] - at + 1);
 
-/** The extent with so many layers more on each side. */
+/** The extent with `by` layers more on each side. */
 const grownExtent = ({ low, high }, by) => ({ low: low.map((at) => at - by), high: high.map((at) => at + by) });
 
 /** Whether it keeps the program's limits with one layer more on each side. */

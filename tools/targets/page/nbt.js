@@ -29,7 +29,7 @@ class NbtReader {
     this.view = new DataView(data.buffer, data.byteOffset, data.length);
   }
 
-  /** Where the next bytes begin, so many of which are there. */
+  /** Where the next `count` bytes begin, all of which are there. */
   take(count) {
     const at = this.at;
     if (this.data.length - at < count) throw damaged(`nbt: truncated at ${this.data.length}`);

@@ -13,7 +13,7 @@ const LZ4_TOLD = "it is packed by LZ4, which isn't read: set region-file-compres
 /** A number by which a whole number of times is taken away, as for coordinates below 0. */
 const restOf = (number, by) => number - Math.floor(number / by) * by;
 
-/** The bytes of a file from one place on, at most so many. */
+/** The bytes of a file from one place on, at most `count` of them. */
 const bytesOfPart = async (file, from, count) => new Uint8Array(await file.slice(from, from + count).arrayBuffer());
 
 /** The region file that has a chunk, told by the chunk's coordinates. `files` are those of a folder, by their names. */

@@ -31,7 +31,7 @@ function vectorIn(entries, name) {
   return ["x", "y", "z"].map((axis) => needed(found, axis, INT));
 }
 
-/** So many numbers of so many bits in longs, the first in the lowest bits; one may lie across two longs. */
+/** `count` numbers of `bits` bits each in longs, the first in the lowest bits; one may lie across two longs. */
 function unpackedIndices(bytes, bits, count) {
   if (bytes.length * 8 < bits * count) throw damaged("a region has fewer block states than cells");
   const found = new Uint32Array(count), bit = (at) => (bytes[(at >> 6) * 8 + 7 - ((at >> 3) & 7)] >> (at & 7)) & 1;
@@ -81,7 +81,7 @@ function readLitematic(root, name) {
   return box;
 }
 
-/** So many numbers of seven bits a byte, the lowest first. */
+/** `count` numbers of seven bits a byte, the lowest first. */
 function varints(bytes, count) {
   const found = [];
   let number = 0, shift = 0;

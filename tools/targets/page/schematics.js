@@ -5,7 +5,7 @@
 
 const LITEMATIC_VERSION = 6, LITEMATIC_SUBVERSION = 1, NAME_LENGTH = 100;
 
-/** Numbers of so many bits in longs, the first in the lowest bits; one may lie across two longs. */
+/** Numbers of `bits` bits each in longs, the first in the lowest bits; one may lie across two longs. */
 function packedLongs(indices, bits) {
   const longs = [];
   let whole = 0n, shift = 0;

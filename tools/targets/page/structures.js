@@ -126,7 +126,7 @@ class NbtWriter {
     for (const number of numbers) this.number(number);
   }
 
-  /** The head of a list of so many compounds; an empty list has the id 0. */
+  /** The head of a list of `count` compounds; an empty list has the id 0. */
   compounds(name, count) {
     this.name(LIST, name);
     this.byte(count ? COMPOUND : END);

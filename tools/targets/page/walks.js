@@ -3,8 +3,8 @@
 // The order in which torches are placed: a short walk, layer by layer where that costs little, as ../../user/walks.py
 // finds it. A place has x, y and z.
 
-const ONE_LAYER_MORE = 1.2; // a walk by layers may be longer by so much
-const FEW = 12; // from so many torches each is tried as the first, of more only the one in the corner
+const ONE_LAYER_MORE = 1.2; // by how much a walk by layers may be longer
+const FEW = 12; // of up to this number of torches each is tried as the first, of more only the one in the corner
 const TRIES = 1_000_000; // pairs of steps that are looked at for a shorter way
 
 /** How many blocks lie between two places. */

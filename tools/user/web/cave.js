@@ -26,7 +26,7 @@ function* numbersOf(text) {
   }
 }
 
-/** Values of so many cells, from pairs of a value and the length of its run. */
+/** Values of `count` cells, from pairs of a value and the length of its run. */
 function unrun(text, count) {
   const values = new Uint32Array(count), numbers = numbersOf(text);
   for (let at = 0; at < count; ) {

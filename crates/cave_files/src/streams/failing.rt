@@ -78,7 +78,7 @@ pub const fn once_failing_reader_of(rest: &[u8], fails_at: usize) -> FailingRead
     reader_with(rest, at_call(fails_at, ErrorKind::Interrupted))
 }
 
-/// Takes so many bytes a call, and counts the calls.
+/// Takes `chunk` bytes a call, and counts the calls.
 #[derive(Drop)]
 pub struct FailingWriter {
     pub taken: Vec<u8>,
@@ -111,7 +111,7 @@ fn writer_with(alloc: Global, chunk: usize, failing: Failing) -> FailingWriter {
     }
 }
 
-/// A writer that takes one byte a call and fails once it has so many.
+/// A writer that takes one byte a call and fails once it has `fails_at` bytes.
 pub fn writer_of(alloc: Global, fails_at: usize) -> FailingWriter {
     writer_with(alloc, 1, from_call(fails_at))
 }

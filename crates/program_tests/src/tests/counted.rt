@@ -16,7 +16,7 @@ use std::test::Fail;
 use std::thread::Threads;
 use torch_plan::{Observer, Unobserved};
 
-/// How a round of so many workers ends, which proves a cover of the region to be the smallest, within these turns below
+/// How a round of `count` workers ends, which proves a cover of the region to be the smallest, within these turns below
 /// its root; or nothing where the caller's thread closes the root.
 pub(crate) fn end_of<R: Abort + Threads + Wait + Sync, G: Observer>(
     rt: &R,
@@ -59,7 +59,7 @@ pub(crate) fn end_of<R: Abort + Threads + Wait + Sync, G: Observer>(
     Ok(Some(run_round(rt, search, workers(rt, count), gate, first, aim, turns)))
 }
 
-/// The report of so many workers, whom the root is left to.
+/// The report of `count` workers, whom the root is left to.
 pub(crate) fn report_of<R: Abort + Threads + Wait + Sync, G: Observer>(
     rt: &R,
     alloc: Global,

@@ -11,7 +11,7 @@ use std::test::Fail;
 use std::thread::Threads;
 
 /// The report of two workers, of whom these are held back and none stopped waiting, and whether a kid of one of the
-/// root's kids entered. The cover has so many places.
+/// root's kids entered. The cover has `size` places.
 fn met<X: Abort + Threads + Wait + Sync>(
     rt: &X,
     alloc: Global,

@@ -9,17 +9,17 @@ pub fn line_of(alloc: Global, fault: &RunFault) -> Result<String, AllocError> {
     format!(in alloc; "{fault}")
 }
 
-/// So many workers, which are 1 to 64.
+/// `count` workers, which are 1 to 64.
 pub fn workers(rt: &impl Abort, count: u32) -> Workers {
     Workers::new(count).expect(rt, "1 to 64 workers")
 }
 
-/// One worker, with so many turns.
+/// One worker, with `turns` turns or any number of them.
 pub fn alone(rt: &impl Abort, rule: Rule, turns: Option<u64>) -> PlanOpts {
     shared(rt, 1, rule, turns)
 }
 
-/// So many workers, which share so many turns.
+/// `count` workers, which share `turns` turns or any number of them.
 pub fn shared(rt: &impl Abort, count: u32, rule: Rule, turns: Option<u64>) -> PlanOpts {
     PlanOpts {
         rule,

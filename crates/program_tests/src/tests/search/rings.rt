@@ -10,7 +10,7 @@ use std::alloc::{AllocError, Global};
 use std::sync::Arc;
 use std::test::Fail;
 
-/// A ring of so many cells and places.
+/// A ring of `count` cells and as many places.
 pub(crate) fn ring(alloc: Global, count: u32) -> Result<Arc<Region>, Fail> {
     let mut rows = Vec::new(alloc);
     for place in 0..count {
@@ -56,7 +56,7 @@ fn kids_of(proof: &Proof) -> usize {
     }
 }
 
-/// A ring of so many cells, with how many turns it is planned, and the number of the plan's places with how many kids
+/// How many cells a ring has, with how many turns it is planned, and the number of the plan's places with how many kids
 /// the root of its tree has or, where the turns are spent, with the floor.
 type RingPlan = (u32, Option<u64>, (u64, usize));
 

@@ -21,7 +21,7 @@ enum End {
     Stopped { size: u64, floor: u64, turns: u64 },
 }
 
-/// A ring of so many cells, its turns, and how the search ends.
+/// How many cells a ring has, its turns, and how the search ends.
 type Row = (u32, Option<u64>, End);
 
 const ROWS: [Row; 13] = [

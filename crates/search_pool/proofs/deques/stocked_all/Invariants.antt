@@ -2,7 +2,7 @@ use Rattle.std.proofs.Common.{◌≡◌, length}
 use Rattle.search_pool.specs.Deques.{AreStocked}
 use Rattle.search_pool.proofs.deques.stocked_all.Given as goal
 
--- so many deques are stocked, the first one with the pieces
+-- `number` deques are stocked, the first one with the pieces
 abbrev pub invariant-loop-number : goal.invariant-loop-number
 invariant-loop-number l = record {
   stocked : AreStocked l.fn.pieces.items l.owners.items;
