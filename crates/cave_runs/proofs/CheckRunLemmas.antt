@@ -270,7 +270,7 @@ module _ (structure rest table : Option (List ℕ)) (rule : Rule) (certificate :
         → GivesAtMost structure_limit structure rest
         → IsReadCheck bytes table rule certificate unread proof_limit (Err e)
         → IsRunOfCheck (inputs (stream structure rest) table rule) (stream certificate unread)
-            (Err (of_check e)) (stream held held)
+        (Err (of_check e)) (stream held held)
     run_faulted e held within ended checked = record {
       done = tt;
       only = said (Err e) (Err (of_check e)) structure bytes table rule certificate same checked.only
@@ -289,7 +289,7 @@ module _ (structure rest table : Option (List ℕ)) (rule : Rule) (certificate :
       -- one that has a verdict, and no memory for its line
       pub run_unsaid : (held : Option (List ℕ))
           → IsRunOfCheck (inputs (stream structure rest) table rule) (stream certificate unread)
-              (Err faults.OutOfMemory) (stream held held)
+          (Err faults.OutOfMemory) (stream held held)
       run_unsaid held = record {
         done = tt;
         only = excused (Err faults.OutOfMemory) faults.OutOfMemory structure table rule certificate refl

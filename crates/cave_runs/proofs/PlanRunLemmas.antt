@@ -343,7 +343,8 @@ module _ (given : Inputs) (allowance : Allowance) where
   }
 
   module _ (bytes : List ℕ) (same : IfSome given.structure.before (λ b. bytes ≡ b))
-      (within : length bytes ≤ structure_limit) (ended : GivesAtMost structure_limit given.structure.before given.structure.after) where
+      (within : length bytes ≤ structure_limit)
+      (ended : GivesAtMost structure_limit given.structure.before given.structure.after) where
     -- one whose input has no plan, or that gets no thread
     pub plan_refused : (e : RunFault) (held proof : Option (List ℕ))
         → (e ≢ faults.OutOfMemory → e ≢ faults.NoThread → IsNoPlan bytes given.table given.rule e)

@@ -120,8 +120,8 @@ where
 /// planned before a byte is written, and the whole text of the plan is made before its first byte is. The rows are
 /// those of the user's table, where there is one, before the shipped ones. Where the turns of a region were spent, the
 /// text says how few torches there might be, and no certificate is written. Before the search the planner's observer is
-/// told where free cells lie at a side of the box, and after it the most turns that were granted to a region. Who plans the regions changes no promise: where that waits for
-/// nobody, this is proved to return.
+/// told where free cells lie at a side of the box, and after it the most turns that were granted to a region. Who plans
+/// the regions changes no promise: where that waits for nobody, this is proved to return.
 pub fn run_planner<F, O, R, W, V>(
     alloc: Global,
     reader: &mut R,

@@ -24,7 +24,9 @@ pub enum Advance {
         pieces: u64,
     },
     /// The search of all regions ended, and this is the most turns that were granted to one.
-    Searched { turns: u64 },
+    Searched {
+        turns: u64,
+    },
 }
 
 /// The count of a side, if it has any, after a comma where it isn't the first one: whether none was put yet.

@@ -8,7 +8,7 @@ use std::sync::{Condvar, Mutex, Wait};
 
 /// Open pieces, turns, and shows.
 #[derive(Drop)]
-struct Entries {
+struct Totals {
     /// How many pieces wait or are held.
     open: u64,
     /// How often a piece was shown, or a worker left.
@@ -21,10 +21,10 @@ struct Entries {
     is_spent: bool,
 }
 
-/// The entries, which all workers see.
+/// The totals, which all workers see.
 #[derive(Drop)]
 pub(crate) struct Ledger {
-    entries: Mutex<Entries>,
+    totals: Mutex<Totals>,
     changed: Condvar,
 }
 
@@ -32,7 +32,7 @@ impl Ledger {
     /// One piece is open, and `limit` turns may be taken, or any number.
     pub(crate) fn new(limit: Option<u64>) -> Ledger {
         Ledger {
-            entries: Mutex::new(Entries {
+            totals: Mutex::new(Totals {
                 open: 1,
                 shows: 0,
                 limit,
@@ -45,60 +45,60 @@ impl Ledger {
 
     /// How often a piece was shown until now.
     pub(crate) fn shows<R: Wait>(&self, rt: &R) -> u64 {
-        self.entries.lock(rt).shows
+        self.totals.lock(rt).shows
     }
 
     /// Waits while no piece was shown beyond these. False where there is none to wait for: all are closed, or the turns
     /// are spent.
     pub(crate) fn wait<R: Wait>(&self, rt: &R, shows: u64) -> bool {
-        let entries = self.changed.wait_while(
+        let totals = self.changed.wait_while(
             rt,
-            self.entries.lock(rt),
-            |entries| entries.shows == shows && entries.open > 0 && !entries.is_spent,
+            self.totals.lock(rt),
+            |totals| totals.shows == shows && totals.open > 0 && !totals.is_spent,
         );
-        entries.open > 0 && !entries.is_spent
+        totals.open > 0 && !totals.is_spent
     }
 
     /// Takes a turn, if one is left.
     pub(crate) fn take_turn<R: Wait>(&self, rt: &R) -> bool {
-        let mut entries = self.entries.lock(rt);
-        if let Some(limit) = entries.limit {
-            if entries.taken >= limit {
-                entries.is_spent = true;
+        let mut totals = self.totals.lock(rt);
+        if let Some(limit) = totals.limit {
+            if totals.taken >= limit {
+                totals.is_spent = true;
                 self.changed.notify_all();
                 return false;
             }
         }
-        entries.taken = entries.taken.saturating_add(1);
+        totals.taken = totals.taken.saturating_add(1);
         true
     }
 
     /// A piece was closed, or opened with `kids` kids.
     pub(crate) fn end_piece<R: Wait>(&self, rt: &R, kids: usize) {
-        let mut entries = self.entries.lock(rt);
-        entries.open = entries.open.saturating_add(kids as u64).saturating_sub(1);
-        if entries.open == 0 {
+        let mut totals = self.totals.lock(rt);
+        totals.open = totals.open.saturating_add(kids as u64).saturating_sub(1);
+        if totals.open == 0 {
             self.changed.notify_all();
         }
     }
 
     /// A piece was shown.
     pub(crate) fn show<R: Wait>(&self, rt: &R) {
-        let mut entries = self.entries.lock(rt);
-        entries.shows = entries.shows.wrapping_add(1);
+        let mut totals = self.totals.lock(rt);
+        totals.shows = totals.shows.wrapping_add(1);
         self.changed.notify_all();
     }
 
     /// A worker leaves with `pieces` pieces, which nobody works on any more.
     pub(crate) fn leave<R: Wait>(&self, rt: &R, pieces: usize) {
-        let mut entries = self.entries.lock(rt);
-        entries.open = entries.open.saturating_sub(pieces as u64);
-        entries.shows = entries.shows.wrapping_add(1);
+        let mut totals = self.totals.lock(rt);
+        totals.open = totals.open.saturating_sub(pieces as u64);
+        totals.shows = totals.shows.wrapping_add(1);
         self.changed.notify_all();
     }
 
     /// How many turns were taken.
     pub(crate) fn taken<R: Wait>(&self, rt: &R) -> u64 {
-        self.entries.lock(rt).taken
+        self.totals.lock(rt).taken
     }
 }

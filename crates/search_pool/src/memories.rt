@@ -6,7 +6,7 @@ use std::sync::{Arc, Mutex, Wait};
 
 /// What is remembered of the piece of this name, for those of its kids that are yet to come.
 #[derive(Drop)]
-struct Entry<M> {
+struct Remembered<M> {
     name: Vec<u32>,
     memory: Arc<M>,
     kids: usize,
@@ -16,7 +16,7 @@ struct Entry<M> {
 #[derive(Drop)]
 pub(crate) struct Memories<M> {
     alloc: Global,
-    entries: Mutex<Vec<Entry<M>>>,
+    entries: Mutex<Vec<Remembered<M>>>,
 }
 
 impl<M: Drop> Memories<M> {
@@ -39,7 +39,7 @@ impl<M: Drop> Memories<M> {
         if kids == 0 {
             return Ok(());
         }
-        let entry = Entry {
+        let entry = Remembered {
             name,
             memory: Arc::new(self.alloc, memory)?,
             kids,
@@ -75,7 +75,7 @@ impl<M: Drop> Memories<M> {
 }
 
 /// The index of the last entry of this name.
-fn index_of<M>(entries: &[Entry<M>], name: &[u32]) -> Option<usize> {
+fn index_of<M>(entries: &[Remembered<M>], name: &[u32]) -> Option<usize> {
     for index in (0..entries.len()).rev() {
         if entries[index].name.as_slice() == name {
             return Some(index);

@@ -1,7 +1,7 @@
 //! Finished trees without the kids that their branches can do without.
 
 use crate::groups::copied_groups;
-use crate::needless_kids::{FinishedBranch, Needless, Told};
+use crate::needless_kids::{FinishedBranch, Needless, SpokenTree};
 use crate::node_rows::NodeRows;
 use crate::pruning::{bars_above, copied};
 use crate::spoken::Spoken;
@@ -29,7 +29,7 @@ pub fn without_needless_kids(
         is_first: true,
     };
     let told = lessening.lessened(left, tree, whole.region.places().len())?;
-    let Told { tree, spoken: _ } = told;
+    let SpokenTree { tree, spoken: _ } = told;
     Ok(tree)
 }
 
@@ -62,20 +62,20 @@ impl<'a> Lessening<'a> {
     /// The tree of a node without the kids and bars of places that are gone, if it isn't deeper than there is room; and
     /// without needless kids, where such are looked for.
     #[cycle(lessening)]
-    fn lessened(self, left: NodeRows, tree: &Proof, room: usize) -> Result<Told, AllocError> {
+    fn lessened(self, left: NodeRows, tree: &Proof, room: usize) -> Result<SpokenTree, AllocError> {
         let mut left = left;
         let mut spoken = Spoken::none(self.alloc, self.whole.region)?;
         let (bars, rest) = bars_above(self.alloc, tree)?;
         let bars = left.take_bars(self.alloc, &bars, &mut spoken)?;
         if room == 0 {
-            return Ok(Told {
+            return Ok(SpokenTree {
                 tree: copied(self.alloc, &[])?,
                 spoken,
             });
         }
         let bare = self.bare(left, rest, room - 1, &mut spoken)?;
         let tree = wrap(self.alloc, bars, bare)?;
-        Ok(Told { tree, spoken })
+        Ok(SpokenTree { tree, spoken })
     }
 
     /// A tree that has no bars above it, made shorter. What is spoken of gains what it speaks of.
@@ -165,7 +165,7 @@ impl<'a> Lessening<'a> {
         let told = self.lessened(left, kid, room)?;
         spoken.join(&told.spoken);
         spoken.add_cells(cells);
-        let Told { tree, spoken: _ } = told;
+        let SpokenTree { tree, spoken: _ } = told;
         let cells = Vec::from_slice(self.alloc, cells)?;
         omitted(self.alloc, cells, tree)
     }
@@ -189,7 +189,7 @@ impl<'a> Lessening<'a> {
         let without = self.lessened(rest, without, room)?;
         spoken.join(&without.spoken);
         if is_set(&left.gone, place as usize) {
-            let Told { tree, .. } = without;
+            let SpokenTree { tree, .. } = without;
             return Ok(tree);
         }
         let mut below = left;
@@ -198,7 +198,7 @@ impl<'a> Lessening<'a> {
         }
         let with = self.lessened(below, with, room)?;
         spoken.join(&with.spoken);
-        let (Told { tree: with, .. }, Told { tree: without, .. }) = (with, without);
+        let (SpokenTree { tree: with, .. }, SpokenTree { tree: without, .. }) = (with, without);
         Ok(Proof::Pick {
             place,
             with: Below::of(self.alloc, with)?,
@@ -214,7 +214,7 @@ impl<'a> Lessening<'a> {
         places: &[u32],
         trees: &[Proof],
         room: usize,
-    ) -> Result<Vec<Told>, AllocError> {
+    ) -> Result<Vec<SpokenTree>, AllocError> {
         let mut barred = Vec::from_slice(self.alloc, &left.barred)?;
         let mut found = Vec::with_capacity(self.alloc, trees.len())?;
         for index in 0..trees.len() {
@@ -238,7 +238,7 @@ impl<'a> Lessening<'a> {
 fn branch_of(
     alloc: Global,
     cell: u32,
-    kids: Vec<Told>,
+    kids: Vec<SpokenTree>,
     needless: Needless,
     spoken: &mut Spoken,
 ) -> Result<Proof, AllocError> {
@@ -273,10 +273,10 @@ pub(crate) fn omitted(alloc: Global, cells: Vec<u32>, tree: Proof) -> Result<Pro
 }
 
 /// The trees alone.
-fn trees_of(alloc: Global, kids: Vec<Told>) -> Result<Vec<Proof>, AllocError> {
+fn trees_of(alloc: Global, kids: Vec<SpokenTree>) -> Result<Vec<Proof>, AllocError> {
     let mut trees = Vec::with_capacity(alloc, kids.len())?;
     for kid in kids {
-        let Told { tree, spoken: _ } = kid;
+        let SpokenTree { tree, spoken: _ } = kid;
         trees.push(tree)?;
     }
     Ok(trees)

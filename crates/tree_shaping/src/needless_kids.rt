@@ -13,7 +13,7 @@ use std::alloc::{AllocError, Global};
 
 /// A tree, and what it speaks of.
 #[derive(Drop)]
-pub(crate) struct Told {
+pub(crate) struct SpokenTree {
     pub tree: Proof,
     pub spoken: Spoken,
 }
@@ -25,7 +25,7 @@ pub(crate) struct FinishedBranch<'a> {
     pub left: &'a NodeRows,
     pub cell: u32,
     pub places: &'a [u32],
-    pub kids: &'a [Told],
+    pub kids: &'a [SpokenTree],
 }
 
 /// Which kids of a branch can go, the places to leave out for that, and a row of the cells.
@@ -116,7 +116,7 @@ impl Needless {
 }
 
 /// Whether a leaf of one of the trees is weighted.
-fn has_weights(kids: &[Told]) -> bool {
+fn has_weights(kids: &[SpokenTree]) -> bool {
     for kid in kids {
         if kid.spoken.has_weights() {
             return true;
@@ -127,7 +127,7 @@ fn has_weights(kids: &[Told]) -> bool {
 
 /// Whether the place mustn't be barred above the tree of one of the kids before this one that stay. Where it is the
 /// place of a kid there, that one goes with it.
-fn is_needed(kids: &[Told], is_gone: &[bool], index: usize, place: u32) -> bool {
+fn is_needed(kids: &[SpokenTree], is_gone: &[bool], index: usize, place: u32) -> bool {
     for (other, kid) in kids.iter().enumerate() {
         if other < index
             && !is_gone.get(other).copied().unwrap_or(false)

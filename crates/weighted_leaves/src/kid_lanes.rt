@@ -12,7 +12,7 @@ const KID_RUNS: u32 = 8;
 
 /// A lane's kid by its index among the kids, and how many runs it made.
 #[derive(Clone, Copy)]
-struct Seat {
+struct LaneKid {
     kid: usize,
     runs: u32,
 }
@@ -33,7 +33,7 @@ pub(crate) struct KidLanes<'a> {
     /// What the part has to show more than in each lane.
     short_of: i64,
     lanes: Lanes,
-    seats: [Option<Seat>; LANES],
+    lane_kids: [Option<LaneKid>; LANES],
     /// The kid that takes a lane next.
     next: usize,
 }
@@ -51,12 +51,12 @@ impl<'a> KidLanes<'a> {
             places,
             short_of,
             lanes,
-            seats: [None; LANES],
+            lane_kids: [None; LANES],
             next: 0,
         };
         found.lanes.begin();
         for lane in 0..LANES {
-            found.seat(lane);
+            found.fill(lane);
         }
         found.lanes.make_ready();
         found
@@ -69,8 +69,8 @@ impl<'a> KidLanes<'a> {
 
     /// Whether no kid is in a lane.
     pub(crate) fn is_empty(&self) -> bool {
-        for seat in &self.seats {
-            if seat.is_some() {
+        for lane_kid in &self.lane_kids {
+            if lane_kid.is_some() {
                 return false;
             }
         }
@@ -81,10 +81,10 @@ impl<'a> KidLanes<'a> {
     pub(crate) fn done(&self, alloc: Global) -> Result<Vec<DoneLane>, AllocError> {
         let mut done = Vec::new(alloc);
         for lane in 0..LANES {
-            if let Some(seat) = self.seats[lane] {
+            if let Some(lane_kid) = self.lane_kids[lane] {
                 let is_open = matches!(state(&self.lanes, lane, self.short_of), LaneState::Open);
-                if !is_open || seat.runs >= KID_RUNS {
-                    let place = self.places.get(seat.kid).copied().unwrap_or(u32::MAX);
+                if !is_open || lane_kid.runs >= KID_RUNS {
+                    let place = self.places.get(lane_kid.kid).copied().unwrap_or(u32::MAX);
                     done.push(DoneLane { lane, place })?;
                 }
             }
@@ -96,7 +96,7 @@ impl<'a> KidLanes<'a> {
     pub(crate) fn go_on(&mut self, done: &[DoneLane]) {
         for lane in done {
             self.lanes.begin_lane(lane.lane);
-            self.seat(lane.lane);
+            self.fill(lane.lane);
         }
         self.lanes.make_ready();
     }
@@ -104,29 +104,29 @@ impl<'a> KidLanes<'a> {
     /// Makes a run of all lanes.
     pub(crate) fn run(&mut self, alloc: Global) -> Result<(), AllocError> {
         self.lanes.run(alloc)?;
-        for seat in self.seats.iter_mut() {
-            if let Some(seat) = seat {
-                seat.runs = seat.runs.saturating_add(1);
+        for lane_kid in self.lane_kids.iter_mut() {
+            if let Some(lane_kid) = lane_kid {
+                lane_kid.runs = lane_kid.runs.saturating_add(1);
             }
         }
         Ok(())
     }
 
     /// Tells a lane that has begun of the next kid, if there is one; else it stays empty.
-    fn seat(&mut self, lane: usize) {
+    fn fill(&mut self, lane: usize) {
         let kid = self.next;
-        let mut seat = None;
+        let mut next = None;
         if let Some(place) = self.places.get(kid) {
             let earlier = before(self.places, kid);
             self.kids
                 .tell(&mut self.lanes, lane, *place as usize, earlier);
             self.next = kid.saturating_add(1);
-            seat = Some(Seat { kid, runs: 0 });
+            next = Some(LaneKid { kid, runs: 0 });
         } else {
             self.lanes.clear_lane(lane);
         }
         if lane < LANES {
-            self.seats[lane] = seat;
+            self.lane_kids[lane] = next;
         }
     }
 }

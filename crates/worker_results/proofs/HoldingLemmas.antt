@@ -1,6 +1,6 @@
 -- What a worker holds still adds up after each of its steps.
-use Rattle.std.proofs.Common.{◌≡◌, ℕ, ◌+◌, ◌<◌, List, [], ◌∷◌, ◌++◌, length, reverse, remove, take, drop, slice_index_or}
-use Rattle.std.proofs.Common.{refl, sym, ap, ◌∙◌, subst, le_refl, arith}
+use Rattle.std.proofs.Common.{◌≡◌, ℕ, ◌+◌, ◌<◌, List, [], ◌∷◌, ◌++◌, length, reverse, remove, take, drop}
+use Rattle.std.proofs.Common.{slice_index_or, refl, sym, ap, ◌∙◌, subst, le_refl, arith}
 use Rattle.std.proofs.Math.Seq.{drop-append_seam, take-append_seam}
 use Rattle.std.proofs.lemmas.Grind.{reverse_onto}
 use Rattle.std.proofs.lemmas.List.Elements.{All-push}

@@ -171,7 +171,10 @@ fn standings_and_verdicts_have_their_words(rt: HostRuntime) -> Result<(), Fail> 
     let line = format!(in alloc; "{pieces}")?;
     assert_eq!(rt; line.as_str(), "region 1 of 1: 7 pieces taken");
     let line = format!(in alloc; "{}", Advance::Searched { turns: 116 })?;
-    assert_eq!(rt; line.as_str(), "search ended, with at most 116 turns for a region");
+    assert_eq!(rt;
+        line.as_str(),
+        "search ended, with at most 116 turns for a region"
+    );
     let line = format!(in alloc; "{}", Verdict::Accepted { torches: 262_144 })?;
     assert_eq!(rt; line.as_str(), "accepted 262144");
     Ok(())
