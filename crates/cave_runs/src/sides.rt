@@ -14,7 +14,7 @@ pub struct OpenSides {
     pub above: u32,
 }
 
-/// One more where that is so.
+/// The count, and one more where that is so.
 fn counted(count: u32, is_so: bool) -> u32 {
     if is_so {
         return count.saturating_add(1);

@@ -43,8 +43,8 @@ impl LaneSide {
         })
     }
 
-    /// Those of the numbers that have these indices, each of which meets those of its list, of others that lanes have
-    /// as told here.
+    /// The side of the numbers that have these indices, each of which meets those of its list, of others that lanes
+    /// have as told here.
     pub(crate) fn part(
         &self,
         alloc: Global,

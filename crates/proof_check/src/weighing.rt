@@ -13,7 +13,7 @@ pub struct Weighing {
     pub line: u64,
     /// How many groups are to come.
     pub to_come: u32,
-    /// Those before them.
+    /// The groups that were told.
     pub groups: Vec<Group>,
 }
 

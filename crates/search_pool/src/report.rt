@@ -16,11 +16,11 @@ pub struct Report {
     pub handed_back: u128,
     /// Pieces that the caller took from the deques after the joins.
     pub left: u128,
-    /// Those of them that the caller closed.
+    /// Pieces that the caller closed, of those that were handed back or left.
     pub gleaned: u128,
     /// Pieces that came to be, but for the kids that workers still keep.
     pub pushed: u128,
-    /// Those of them that workers opened.
+    /// Pieces that workers opened, of those that came to be.
     pub opened: u128,
     /// For each worker the pieces that it closed.
     pub closed_by: Vec<u64>,

@@ -34,9 +34,9 @@ pub(crate) struct Post {
 /// The sizes that an observer is told of.
 #[derive(Clone, Copy)]
 pub(crate) struct Sizes {
-    /// That of the smallest cover as the round began.
+    /// The size of the smallest cover as the round began.
     pub(crate) first: u64,
-    /// That of which it is proved, if the round comes to its end, that no cover is below it.
+    /// The size of which it is proved, if the round comes to its end, that no cover is below it.
     pub(crate) goal: u64,
 }
 

@@ -6,7 +6,7 @@ pub record ListsOnce (Kind : ℕ → Type 0) (bits : List ℕ) : Type 0 where
   pub once : AllPairs (λ a b. a ≢ b) bits
   pub exact : (bit : ℕ) → Contains bits bit ↔ Kind bit
 
--- there is such a list, and every such list is so long
+-- there is such a list, and every such list has `count` numbers
 pub record IsCount (Kind : ℕ → Type 0) (count : ℕ) : Type 0 where
   pub some : (bits : List ℕ) × ListsOnce Kind bits
   pub every : (bits : List ℕ) → ListsOnce Kind bits → length bits ≡ count

@@ -30,7 +30,7 @@ pub record TookFront (holdings holdings_now : HeldParts) : Type 0 where
   pub same_closed : holdings_now.closed ≡ holdings.closed
   pub same_opened : holdings_now.opened ≡ holdings.opened
 
--- so it is, or all is as it was; nobody else takes before the owner does, and what is said to be empty was so
+-- that piece is held, or all is as it was; nobody else takes before the owner does, and what is said to be empty was so
 abbrev pub TakesOwn : HeldParts → Tried → HeldParts → Type 0
 TakesOwn old Got new = TookFront old new
 TakesOwn old Empty new = (new ≡ old) × WasEmpty old.own
@@ -47,7 +47,7 @@ pub record Stole (holdings holdings_now : HeldParts) : Type 0 where
   pub same_closed : holdings_now.closed ≡ holdings.closed
   pub same_opened : holdings_now.opened ≡ holdings.opened
 
--- so it is, or all is as it was; the deque of this number was empty at one moment where it is said to be so
+-- that piece is held, or all is as it was; the deque of this number was empty at one moment where it is said to be so
 abbrev pub StealsFrom : ℕ → HeldParts → Tried → HeldParts → Type 0
 StealsFrom deque old Got new = Stole old new
 StealsFrom deque old Empty new = (new ≡ old) × SawEmpty old.passes deque
@@ -101,7 +101,7 @@ pub record TookNewest (holdings holdings_now : HeldParts) : Type 0 where
   pub same_closed : holdings_now.closed ≡ holdings.closed
   pub same_opened : holdings_now.opened ≡ holdings.opened
 
--- so it was, or all is as it was
+-- that kid is held, or all is as it was
 abbrev pub TookKept : HeldParts → Bool → HeldParts → Type 0
 TookKept old true new = TookNewest old new
 TookKept old false new = new ≡ old
@@ -116,7 +116,7 @@ pub record ShowedOldest (holdings holdings_now : HeldParts) : Type 0 where
   pub same_closed : holdings_now.closed ≡ holdings.closed
   pub same_opened : holdings_now.opened ≡ holdings.opened
 
--- so it does, or all is as it was
+-- that kid lies there, or all is as it was
 abbrev pub Shows : HeldParts → Bool → HeldParts → Type 0
 Shows old true new = ShowedOldest old new
 Shows old false new = new ≡ old
