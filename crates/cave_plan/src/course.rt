@@ -13,7 +13,7 @@ use crate::fault::PlanFault;
 use cave_base::Cell;
 use certificate_text::Planned;
 use instance_regions::{Cover, Region};
-use search_traits::{Allowance, BestPlan, Observer, Planner, RegionFault, RegionPlan};
+use search_traits::{Allowance, BestPlan, Observer, Planner, RegionFault, RegionPlan, SoFar};
 use std::alloc::{AllocError, Global};
 use std::sync::Arc;
 
@@ -109,13 +109,14 @@ impl Course {
     {
         match (planner.plan)(&region) {
             Ok(plan) => Ok(self.add_best(planner.allowance, region, plan)?),
-            Err(
-                RegionFault::Stopped {
+            Err(RegionFault::Stopped(found)) => {
+                let SoFar {
                     cover,
                     floor,
-                    turns,
-                },
-            ) => Ok(self.add_stopped(planner.allowance, &cover, floor, turns)?),
+                    granted,
+                } = found;
+                Ok(self.add_stopped(planner.allowance, &cover, floor, granted)?)
+            }
             Err(RegionFault::NoThread) => Err(PlanFault::NoThread),
             Err(RegionFault::OutOfMemory) => Err(PlanFault::OutOfMemory),
         }

@@ -79,7 +79,7 @@ pub record AreTurnsFor (limit : Option ℕ) (pieces granted : ℕ) : Type 0 wher
 
 -- all turns that were given were granted; and a thread is never asked for
 abbrev pub StopsGathering : Instance → Option ℕ → RegionFault → Type 0
-StopsGathering region turns (Stopped cover floor granted) =
-    IsStopped region turns cover floor × AreSpent turns granted
+StopsGathering region turns (Stopped found) =
+    IsStopped region turns found.cover found.floor × AreSpent turns found.granted
 StopsGathering region turns NoThread = ⊥
 StopsGathering region turns OutOfMemory = Unit {0}

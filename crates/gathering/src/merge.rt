@@ -16,7 +16,7 @@ use instance_regions::{Cover, Region};
 use pack_bound::scattered;
 use proof_tree::{Name, Piece, Proof};
 use schedule_law::Work;
-use search_traits::{AimedDesk, AloneDesk, Closer, Halt, RegionFault, SharedSearch};
+use search_traits::{AimedDesk, AloneDesk, Closer, Halt, RegionFault, SharedSearch, SoFar};
 use std::alloc::{AllocError, Global};
 use std::marker::Brand;
 use std::sync::Arc;
@@ -122,10 +122,10 @@ fn stopped(alloc: Global, region: &Arc<Region>, desk: AloneDesk) -> Result<Regio
     prove!(cells > 0);
     let piece = Piece::root(alloc, region)?;
     let floor = scattered(alloc, &piece)?.len() as u64;
-    let turns = desk.granted();
-    Ok(RegionFault::Stopped {
+    let granted = desk.granted();
+    Ok(RegionFault::Stopped(SoFar {
         cover: desk.into_cover(),
         floor,
-        turns,
-    })
+        granted,
+    }))
 }

@@ -38,8 +38,9 @@ pub fn found_line(alloc: Global, region: &Arc<Region>, turns: u64) -> Result<Str
             let size = plan.cover.size();
             format!(in alloc; "{cells} cells, {places} places: {size}, {lines} lines")
         }
-        Err(RegionFault::Stopped { cover, floor, .. }) => {
-            let size = cover.size();
+        Err(RegionFault::Stopped(found)) => {
+            let floor = found.floor;
+            let size = found.cover.size();
             format!(in alloc; "{cells} cells, {places} places: {floor} to {size}")
         }
         Err(_) => Err(OutOfMemory),

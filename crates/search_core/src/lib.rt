@@ -8,7 +8,6 @@ mod core_rounds;
 mod one_worker;
 mod rounds;
 mod shared_rounds;
-mod so_far;
 mod told;
 
 pub use beginning::{at_root, first_cover};

@@ -13,7 +13,7 @@ use Rattle.gathering.proofs.LawLemmas.{counted}
 use Rattle.search_traits.specs.Turns.{AreSpent, IsWithin, rest}
 use Rattle.gathering.specs.Gathered.{StopsGathering}
 use Rattle.search_traits.specs.declared.region_fault.RegionFault.TheVariants.{Stopped}
-use Rattle.instance_regions.specs.Cover.{Covering}
+use Rattle.search_traits.specs.declared.so_far.SoFar.{SoFar}
 use Rattle.search_pool.specs.Reports.{StopsPool, sum_of}
 use Rattle.search_pool.specs.Rows.{counted as counted_sum}
 use Rattle.search_pool.specs.Tallies.{AreTallied}
@@ -72,12 +72,12 @@ all_spent (Some most) granted more sum within fits spent same =
     ap Some (let e : most ≡ sum = omega (arith, left, within, fits, same) in e)
 
 -- a stop of the caller's thread is one of all
-pub stops_all : (region : Instance) (turns : Option ℕ) (granted more sum floor : ℕ) (cover : Covering)
-    → IsWithin turns granted → IfSome turns (λ most. most < 2 ^ 64) → sum ≡ counted_sum (granted + more)
-    → StopsGathering region (rest turns granted) (Stopped cover floor more)
-    → StopsPool region turns (Stopped cover floor sum)
-stops_all region None granted more sum floor cover within fits same stops = (let spent = stops.1 in absurd (cc))
-stops_all region (Some most) granted more sum floor cover within fits same stops = (
+pub stops_all : (region : Instance) (turns : Option ℕ) (granted sum : ℕ) (found : SoFar)
+    → IsWithin turns granted → IfSome turns (λ most. most < 2 ^ 64) → sum ≡ counted_sum (granted + found.granted)
+    → StopsGathering region (rest turns granted) (Stopped found)
+    → StopsPool region turns (Stopped (record { cover = found.cover; floor = found.floor; granted = sum }))
+stops_all region None granted sum found within fits same stops = (let spent = stops.1 in absurd (cc))
+stops_all region (Some most) granted sum found within fits same stops = (
   record { limited = refl; of_it = stops.0.of_it; some = stops.0.some; none_below = stops.0.none_below },
-  all_spent (Some most) granted more sum within fits stops.1 same,
+  all_spent (Some most) granted found.granted sum within fits stops.1 same,
 )

@@ -66,6 +66,7 @@ pub record IsMerged (region : Instance) (first : List ℕ) (aim workers : ℕ) (
 
 -- turns ran out: all that were given were taken
 abbrev pub StopsPool : Instance → Option ℕ → RegionFault → Type 0
-StopsPool region turns (Stopped cover floor granted) = IsStopped region turns cover floor × AreSpent turns granted
+StopsPool region turns (Stopped found) =
+    IsStopped region turns found.cover found.floor × AreSpent turns found.granted
 StopsPool region turns NoThread = Unit {0}
 StopsPool region turns OutOfMemory = Unit {0}

@@ -15,7 +15,7 @@ use crate::report::Report;
 use gathering::{Gathered, gather};
 use instance_regions::Cover;
 use plan_options::Workers;
-use search_traits::{Closer, RegionFault, SharedSearch, rest_of};
+use search_traits::{Closer, RegionFault, SharedSearch, SoFar, rest_of};
 use worker_results::Joined;
 
 /// Gathers what workers did, and closes what they left with the turns that are left.
@@ -44,17 +44,11 @@ pub(crate) fn merged<C: Closer>(
     let left = left.len() as u128;
     match gather(search, first, aim, works, rest_of(turns, granted)) {
         Ok(gathered) => Ok(report(gathered, counts, left, granted)),
-        Err(
-            RegionFault::Stopped {
-                cover,
-                floor,
-                turns: more,
-            },
-        ) => Err(RegionFault::Stopped {
-            cover,
-            floor,
-            turns: sum(granted, more),
-        }),
+        Err(RegionFault::Stopped(found)) => Err(RegionFault::Stopped(SoFar {
+            cover: found.cover,
+            floor: found.floor,
+            granted: sum(granted, found.granted),
+        })),
         Err(fault) => Err(fault),
     }
 }

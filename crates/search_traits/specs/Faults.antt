@@ -9,7 +9,7 @@ use Rattle.search_traits.specs.declared.region_fault.RegionFault.TheVariants as 
 -- what `workers` workers tell where they have no plan: turns are spent where the share of one of them is, and threads
 -- are wanted only by more than one
 abbrev pub StopsRegion : ℕ → Instance → Option ℕ → RegionFault → Type 0
-StopsRegion workers instance turns (region.Stopped cover floor granted) =
-    IsStopped instance turns cover floor × IsShareSpent workers turns granted
+StopsRegion workers instance turns (region.Stopped found) =
+    IsStopped instance turns found.cover found.floor × IsShareSpent workers turns found.granted
 StopsRegion workers instance turns region.NoThread = 1 < workers
 StopsRegion workers instance turns region.OutOfMemory = Unit {0}

@@ -15,6 +15,7 @@ mod proposer;
 mod region_fault;
 mod round_desk;
 mod shared_search;
+mod so_far;
 mod two_searches;
 mod worked;
 
@@ -30,6 +31,7 @@ pub use proposer::{Proposal, Proposer, Strategy, Task};
 pub use region_fault::{RegionFault, RegionPlan};
 pub use round_desk::RoundDesk;
 pub use shared_search::SharedSearch;
+pub use so_far::SoFar;
 pub use two_searches::{
     are_spent, first_of, rest_of, smaller_of, stopped, with_earlier, with_known,
 };

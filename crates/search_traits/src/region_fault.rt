@@ -3,8 +3,8 @@ ghost use Rattle.std.specs.Prelude.{◌≡◌};
 ghost use Rattle.search_traits.specs.declared.region_fault.RegionFault.TheVariants as region;
 
 use crate::planner::BestPlan;
+use crate::so_far::SoFar;
 use cave_model::OutOfMemory;
-use instance_regions::Cover;
 use std::alloc::AllocFailed;
 
 /// The plan of a region, or why it has none.
@@ -13,12 +13,8 @@ pub type RegionPlan = Result<BestPlan, RegionFault>;
 /// Why a region has no plan.
 #[derive(Drop)]
 pub enum RegionFault {
-    /// The turns were spent: the best cover so far, a size that no cover is below, and how many turns were granted.
-    Stopped {
-        cover: Cover,
-        floor: u64,
-        turns: u64,
-    },
+    /// The turns were spent: what was found until then.
+    Stopped(SoFar),
     /// No worker could be started.
     NoThread,
     OutOfMemory,

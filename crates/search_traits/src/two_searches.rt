@@ -9,6 +9,7 @@ ghost use Rattle.search_traits.specs.Turns.{AreSpent, IsShareSpent, IsWithin, re
 
 use crate::planner::BestPlan;
 use crate::region_fault::{RegionFault, RegionPlan};
+use crate::so_far::SoFar;
 use instance_regions::{Cover, Region};
 use std::sync::Arc;
 
@@ -83,17 +84,11 @@ pub fn with_earlier(
             proof: plan.proof,
             turns: plan.turns.saturating_add(granted),
         }),
-        Err(
-            RegionFault::Stopped {
-                cover,
-                floor,
-                turns: later,
-            },
-        ) => Err(RegionFault::Stopped {
-            cover,
-            floor,
-            turns: sum_of(turns, granted, later, workers),
-        }),
+        Err(RegionFault::Stopped(later)) => Err(RegionFault::Stopped(SoFar {
+            cover: later.cover,
+            floor: later.floor,
+            granted: sum_of(turns, granted, later.granted, workers),
+        })),
         Err(fault) => Err(fault),
     }
 }
@@ -113,17 +108,11 @@ pub fn with_known(
     ensures { IsRegionPlan _workers _turns (arc_value _region.now) result }
 {
     match plan {
-        Err(
-            RegionFault::Stopped {
-                cover: other,
-                floor: more,
-                turns,
-            },
-        ) => Err(RegionFault::Stopped {
-            cover: smaller_of(cover, Some(other)),
-            floor: floor.max(more),
-            turns,
-        }),
+        Err(RegionFault::Stopped(found)) => Err(RegionFault::Stopped(SoFar {
+            cover: smaller_of(cover, Some(found.cover)),
+            floor: floor.max(found.floor),
+            granted: found.granted,
+        })),
         plan => plan,
     }
 }
@@ -133,21 +122,15 @@ pub fn stopped(
     _region: &Arc<Region>, // for the proof
     _workers: u32, // for the proof
     _turns: Option<u64>, // for the proof
-    granted: u64,
-    cover: Cover,
-    floor: u64,
+    found: SoFar,
 ) -> RegionPlan
     requires some { 1 ≤ _workers }
-    requires spent { AreSpent _turns granted }
-    requires cover { cover.region ≡ arc_value _region.now }
-    requires floor { IsFloor (arc_value _region.now) floor }
+    requires spent { AreSpent _turns found.granted }
+    requires cover { found.cover.region ≡ arc_value _region.now }
+    requires floor { IsFloor (arc_value _region.now) found.floor }
     ensures { IsRegionPlan _workers _turns (arc_value _region.now) result }
 {
-    Err(RegionFault::Stopped {
-        cover,
-        floor,
-        turns: granted,
-    })
+    Err(RegionFault::Stopped(found))
 }
 
 /// The smaller of two covers, or the one that there is.

@@ -19,8 +19,8 @@ shared workers (Some most) granted some spent =
 
 stops_all : (workers : ℕ) (instance : Instance) (turns : Option ℕ) (fault : RegionFault) → 1 ≤ workers
     → StopsRegion 1 instance turns fault → StopsRegion workers instance turns fault
-stops_all workers instance turns (region.Stopped cover floor granted) some stops =
-    (stops.0, shared workers turns granted some stops.1)
+stops_all workers instance turns (region.Stopped found) some stops =
+    (stops.0, shared workers turns found.granted some stops.1)
 stops_all workers instance turns region.NoThread some stops = absurd (omega (arith, stops))
 stops_all workers instance turns region.OutOfMemory some stops = tt
 

@@ -36,7 +36,7 @@ fn fewest_of(
 ) -> Result<(u64, usize), Fail> {
     match plan_by_one::<Moves, Unobserved>(alloc, region, turns, &Unobserved) {
         Ok(plan) => Ok((plan.cover.size(), kids_of(&plan.proof))),
-        Err(RegionFault::Stopped { cover, floor, .. }) => Ok((cover.size(), floor as usize)),
+        Err(RegionFault::Stopped(found)) => Ok((found.cover.size(), found.floor as usize)),
         Err(_) => Err(AllocError.into()),
     }
 }

@@ -56,7 +56,7 @@ fn told(
     let plan = plan_by_one::<Moves, Turns>(alloc, region, turns, &seen);
     let granted = match &plan {
         Ok(plan) => plan.turns,
-        Err(RegionFault::Stopped { turns, .. }) => *turns,
+        Err(RegionFault::Stopped(found)) => found.granted,
         Err(_) => return Err(AllocError),
     };
     Ok((

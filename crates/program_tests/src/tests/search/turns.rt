@@ -87,16 +87,10 @@ fn end_of(alloc: Global, region: &Arc<Region>, turns: Option<u64>) -> Result<End
         Ok(plan) => Ok(End::Done {
             size: plan.cover.size(),
         }),
-        Err(
-            RegionFault::Stopped {
-                cover,
-                floor,
-                turns,
-            },
-        ) => Ok(End::Stopped {
-            size: cover.size(),
-            floor,
-            turns,
+        Err(RegionFault::Stopped(found)) => Ok(End::Stopped {
+            size: found.cover.size(),
+            floor: found.floor,
+            turns: found.granted,
         }),
         Err(_) => Err(AllocError),
     }

@@ -95,7 +95,7 @@ returns-in-Ok-clause-report g c =
 pub returns-in-Err-Stopped : goal.returns-in-Err-Stopped
 returns-in-Err-Stopped g c =
     let region = arc_value c.args.search.region.now in let turns = c.args.turns in let granted = c.args.ran.turns in
-    let cover = c.in-Err-Stopped.cover in let floor = c.in-Err-Stopped.floor in let more = c.in-Err-Stopped.more in
+    let found = c.in-Err-Stopped.found in
     let stops = subst (StopsGathering region (rest turns granted)) c.in-Err-Stopped.field-0-is
     (subst (λ (o : Option ℕ). StopsGathering region o c.in-Err-Stopped.field-0) c.rest_of.ensures
     c.in-Err-Stopped.ensures.stopped) in
@@ -103,8 +103,6 @@ returns-in-Err-Stopped g c =
       proved = tt;
       counts = tt;
       report = tt;
-      stopped = subst (λ (v : Covering × ℕ). StopsPool region turns (Stopped v.0 v.1 c.sum.result))
-          (λ i. (sym c.in-Err-Stopped.cover-is i, sym c.in-Err-Stopped.floor-is i))
-          (stops_all region turns granted more c.sum.result floor cover c.requires.ran.within c.requires.ran.fits
-          (c.sum.ensures ∙ ap (λ (n : ℕ). counted (granted + n)) c.in-Err-Stopped.more-is) stops);
+      stopped = stops_all region turns granted c.sum.result found c.requires.ran.within c.requires.ran.fits
+          c.sum.ensures stops;
     }

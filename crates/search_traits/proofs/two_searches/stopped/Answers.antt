@@ -14,6 +14,6 @@ returns c = record {
       some = c.requires.floor.positive;
       none_below = c.requires.floor.holds;
     },
-    all_spent c.args._workers c.args._turns c.args.granted c.requires.some c.requires.spent,
+    all_spent c.args._workers c.args._turns c.args.found.granted c.requires.some c.requires.spent,
   );
 }

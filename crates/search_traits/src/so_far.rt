@@ -1,4 +1,4 @@
-//! What earlier turns of a search came to.
+//! What the turns of a search came to.
 
 use instance_regions::Cover;
 
