@@ -17,14 +17,6 @@ impl Coverage {
         Ok(Coverage { lights, lit_by })
     }
 
-    /// A copy of the coverage.
-    pub fn copied(&self, alloc: Global) -> Result<Coverage, AllocError> {
-        Ok(Coverage {
-            lights: self.lights.copied(alloc)?,
-            lit_by: self.lit_by.copied(alloc)?,
-        })
-    }
-
     /// How many places there are.
     pub fn place_count(&self) -> usize {
         self.lights.count()

@@ -6,10 +6,11 @@ mod bits;
 mod coverage;
 mod dominance;
 mod lists;
+mod thin_rows;
 
 pub use bits::{
     Bits, bit_count, bits_of, clear_all, clear_bit, common_count, drop_all, has_each, is_clear,
-    is_part, is_set, join_into, keep_all, row_in, set_bit, words_around, words_from,
+    is_set, join_into, keep_all, set_bit, words_from,
 };
 pub use coverage::Coverage;
 pub use dominance::{
@@ -17,3 +18,4 @@ pub use dominance::{
     undominated_of_all,
 };
 pub use lists::{NumberLists, count_numbers, indices_of, small};
+pub use thin_rows::{ThinRow, ThinRows};
