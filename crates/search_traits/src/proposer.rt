@@ -67,9 +67,6 @@ pub trait Strategy: Proposer + Drop {
     /// Whether picks make shorter trees in the region than branches on cells, where a search gets long.
     fn is_for_picks(&self) -> bool;
 
-    /// About how many nodes are left of the round that it proposes for; none where nothing tells.
-    fn nodes_left(&self) -> Option<u64>;
-
     /// The tree of a node, or a shorter one, both by indices.
     fn shortened(
         &self,

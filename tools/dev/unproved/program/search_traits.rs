@@ -40,8 +40,6 @@ pub trait Strategy: Proposer + Sized {
 
     fn is_for_picks(&self) -> bool;
 
-    fn nodes_left(&self) -> Option<u64>;
-
     fn shortened(
         &self,
         alloc: Global,
