@@ -6,7 +6,6 @@ mod branching;
 mod covers;
 mod leaves;
 mod moves;
-mod progress;
 mod strategy;
 
 pub use moves::Moves;
