@@ -144,7 +144,8 @@ module _ (IsText : List ℕ → List ℕ → Type 0) (IsFault : List ℕ → Run
     begun = λ failed. absurd (unwritten e not_read failed);
     fault = λ of. long_input IsFault structure.before e not_read long of;
     refused = long_refused IsFault (λ due. (e ≡ due) ⊎ (e ≡ faults.ReadFailed) ⊎ (e ≡ faults.OutOfMemory))
-        structure.before e not_read long (λ due same. inl same) (λ failed due. inr (inl failed)) (λ none due. inr (inr none));
+        structure.before e not_read long (λ due same. inl same) (λ failed due. inr (inl failed))
+        (λ none due. inr (inr none));
     before = before;
   }
 
