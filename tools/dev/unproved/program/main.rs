@@ -1,34 +1,28 @@
-//! The search without its proofs: the crates that only propose, as rustc builds them, below stand-ins for the crates
-//! with contracts. It reads a cave's regions and writes how many torches they need, and the certificate.
+//! The search without its proofs: the crates of the planner, as rustc builds them. It reads a cave's regions and writes
+//! how many torches they need, and the certificate.
 
 #![feature(portable_simd)]
-mod cave_base;
-mod instance_regions;
-mod certificate;
 mod memory;
-mod pack_bound;
-mod proof_rules;
-mod proof_tree;
-mod search;
-mod search_traits;
-mod tree_judges;
+// The translation declares the crates at the end of this file.
 
-mod instance_reduction;
-mod number_lists;
-mod linear_relaxation;
-mod local_search;
-mod search_moves;
-mod tree_shaping;
-mod weighted_leaves;
-
-use instance_regions::{Region, add};
+use cave_base::VOID;
+use cave_model::{Rule, World};
+use certificate_text::write_certificate;
+use instance_regions::Region;
+use memory::{Arc, Global};
+use search_core::plan_by_one;
+use search_moves::Moves;
+use search_traits::{RegionFault, Unobserved};
+use set_cover::{Instance, add};
 use std::io::Read;
 
-/// Usage: unproved TURNS CERTIFICATE THREADS, with the regions on standard input as `run` writes them.
+const MEMORY: &str = "memory is never refused here";
+
+/// Usage: unproved TURNS CERTIFICATE, with the regions on standard input as `run` writes them. TURNS is a number, or
+/// `all`.
 fn main() {
     let words: Vec<String> = std::env::args().collect();
-    let limit = words[1].parse().expect("a number of turns");
-    let crew = search::Crew::new(words[3].parse().expect("a number of threads"));
+    let limit = (words[1] != "all").then(|| words[1].parse().expect("a number of turns"));
     let mut text = String::new();
     std::io::stdin()
         .read_to_string(&mut text)
@@ -38,28 +32,33 @@ fn main() {
     let [x, y, z, headroom, need, count] = next()[..] else {
         panic!("the first line has six numbers");
     };
-    let (mut version, mut least, mut most, mut turns) = (if need == 1 { 1 } else { 2 }, 0, 0, 0);
-    let mut body = String::new();
+    let (mut least, mut most, mut turns) = (0, 0, 0);
+    let mut parts = vec![];
     for _ in 0..count {
-        let region = region_of(&mut next);
-        let plan = search::plan(&region, limit, &crew);
-        least += plan.floor;
-        most += plan.places.len() as u64;
-        turns += plan.turns;
-        if let Some(tree) = plan.tree {
-            version = certificate::version(&tree).max(version);
-            body += &certificate::region_lines(&region, &plan.places, &tree);
+        let region = Arc::new(Global, region_of(&mut next)).expect(MEMORY);
+        match plan_by_one::<Moves, Unobserved>(Global, &region, limit, &Unobserved) {
+            Ok(plan) => {
+                least += plan.cover.size();
+                most += plan.cover.size();
+                turns += plan.turns;
+                parts.push((region, plan.cover, plan.proof));
+            }
+            Err(RegionFault::Stopped {
+                cover,
+                floor,
+                turns: granted,
+            }) => {
+                least += floor;
+                most += cover.size();
+                turns += granted;
+            }
+            Err(_) => panic!("{MEMORY}"),
         }
     }
-    let need = if version > 1 {
-        format!("need {need}\n")
-    } else {
-        String::new()
-    };
-    let head = format!(
-        "torchproof {version}\nbox {x} {y} {z}\nheadroom {headroom}\n{need}regions {count}\n"
-    );
-    let whole = format!("{head}{body}end\n");
+    let classes = memory::Vec(vec![VOID; (x * y * z) as usize]);
+    let world = World::new([x, y, z], classes, Rule::new(headroom as u8, need as u8));
+    let mut whole = vec![];
+    write_certificate(Global, &mut whole, &world, &parts).expect(MEMORY);
     println!(
         "{least} to {most} torches, {turns} turns, {} bytes",
         whole.len()
@@ -83,9 +82,7 @@ fn region_of(next: &mut impl FnMut() -> Vec<u32>) -> Region {
     for row in rows.chunks_mut(width) {
         next().iter().for_each(|cell| add(row, *cell as usize));
     }
-    Region {
-        cells: memory::Vec(cells),
-        places: memory::Vec(places),
-        rows,
-    }
+    let [cells, places] = [cells, places].map(memory::Vec);
+    let instance = Instance::new(cells, places, width, memory::Vec(rows));
+    Region::new(Global, instance).expect(MEMORY)
 }

@@ -1,4 +1,4 @@
-//! What std of the proved language has and that of Rust hasn't: vectors whose calls may be refused memory.
+//! What std of the proved language has and that of Rust hasn't: values whose calls may be refused memory.
 
 use std::ops::{Deref, DerefMut};
 
@@ -8,10 +8,20 @@ pub struct Global;
 #[derive(Debug)]
 pub struct AllocError;
 
+/// What couldn't be stored, handed back.
+pub struct AllocFailed<T>(T);
+
 #[derive(Debug)]
 pub struct Vec<T>(pub std::vec::Vec<T>);
 
+/// A text that grows.
+pub struct String(pub std::string::String);
+
+/// A value of its own on the heap.
+pub struct Box<T>(std::boxed::Box<T>);
+
 /// A value that several own.
+#[derive(Debug)]
 pub struct Arc<T>(std::sync::Arc<T>);
 
 impl<T> Arc<T> {
@@ -29,6 +39,65 @@ impl<T> Arc<T> {
 
     pub fn as_ref(&self) -> &T {
         &self.0
+    }
+}
+
+impl<T> Deref for Arc<T> {
+    type Target = T;
+
+    fn deref(&self) -> &T {
+        &self.0
+    }
+}
+
+impl String {
+    pub fn new(_: Global) -> String {
+        String(std::string::String::new())
+    }
+
+    pub fn push_str(&mut self, text: &str) -> Result<(), AllocError> {
+        self.0.push_str(text);
+        Ok(())
+    }
+
+    pub fn as_str(&self) -> &str {
+        &self.0
+    }
+
+    pub fn as_bytes(&self) -> &[u8] {
+        self.0.as_bytes()
+    }
+
+    pub fn len(&self) -> usize {
+        self.0.len()
+    }
+
+    pub fn clear(&mut self) {
+        self.0.clear();
+    }
+}
+
+impl<T> Box<T> {
+    pub fn new(_: Global, value: T) -> Result<Box<T>, AllocError> {
+        Ok(Box(std::boxed::Box::new(value)))
+    }
+
+    pub fn into_inner(value: Box<T>) -> T {
+        *value.0
+    }
+}
+
+impl<T> Deref for Box<T> {
+    type Target = T;
+
+    fn deref(&self) -> &T {
+        &self.0
+    }
+}
+
+impl<T> DerefMut for Box<T> {
+    fn deref_mut(&mut self) -> &mut T {
+        &mut self.0
     }
 }
 
@@ -114,13 +183,30 @@ impl<'a, T> IntoIterator for &'a Vec<T> {
     }
 }
 
-/// `vec![in alloc; ITEM; COUNT]`, which the scripts write so.
-macro_rules! filled {
-    ($item:expr; $count:expr) => {
-        Ok::<_, crate::memory::AllocError>(crate::memory::Vec(std::vec![$item; $count]))
+/// `collect(alloc)`, as the translation writes it.
+pub trait CollectIn: Iterator + Sized {
+    fn collect_in(self, _: Global) -> Result<Vec<Self::Item>, AllocError> {
+        Ok(Vec(self.collect()))
+    }
+}
+
+impl<I: Iterator> CollectIn for I {}
+
+/// `vec![in alloc; ..]`, as the translation writes it.
+macro_rules! vec_in {
+    ($($items:tt)*) => {
+        Ok::<_, crate::memory::AllocError>(crate::memory::Vec(std::vec![$($items)*]))
     };
 }
-pub(crate) use filled;
+pub(crate) use vec_in;
+
+/// `format!(in alloc; ..)`, as the translation writes it.
+macro_rules! format_in {
+    ($($words:tt)*) => {
+        Ok::<_, crate::memory::AllocError>(crate::memory::String(std::format!($($words)*)))
+    };
+}
+pub(crate) use format_in;
 
 pub fn nearest_i64_to_f32(number: i64) -> f32 {
     number as f32
