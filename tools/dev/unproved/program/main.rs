@@ -43,14 +43,10 @@ fn main() {
                 turns += plan.turns;
                 parts.push((region, plan.cover, plan.proof));
             }
-            Err(RegionFault::Stopped {
-                cover,
-                floor,
-                turns: granted,
-            }) => {
-                least += floor;
-                most += cover.size();
-                turns += granted;
+            Err(RegionFault::Stopped(found)) => {
+                least += found.floor;
+                most += found.cover.size();
+                turns += found.granted;
             }
             Err(_) => panic!("{MEMORY}"),
         }
