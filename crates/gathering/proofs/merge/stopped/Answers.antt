@@ -18,5 +18,5 @@ returns c =
         some = floor.0;
         none_below = floor.1;
       },
-      c.requires.spent ∙ ap (λ (n : ℕ). Some n) (sym c.granted-turns.ensures.count),
+      c.requires.spent ∙ ap (λ (n : ℕ). Some n) (sym c.granted-granted.ensures.count),
     )
