@@ -7,6 +7,7 @@ use Rattle.search_traits.specs.Turns.{IsWithin, rest}
 use Rattle.gathering.specs.Gathered.{IsGathered, StopsGathering}
 use Rattle.schedule_law.specs.Worked.{Worked}
 use Rattle.search_traits.specs.declared.region_fault.RegionFault.TheVariants.{Stopped}
+use Rattle.search_traits.specs.declared.so_far.SoFar.{SoFar}
 use Rattle.search_pool.specs.Reports.{StopsPool, sum_of}
 use Rattle.search_pool.specs.Rows.{counted}
 use Rattle.search_pool.specs.Tallies.{AreTallied}
@@ -103,6 +104,9 @@ returns-in-Err-Stopped g c =
       proved = tt;
       counts = tt;
       report = tt;
-      stopped = stops_all region turns granted c.sum.result found c.requires.ran.within c.requires.ran.fits
-          c.sum.ensures stops;
+      stopped = subst (λ (f : SoFar).
+          StopsPool region turns (Stopped (record { cover = f.cover; floor = f.floor; granted = c.sum.result })))
+          (sym c.in-Err-Stopped.found-is) (stops_all region turns granted c.sum.result found c.requires.ran.within
+          c.requires.ran.fits (c.sum.ensures ∙ ap (λ (f : SoFar). counted (granted + f.granted)) c.in-Err-Stopped.found-is)
+          stops);
     }
