@@ -7,7 +7,7 @@ ghost use Rattle.search_pool.specs.Rows.{AreFrom};
 ghost use Rattle.worker_results.specs.Naming.{AreThieves};
 
 use crate::unrun::Unrun;
-use crate::worker::{Common, Post, Slot, take_from, work_one};
+use crate::worker::{Common, Post, Slot, work_one};
 use search_traits::{Closer, Observer};
 use std::sync::Wait;
 use std::thread;
@@ -34,6 +34,19 @@ fn in_front<B: Naming>(done: Done<B>, mut others: Vec<Done<B>>) -> Result<Vec<Do
 {
     others.insert(0, done)?;
     Ok(others)
+}
+
+/// The result of a worker that could not be started, if its slot holds what is its.
+fn idle<B: Naming, R: Wait>(rt: &R, slot: &Slot<B>, post: Post) -> Option<Done<B>>
+    ensures { IfSome result (λ done. done.holdings.worker ≡ post.worker) }
+{
+    let Some(berth) = slot.lock(rt).take() else {
+        return None;
+    };
+    if berth.worker() != post.worker {
+        return None;
+    }
+    Some(berth.idle())
 }
 
 /// Starts a worker for each slot, one after another, and joins them, the last first. A worker that can't be started
@@ -82,7 +95,7 @@ where
     )?;
     let done = match child {
         Ok(child) => child.join(rt),
-        Err(_) => take_from(rt, slot, post),
+        Err(_) => idle(rt, slot, post),
     };
     match done {
         Some(done) => in_front(done, others),

@@ -14,7 +14,7 @@ use beacon::{Beacon, Seat};
 use piece_deque::Owner;
 use std::alloc::{AllocError, Global};
 use std::sync::Mutex;
-use worker_results::{Done, Holdings, Naming, Own, PassAt, PassRow};
+use worker_results::{Berth, Holdings, Naming, Own, PassAt, PassRow};
 
 /// The first seat, and those that were split off.
 #[derive(Drop)]
@@ -132,8 +132,8 @@ pub(crate) fn fill<B: Naming>(
         let (Some(row), Some(seat)) = (rows.pop(), seats.pop()) else {
             return Err(AllocError);
         };
-        let done = Done::new(seat, None, Holdings::new(alloc, own, row));
-        slots.push(Mutex::new(Some(done)))?;
+        let berth = Berth::new(seat, Holdings::new(alloc, own, row));
+        slots.push(Mutex::new(Some(berth)))?;
     }
     Ok(slots)
 }

@@ -1,5 +1,5 @@
-//! What a worker hands over once it is done, and what waits for it before it starts: `Handed` of specs/Results.antt.
-//! What it promises is `IsHandedIn` there.
+//! What a worker hands over once it is done: `Handed` of specs/Results.antt. What it promises is `IsHandedIn`
+//! there.
 ghost use Rattle.std.specs.Prelude.{◌≡◌, IfSome};
 ghost use Rattle.schedule_law.specs.Worked.{IsCoverFor};
 ghost use Rattle.worker_results.specs.Parting.{AreResultParts};
@@ -79,28 +79,17 @@ impl<B: Naming> Done<B> {
         self.holdings.worker()
     }
 
-    /// The seat, the cover and the holdings, with which a worker goes on.
-    pub fn resume(self) -> (Seat, Option<Cover>, Holdings<B>)
-        ensures seat { IsSeatAt B.beacon result.0 × (result.0.knows ≡ self.knows) }
-        ensures cover { (result.1 ≡ self.cover) × IfSome result.1 (IsCoverFor B.region) }
-        ensures kept { KeepsTold result.1 result.0.knows.told }
-        ensures holdings { (result.2 ≡ self.holdings) × AreClosedFrom B.region self.knows.seen result.2.closed }
-    {
-        let Done {
-            seat,
-            cover,
-            holdings,
-        } = self;
-        (seat, cover, holdings)
-    }
-
     /// All that it hands over.
     pub(crate) fn into_parts(self) -> Parts<B>
         ensures seat { (result.seat.beacon ≡ B.beacon) × (result.seat.knows ≡ self.knows) }
         ensures parts { AreResultParts B.region B.start B.workers self
             result.own result.passes result.work }
     {
-        let (seat, cover, holdings) = self.resume();
+        let Done {
+            seat,
+            cover,
+            holdings,
+        } = self;
         let (own, passes, work) = holdings.into_parts(cover);
         Parts {
             seat,

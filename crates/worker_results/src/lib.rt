@@ -2,6 +2,7 @@
 //! (specs/Holdings.antt, specs/Joining.antt): each piece was opened, closed, handed back or left in a deque, just once.
 #![tactic(auto)]
 
+mod berth;
 mod deques;
 mod done;
 mod draining;
@@ -18,6 +19,7 @@ mod step;
 mod taking;
 mod working;
 
+pub use berth::Berth;
 pub use done::Done;
 pub use holdings::Holdings;
 pub use joined::{Joined, close_up};

@@ -3,7 +3,7 @@
 ghost use Rattle.std.specs.Arc.{arc_value};
 ghost use Rattle.std.specs.Prelude.{◌≡◌, None, Some, IfSome, if◌then◌else◌};
 ghost use Rattle.schedule_law.specs.Worked.{IsCoverFor};
-ghost use Rattle.worker_results.specs.Results.{IsSeatAt, KeepsTold, one_more, state_of};
+ghost use Rattle.worker_results.specs.Results.{IsNewSeatAt, IsSeatAt, KeepsTold, one_more, state_of};
 
 use crate::naming::Naming;
 use beacon::{Beacon, Seat};
@@ -49,22 +49,19 @@ impl<'a, B: Naming> Model for PoolDesk<'a, B> {
 }
 
 impl<'a, B: Naming> PoolDesk<'a, B> {
-    /// A desk with this seat and cover, which grants any number of turns, or, where they are limited, as many as it is
-    /// allowed.
+    /// A desk that grants any number of turns, or, where they are limited, as many as it is allowed.
     pub fn new(
         beacon: &'a Beacon,
         region: &'a Arc<Region>,
         seat: Seat,
-        cover: Option<Cover>,
         is_limited: bool,
     ) -> PoolDesk<'a, B>
         requires places { (beacon.now ≡ B.beacon) × (arc_value region.now ≡ B.region) }
-        requires seat { IsSeatAt B.beacon seat }
-        requires cover { KeepsTold cover seat.knows.told × IfSome cover (IsCoverFor B.region) }
+        requires seat { IsNewSeatAt B.beacon seat }
         ensures { result ≡ record {
           region = B.region;
           knows = seat.knows;
-          cover = cover;
+          cover = None;
           limit = if is_limited then Some 0 else None;
           granted = 0;
         } }
@@ -73,7 +70,7 @@ impl<'a, B: Naming> PoolDesk<'a, B> {
             beacon,
             region,
             seat,
-            cover,
+            cover: None,
             limit: if is_limited { Some(0) } else { None },
             granted: 0,
             of: PhantomData,

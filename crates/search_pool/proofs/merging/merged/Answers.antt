@@ -104,9 +104,6 @@ returns-in-Err-Stopped g c =
       proved = tt;
       counts = tt;
       report = tt;
-      stopped = subst (λ (f : SoFar).
-          StopsPool region turns (Stopped (record { cover = f.cover; floor = f.floor; granted = c.sum.result })))
-          (sym c.in-Err-Stopped.found-is) (stops_all region turns granted c.sum.result found c.requires.ran.within
-          c.requires.ran.fits (c.sum.ensures ∙ ap (λ (f : SoFar). counted (granted + f.granted)) c.in-Err-Stopped.found-is)
-          stops);
+      stopped = rw c.in-Err-Stopped.field-0-is (stops_all region turns granted c.sum.result found
+          c.requires.ran.within c.requires.ran.fits (rw c.in-Err-Stopped.field-0-is at c.sum.ensures) stops);
     }
