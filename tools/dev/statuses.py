@@ -9,6 +9,8 @@ USAGE = "error: a word of the command line isn't UTF-8\n"
 MEMORY = 48 << 20
 # A line about a plan: the region, how many there are, the floor, the size, and the turns.
 TURNS = re.compile(r"torchplan: region (\d+) of (\d+): (\d+) to (\d+) torches, turn (\d+)")
+# The line behind them.
+ENDED = "torchplan: search ended, with at most {} turns for a region"
 # How many turns each region of the slow cave may take. It needs more, and these take seconds.
 MANY_TURNS = 500
 # Within this number of seconds each region has a line.
@@ -80,7 +82,7 @@ def is_right(region, regions, floor, size, turn):
 
 def try_progress(cases):
     """The lines about a plan of some seconds: at most one a second, with a floor below the size, and of a region ever
-    more turns, within the limit."""
+    more turns, within the limit; and one more with the turns of a region that used them up."""
     words = ["plan", cases.path("slow.nbt"), "--rule", "1.17", "--turns", str(MANY_TURNS)]
     began = time.monotonic()
     ended = cases.run([*words, "--progress"])
@@ -89,8 +91,9 @@ def try_progress(cases):
     if took < FEW_SECONDS:
         cases.left_out("the lines about it", f"it took {took:.1f} s alone")
         return
-    lines = ended.stderr.decode(errors="replace").splitlines()
+    *lines, last = ended.stderr.decode(errors="replace").splitlines() or [""]
     seen = [] if 2 <= len(lines) <= took + 1 else [f"{len(lines)} lines in {took:.1f} s"]
+    seen += [] if last == ENDED.format(MANY_TURNS) else [last]
     told = [TURNS.fullmatch(line) for line in lines]
     seen += [line for line, each in zip(lines, told) if not (each and is_right(*map(int, each.groups())))]
     order = [(int(each.group(1)), int(each.group(5))) for each in told if each]
