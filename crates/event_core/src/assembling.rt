@@ -17,14 +17,7 @@ pub(crate) fn is_done(node: &PieceNode) -> bool
         PieceNode::Waiting => false,
         PieceNode::Held(_) => false,
         PieceNode::Closed { .. } => true,
-        PieceNode::Opened {
-            bars: _,
-            on: _,
-            places: _,
-            kids,
-            trees: _,
-            boxes: _,
-        } => are_done(kids.as_slice()),
+        PieceNode::Opened { kids, .. } => are_done(kids.as_slice()),
     }
 }
 

@@ -1,5 +1,5 @@
 //! The steps from an opened piece to its kids: `steps_on` of proof_tree.
-ghost use Rattle.std.specs.Prelude.{◌≡◌, ◌<◌, [], ◌∷◌, ◌++◌, length, slice_index, take, IfOk};
+ghost use Rattle.std.specs.Prelude.{◌≡◌, ◌<◌, ◌++◌, length, IfOk};
 ghost use Rattle.proof_tree.specs.Bars.{places_of};
 ghost use Rattle.proof_tree.specs.Opened.{step_at, steps_on};
 
@@ -28,39 +28,9 @@ pub(crate) fn with_bars(places: Vec<Cell>, bars: &[Bar]) -> Result<Vec<Cell>, Al
     Ok(more)
 }
 
-/// The places with one more.
-fn with_one(mut places: Vec<Cell>, place: Cell) -> Result<Vec<Cell>, AllocError>
-    ensures { IfOk result (λ more. more.items ≡ places.items ++ place ∷ []) }
-{
-    places.push(place)?;
-    Ok(places)
-}
-
-/// The places with that of this number too.
-fn with_that(places: Vec<Cell>, others: &[Cell], number: usize) -> Result<Vec<Cell>, AllocError>
-    requires { number < length others.now }
-    ensures { IfOk result (λ more. more.items ≡ places.items ++ slice_index others.now number ∷ []) }
-{
-    let more = with_one(places, others[number])?;
-    Ok(more)
-}
-
-/// The places with those before this number too.
-fn with_those_before(
-    mut places: Vec<Cell>,
-    others: &[Cell],
-    number: usize,
-) -> Result<Vec<Cell>, AllocError>
-    requires { number < length others.now }
-    ensures { IfOk result (λ more. more.items ≡ places.items ++ take number others.now) }
-{
-    places.extend_from_slice(&others[..number])?;
-    Ok(places)
-}
-
 /// The chosen places with those of the kid with this number.
 pub(crate) fn with_chosen(
-    chosen: Vec<Cell>,
+    mut chosen: Vec<Cell>,
     on: Branching,
     places: &[Cell],
     number: usize,
@@ -70,22 +40,22 @@ pub(crate) fn with_chosen(
 {
     match on {
         Branching::Cell(_) => {
-            let more = with_that(chosen, places, number)?;
-            Ok(more)
+            chosen.push(places[number])?;
+            Ok(chosen)
         }
         Branching::Place(place) => {
             if number != 0 {
                 return Ok(chosen);
             }
-            let more = with_one(chosen, place)?;
-            Ok(more)
+            chosen.push(place)?;
+            Ok(chosen)
         }
     }
 }
 
 /// The barred places with those of the kid with this number.
 pub(crate) fn with_barred(
-    barred: Vec<Cell>,
+    mut barred: Vec<Cell>,
     on: Branching,
     places: &[Cell],
     number: usize,
@@ -95,15 +65,15 @@ pub(crate) fn with_barred(
 {
     match on {
         Branching::Cell(_) => {
-            let more = with_those_before(barred, places, number)?;
-            Ok(more)
+            barred.extend_from_slice(&places[..number])?;
+            Ok(barred)
         }
         Branching::Place(place) => {
             if number != 1 {
                 return Ok(barred);
             }
-            let more = with_one(barred, place)?;
-            Ok(more)
+            barred.push(place)?;
+            Ok(barred)
         }
     }
 }

@@ -1,6 +1,5 @@
 //! Taking a piece, and leaving it.
-ghost use Rattle.std.specs.Prelude.{◌≡◌, ◌↔◌, IfOk, OnErr, IsTrue};
-ghost use Rattle.event_core.specs.Events.{MayLeave, MayTake};
+ghost use Rattle.std.specs.Prelude.{◌≡◌, IfOk, OnErr};
 ghost use Rattle.event_core.specs.Kept.{IsKept, StepsTo, state_of};
 ghost use Rattle.event_core.specs.Tracing.{IsStanding};
 ghost use Rattle.event_core.specs.declared.event.Event.TheVariants.{Leave, Take};
@@ -16,12 +15,18 @@ impl Core {
         ensures done { IfOk result (StepsTo self.old (Take worker name.now) self.new) }
         ensures err { OnErr result (self.new ≡ self.old) }
     {
-        let may = self.may_take(worker, name)?;
-        if !may {
+        let standing = self.standing(name)?;
+        if !self.has_worker(worker) {
             return Ok(false);
         }
-        self.turn(name, PieceNode::Held(worker));
-        Ok(true)
+        match standing {
+            Standing::Waiting => {
+                self.turn(name, PieceNode::Held(worker));
+                Ok(true)
+            }
+            Standing::Held(_) => Ok(false),
+            Standing::Past => Ok(false),
+        }
     }
 
     /// A worker leaves the piece of this name.
@@ -29,40 +34,19 @@ impl Core {
         ensures done { IfOk result (StepsTo self.old (Leave worker name.now) self.new) }
         ensures err { OnErr result (self.new ≡ self.old) }
     {
-        let may = self.may_leave(worker, name)?;
-        if !may {
-            return Ok(false);
-        }
-        self.turn(name, PieceNode::Waiting);
-        Ok(true)
-    }
-
-    fn may_take(&self, worker: u32, name: &[u32]) -> Result<bool, AllocError>
-        ensures may { IfOk result (λ may. IsTrue may ↔ MayTake (state_of self.now) worker name.now) }
-        ensures kept { IsKept self.now }
-    {
-        let standing = self.standing(name)?;
-        if !self.has_worker(worker) {
-            return Ok(false);
-        }
-        match standing {
-            Standing::Waiting => Ok(true),
-            Standing::Held(_) => Ok(false),
-            Standing::Past => Ok(false),
-        }
-    }
-
-    fn may_leave(&self, worker: u32, name: &[u32]) -> Result<bool, AllocError>
-        ensures may { IfOk result (λ may. IsTrue may ↔ MayLeave (state_of self.now) worker name.now) }
-        ensures kept { IsKept self.now }
-    {
         let standing = self.standing(name)?;
         if !self.has_worker(worker) {
             return Ok(false);
         }
         match standing {
             Standing::Waiting => Ok(false),
-            Standing::Held(by) => Ok(by == worker),
+            Standing::Held(by) => {
+                if by != worker {
+                    return Ok(false);
+                }
+                self.turn(name, PieceNode::Waiting);
+                Ok(true)
+            }
             Standing::Past => Ok(false),
         }
     }

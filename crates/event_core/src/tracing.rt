@@ -59,8 +59,7 @@ pub(crate) fn trace(
             on,
             places,
             kids,
-            trees: _,
-            boxes: _,
+            ..
         } => {
             let number = *first as usize;
             let places = places.as_slice();

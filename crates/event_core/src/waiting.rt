@@ -78,14 +78,7 @@ fn add_names(node: &PieceNode, name: &Name, mut names: Vec<Name>) -> Result<Vec<
         }
         PieceNode::Held(_) => Ok(names),
         PieceNode::Closed { .. } => Ok(names),
-        PieceNode::Opened {
-            bars: _,
-            on: _,
-            places: _,
-            kids,
-            trees: _,
-            boxes: _,
-        } => {
+        PieceNode::Opened { kids, .. } => {
             let names = add_below(kids.as_slice(), name, names)?;
             Ok(names)
         }

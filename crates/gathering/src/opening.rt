@@ -3,8 +3,7 @@
 ghost use Rattle.std.specs.Prelude.{◌≡◌, ◌<◌, ◌+◌, ◌^◌, length, IfOk};
 ghost use Rattle.event_core.specs.Kept.{state_of};
 ghost use Rattle.event_core.specs.Plays.{Plays};
-ghost use Rattle.gathering.specs.Playing.{tries, tries_as_long, tries_before_closes, tries_below};
-ghost use Rattle.gathering.specs.Playing.{tries_one, tries_open};
+ghost use Rattle.gathering.specs.Playing.{tries, tries_as_long, tries_before_closes, tries_below, tries_one};
 ghost use Rattle.schedule_law.specs.Joined.{all_opened};
 ghost use Rattle.schedule_law.specs.Listing.{longest_name, looks, offer_of, offers, opening_of};
 
@@ -110,7 +109,7 @@ fn open_each(
     Ok(())
 }
 
-/// A worker opens the piece if its name has this length.
+/// A worker takes the piece, opens it, and leaves it where it could not be opened, if its name has this length.
 fn open_one(
     alloc: Global,
     core: &mut Core,
@@ -121,19 +120,10 @@ fn open_one(
     ensures { IfOk result (λ _.
         Plays (state_of core.old) (tries_one size worker split.now) (state_of core.new)) }
 {
-    if split.piece().name().as_slice().len() != size {
+    let name = split.piece().name();
+    if name.as_slice().len() != size {
         return Ok(());
     }
-    try_open(alloc, core, worker, split)?;
-    Ok(())
-}
-
-/// A worker takes a piece, opens it, and leaves it where it could not be opened.
-fn try_open(alloc: Global, core: &mut Core, worker: u32, split: &Opened) -> Result<(), AllocError>
-    ensures { IfOk result (λ _.
-        Plays (state_of core.old) (tries_open worker split.now) (state_of core.new)) }
-{
-    let name = split.piece().name();
     core.step(Event::Take(worker, name.try_clone()?))?;
     core.step(opening(alloc, split)?)?;
     core.step(Event::Leave(worker, name.try_clone()?))?;

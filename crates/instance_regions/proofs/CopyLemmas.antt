@@ -1,88 +1,42 @@
 -- Rows are copied, cell by cell and place by place.
-use Rattle.std.proofs.Common.{◌≡◌, ℕ, ◌+◌, ◌*◌, ◌<◌, ◌≤◌, List, length, slice_index, Contains, refl, sym, ap, subst}
-use Rattle.std.proofs.Common.{◌∙◌, ◌⊎◌, arith, inl, inr, mul-le-mul_left}
-use Rattle.std.specs.Prelude.{◌↔◌}
+use Rattle.std.proofs.Common.{◌≡◌, ℕ, ◌+◌, ◌<◌, List, [], ◌∷◌, ◌++◌, length, slice_index, All}
+use Rattle.std.proofs.Common.{refl, sym, ap, subst, ◌∙◌, arith, inl, inr}
 use Rattle.std.proofs.lemmas.Bool.{cases_lt}
-use Rattle.set_cover.specs.Bits.{IsWith}
+use Rattle.std.proofs.lemmas.List.{get_or_append_left, get_or_push, length_push, get_or_default}
+use Rattle.std.proofs.lemmas.List.Elements.{Contains-push, Contains-push_cases, Contains-append_left}
+use Rattle.set_cover.specs.Bits.{IsRowOf, IsWith}
 use Rattle.set_cover.specs.Buckets.{bucket}
 use Rattle.set_cover.specs.Instance.{words_for}
 use Rattle.set_cover.specs.Sparse.{Sparse, ListsAt}
+use Rattle.set_cover.proofs.ListLemmas.{none_in}
 use Rattle.set_cover.proofs.OrderLemmas.{element_at, element_of}
-use Rattle.instance_regions.specs.Restricting.{IsSelfContained, Moves, Copies, HasRoom, AreCopied, AreRanks, AreEmpty}
+use Rattle.instance_regions.specs.Restricting.{IsSelfContained, IsOfRanks, HaveRanks, IsCopied, AreCopied, AreRanks}
 
 -- ---- one row
 
--- one number more is moved
-pub moves_more : (old : List ℕ) (Kind More : ℕ → Type 0) (moved : ℕ → ℕ) (new next : List ℕ) (added : ℕ)
-    → ((number : ℕ) → More number ↔ (Kind number ⊎ (number ≡ added))) → IsWith new (moved added) next
-    → Moves old Kind moved new → Moves old More moved next
-moves_more old Kind More moved new next added is more s = record {
+-- a row without bits has the ranks of no cell
+pub ranks_none : (ranks row : List ℕ) (width : ℕ) → length row ≡ width → IsRowOf [] row → IsOfRanks [] ranks width row
+ranks_none ranks row width long none = record {
+  whole = long;
+  exact = λ bit. (λ h. none_in bit ((none.exact bit).0 h), λ of. none_in of.0 of.1);
+}
+
+-- one cell more
+pub ranks_push : (cells ranks row new : List ℕ) (width cell : ℕ) → IsOfRanks cells ranks width row
+    → IsWith row (slice_index ranks cell) new → IsOfRanks (cells ++ cell ∷ []) ranks width new
+ranks_push cells ranks row new width cell s more = record {
   whole = more.whole ∙ s.whole;
   exact = λ bit. (
-    λ h. (elim ((more.exact bit).0 h) [
-      | inl had ↦ (elim ((s.exact bit).0 had) [
-        | inl was ↦ inl was
-        | inr copy ↦ inr (record { from = copy.from; had = (is copy.from).1 (inl copy.had); there = copy.there })
-      ])
-      | inr e ↦ inr (record { from = added; had = (is added).1 (inr refl); there = e })
-    ]),
-    λ h. (more.exact bit).1 (elim h [
-      | inl was ↦ inl ((s.exact bit).1 (inl was))
-      | inr copy ↦ (elim ((is copy.from).0 copy.had) [
-        | inl had ↦ inl ((s.exact bit).1 (inr (record { from = copy.from; had = had; there = copy.there })))
-        | inr same ↦ inr (copy.there ∙ ap moved same)
-      ])
+    λ h. elim ((more.exact bit).0 h) [
+      | inl was ↦ (let of = (s.exact bit).0 was in (of.0, Contains-append_left cells (cell ∷ []) of.0 of.1, of.2))
+      | inr e ↦ (cell, Contains-push cells cell, e)
+    ],
+    λ of. (more.exact bit).1 (elim (Contains-push_cases cells cell of.0 of.1) [
+      | inl was ↦ inl ((s.exact bit).1 (of.0, was, of.2))
+      | inr same ↦ inr (of.2 ∙ ap (slice_index ranks) (sym same))
     ]),
   );
 }
-
--- numbers of a kind are those of a kind that says no more and no less
-pub moves_as : (old : List ℕ) (Kind Other : ℕ → Type 0) (moved : ℕ → ℕ) (new : List ℕ)
-    → ((number : ℕ) → Kind number ↔ Other number) → Moves old Kind moved new → Moves old Other moved new
-moves_as old Kind Other moved new is s = record {
-  whole = s.whole;
-  exact = λ bit. (
-    λ h. (elim ((s.exact bit).0 h) [
-      | inl was ↦ inl was
-      | inr copy ↦ inr (record { from = copy.from; had = (is copy.from).0 copy.had; there = copy.there })
-    ]),
-    λ h. (s.exact bit).1 (elim h [
-      | inl was ↦ inl was
-      | inr copy ↦ inr (record { from = copy.from; had = (is copy.from).1 copy.had; there = copy.there })
-    ]),
-  );
-}
-
--- the item is one of the first `count` in the list
-abbrev pub IsEarly : List ℕ → ℕ → ℕ → Type 0
-IsEarly items count item = (k : ℕ) × (k < count) × (slice_index items k ≡ item)
-
--- after the last it is any of the list
-pub early_all : (items : List ℕ) (count item : ℕ) → count ≡ length items → IsEarly items count item
-    ↔ Contains items item
-early_all items count item all = (
-  λ is. element_of items item is.0 (omega (arith, is.1, all)) is.2,
-  λ has. (has.0, omega (arith, has.1, all), element_at items item has),
-)
-
--- ---- all rows
-
--- a bit stands in one row, at one cell
-pub same_row : (width p q c d : ℕ) → c < 64 * width → d < 64 * width → 64 * (p * width) + c ≡ 64 * (q * width) + d
-    → (p ≡ q) × (c ≡ d)
-same_row width p q c d small_c small_d e = elim (cases_lt p q) [
-  | inl lt ↦ (let more : width * (p + 1) ≤ width * q = mul-le-mul_left width (omega arith) in absurd (omega arith))
-  | inr le ↦ elim (cases_lt q p) [
-    | inl lt ↦ (let more : width * (q + 1) ≤ width * p = mul-le-mul_left width (omega arith) in absurd (omega arith))
-    | inr ge ↦ (let same : p ≡ q = omega arith in
-        (same, (let rows : p * width ≡ q * width = ap (λ (n : ℕ). n * width) same in omega arith)))
-  ]
-]
-
--- a row's end is within those of all rows
-pub row_room : (rows width row : ℕ) → row < rows → 64 * (row * width) + 64 * width ≤ 64 * (rows * width)
-row_room rows width row lt = (let more : width * (row + 1) ≤ width * rows = mul-le-mul_left width (omega arith) in
-    omega arith)
 
 module _ (sparse : Sparse) (own placed ranks : List ℕ) (closed : IsSelfContained sparse own placed)
     (ranked : AreRanks sparse own ranks) where
@@ -96,62 +50,54 @@ module _ (sparse : Sparse) (own placed ranks : List ℕ) (closed : IsSelfContain
       let rank : slice_index ranks cell ≡ has.0 = sym (ap (slice_index ranks) at) ∙ ranked.listed has.0 has.1 in
       (omega (arith, rank, has.1), ap (slice_index own) rank ∙ at)
 
-  -- the words have room for the next row
-  pub has_room : (words : List ℕ) (row base : ℕ) → row < length placed → base ≡ 64 * (row * words_for (length own))
-      → length words ≡ length placed * words_for (length own)
-      → HasRoom (bucket sparse.lit (slice_index placed row)) ranks base words
-  has_room words row base h e whole = record {
-    each = λ bit lit. (let r = rank_of row bit h lit in
-        let inside = closed.cells.inside (slice_index ranks bit) 0 r.0 in
-        let in_row : 64 * (row * words_for (length own)) + 64 * words_for
-        (length own) ≤ 64 * (length placed * words_for (length own)) = row_room (length placed)
-        (words_for (length own)) row h in
-        (omega (arith, inside, r.1, ranked.whole), omega (arith, r.0, in_row, e, whole)));
+  -- what the next place lights has ranks
+  pub have_ranks : (row : ℕ) → row < length placed
+      → HaveRanks (bucket sparse.lit (slice_index placed row)) ranks (words_for (length own))
+  have_ranks row h = record {
+    each = λ cell lit. (let r = rank_of row cell h lit in
+        let inside = closed.cells.inside (slice_index ranks cell) 0 r.0 in
+        (omega (arith, inside, r.1, ranked.whole), omega (arith, r.0)));
   }
 
-  -- the next row was copied to its place
-  pub copied_more : (words next : List ℕ) (row base : ℕ) → row < length placed
-      → base ≡ 64 * (row * words_for (length own))
-      → Copies words (bucket sparse.lit (slice_index placed row)) ranks base next
-      → AreCopied sparse own placed (words_for (length own)) row words → AreCopied sparse own placed
-      (words_for (length own)) (row + 1) next
-  copied_more words next row base h e copies s = record {
-    whole = copies.whole ∙ s.whole;
-    exact = λ place cell inside small. (
-      λ has. (elim ((copies.exact (64 * (place * width) + cell)).0 has) [
-        | inl was ↦ (let b = (s.exact place cell inside small).0 was in (omega (arith, b.0), b.1, b.2))
-        | inr copy ↦ (let r = rank_of row copy.from h copy.had in
-            let same = same_row width place row cell (slice_index ranks copy.from) small (omega (arith, r.0))
-            (copy.there ∙ ap (λ (n : ℕ). n + slice_index ranks copy.from) e) in
-            let at : copy.from ≡ slice_index own cell = sym r.1 ∙ ap (slice_index own) (sym same.1) in (
-              omega (arith, same.0),
-              omega (arith, same.1, r.0),
-              subst (λ (p : ℕ). ListsAt sparse (slice_index placed p) (slice_index own cell)) (sym same.0)
-                  (subst (λ (c : ℕ). ListsAt sparse (slice_index placed row) c) at copy.had),
-            ))
-      ]),
-      λ b. (copies.exact (64 * (place * width) + cell)).1 (elim (cases_lt place row) [
-        | inl lt ↦ inl ((s.exact place cell inside small).1 (lt, b.1, b.2))
-        | inr le ↦ (let same : place ≡ row = omega (arith, b.0) in
-            let rank = ranked.listed cell b.1 in
-            let rows : place * width ≡ row * width = ap (λ (p : ℕ). p * width) same in
-            inr (record {
-              from = slice_index own cell;
-              had = subst (λ (p : ℕ). ListsAt sparse (slice_index placed p) (slice_index own cell)) same b.2;
-              there = omega (arith, rank, e, rows);
-            }))
-      ]),
+  -- the row of these ranks is that of the place
+  pub row_copied : (row width : ℕ) (words : List ℕ) → row < length placed
+      → IsOfRanks (bucket sparse.lit (slice_index placed row)) ranks width words
+      → IsCopied sparse own width (slice_index placed row) words
+  row_copied row width words h is = record {
+    whole = is.whole;
+    exact = λ cell. (
+      λ has. (let of = (is.exact cell).0 has in let r = rank_of row of.0 h of.1 in (
+        omega (arith, r.0, of.2),
+        subst (ListsAt sparse (slice_index placed row)) (sym r.1 ∙ ap (slice_index own) (sym of.2)) of.1,
+      )),
+      λ b. (is.exact cell).1 (slice_index own cell, b.1, sym (ranked.listed cell b.0)),
     );
   }
-    where
-      width : ℕ
-      width = words_for (length own)
 
--- before the first place all rows are empty
-pub copied_start : (sparse : Sparse) (own placed words : List ℕ) → AreEmpty (length placed) (length own) words
-    → AreCopied sparse own placed (words_for (length own)) 0 words
-copied_start sparse own placed words empty = record {
-  whole = empty.whole;
-  exact = λ place cell inside small.
-      (λ has. absurd (empty.none (64 * (place * words_for (length own)) + cell) has), λ b. absurd (omega (arith, b.0)));
+-- ---- all rows
+
+-- before the first place there is no row
+pub copied_none : (sparse : Sparse) (own placed : List ℕ) (width : ℕ) → AreCopied sparse own placed width 0 []
+copied_none sparse own placed width = record { whole = refl; each = λ place lt. absurd (omega arith) }
+
+-- one row more
+pub copied_more : (sparse : Sparse) (own placed : List ℕ) (width count : ℕ) (rows : List (List ℕ)) (row : List ℕ)
+    → AreCopied sparse own placed width count rows → IsCopied sparse own width (slice_index placed count) row
+    → AreCopied sparse own placed width (count + 1) (rows ++ row ∷ [])
+copied_more sparse own placed width count rows row s is = record {
+  whole = omega (arith, length_push rows row, s.whole);
+  each = λ place lt. elim (cases_lt place count) [
+    | inl early ↦ subst (IsCopied sparse own width (slice_index placed place))
+        (sym (get_or_append_left rows (row ∷ []) [] place (omega (arith, s.whole, early)))) (s.each place early)
+    | inr late ↦ (let same : count ≡ place = omega arith in
+        subst (IsCopied sparse own width (slice_index placed place))
+        (sym (get_or_push rows row [] place (s.whole ∙ same)))
+        (subst (λ (p : ℕ). IsCopied sparse own width (slice_index placed p) row) same is))
+  ];
 }
+
+-- each of them has as many words as the width
+pub copied_wide : (sparse : Sparse) (own placed : List ℕ) (width count : ℕ) (rows : List (List ℕ))
+    → AreCopied sparse own placed width count rows → All (λ row. length row ≡ width) rows
+copied_wide sparse own placed width count rows s k d lt =
+    ap (λ (row : List ℕ). length row) (get_or_default rows k d [] lt) ∙ (s.each k (omega (arith, lt, s.whole))).whole

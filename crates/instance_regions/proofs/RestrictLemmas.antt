@@ -1,17 +1,20 @@
 -- Copied rows make a region.
-use Rattle.std.proofs.Common.{◌≡◌, ℕ, ◌+◌, ◌*◌, ◌^◌, ◌<◌, ◌≤◌, List, length, map, slice_index, refl, sym, ap, subst}
-use Rattle.std.proofs.Common.{◌∙◌, arith}
-use Rattle.std.specs.Prelude.{◌↔◌}
+use Rattle.std.proofs.Common.{◌≡◌, ℕ, ◌+◌, ◌*◌, ◌^◌, ◌<◌, ◌≤◌, List, [], length, map, slice_index, refl, sym, ap, subst}
+use Rattle.std.proofs.Common.{◌∙◌, arith, slice_index_or}
+use Rattle.std.specs.Prelude.{◌↔◌, slice_range}
 use Rattle.std.specs.List.Sorted.{IsStrictlyIncreasing}
-use Rattle.std.proofs.lemmas.Nat.{mul-le}
 use Rattle.std.proofs.lemmas.Grind.{get_or_default_zero}
 use Rattle.std.proofs.lemmas.List.{length-map, get_or-map}
 use Rattle.set_cover.specs.Instance.{Instance, IsInstance, LightsAt, words_for}
+use Rattle.set_cover.specs.Instance.{row_of}
+use Rattle.set_cover.specs.Bits.{Has}
+use Rattle.set_cover.specs.Rows.{AreRows, words_of}
 use Rattle.set_cover.specs.Sparse.{Sparse, IsSparse, ListsAt}
 use Rattle.set_cover.proofs.OrderLemmas.{element_at, element_of, rises, few_below}
-use Rattle.set_cover.proofs.RowLemmas.{row_has}
+use Rattle.set_cover.proofs.PieceLemmas.{piece_at, pieces_long}
 use Rattle.instance_regions.specs.Region.{IsRegion}
 use Rattle.instance_regions.specs.Restricting.{AreIndices, IsSelfContained, AreCopied, IsRestriction}
+use Rattle.instance_regions.proofs.CopyLemmas.{copied_wide}
 
 -- what stands at an index of the chosen items
 pub chosen_at : (items indices : List ℕ) (k : ℕ) → k < length indices
@@ -32,27 +35,36 @@ chosen_ascend items indices up are k h =
     let more = rises items up (slice_index indices k) (slice_index indices (k + 1)) step inside in
     omega (arith, chosen_at items indices k (omega arith), chosen_at items indices (k + 1) lt)
 
-module _ (sparse : Sparse) (region : Instance) (own placed : List ℕ) (is : IsSparse sparse)
+module _ (sparse : Sparse) (region : Instance) (own placed : List ℕ) (rows : List (List ℕ)) (is : IsSparse sparse)
     (closed : IsSelfContained sparse own placed)
     (cells : region.cells ≡ map (slice_index sparse.cells) own)
     (places : region.places ≡ map (slice_index sparse.places) placed)
     (wide : region.width ≡ words_for (length own))
-    (copied : AreCopied sparse own placed region.width (length placed) region.words) where
+    (words : region.words ≡ words_of rows)
+    (copied : AreCopied sparse own placed region.width (length placed) rows) where
   cell_count : length region.cells ≡ length own
   cell_count = ap length cells ∙ chosen_count sparse.cells own
 
   place_count : length region.places ≡ length placed
   place_count = ap length places ∙ chosen_count sparse.places placed
 
+  -- a row for each place
+  pub kept_rows : AreRows (length region.places) region.width rows
+  kept_rows = record {
+    whole = copied.whole ∙ sym place_count;
+    wide = copied_wide sparse own placed region.width (length placed) rows copied;
+  }
+
+  row_is : (place : ℕ) → place < length placed → row_of region place ≡ slice_index_or rows place []
+  row_is place h = ap (λ (l : List ℕ). slice_range l (place * region.width) (place * region.width + region.width)) words
+      ∙ piece_at region.width rows place kept_rows.wide (omega (arith, h, copied.whole))
+
   lit_at : (place cell : ℕ) → place < length placed
       → LightsAt region place cell
       ↔ ((cell < length own) × ListsAt sparse (slice_index placed place) (slice_index own cell))
   lit_at place cell h = (
-    λ lit. (let b = (row_has region.words (place * region.width) region.width cell).0 lit in
-        let t = (copied.exact place cell h b.0).0 b.1 in (t.1, t.2)),
-    λ b. (let small : cell < 64 * region.width = omega (arith, b.0, wide) in
-        (row_has region.words (place * region.width) region.width cell).1
-        (small, (copied.exact place cell h small).1 (h, b.0, b.1))),
+    λ lit. ((copied.each place h).exact cell).0 (subst (λ (row : List ℕ). Has row cell) (row_is place h) lit),
+    λ b. subst (λ (row : List ℕ). Has row cell) (sym (row_is place h)) (((copied.each place h).exact cell).1 b),
   )
 
   lights_some : (place : ℕ) → place < length placed → (cell : ℕ) × LightsAt region place cell
@@ -91,7 +103,8 @@ module _ (sparse : Sparse) (region : Instance) (own placed : List ℕ) (is : IsS
     places_ascend = subst IsStrictlyIncreasing (sym places)
         (chosen_ascend sparse.places placed is.places_ascend closed.places);
     wide = wide ∙ ap words_for (sym cell_count);
-    whole = copied.whole ∙ ap (λ (n : ℕ). n * region.width) (sym place_count);
+    whole = ap (λ (l : List ℕ). length l) words ∙ pieces_long region.width rows kept_rows.wide
+        ∙ ap (λ (n : ℕ). n * region.width) kept_rows.whole;
     of_cells = λ place cell h lit.
         (let b = (lit_at place cell (omega (arith, place_count))).0 lit in omega (arith, b.0, cell_count));
     lightable = λ cell h. (let by = lit_by_some cell (omega (arith, cell_count)) in
@@ -119,9 +132,3 @@ module _ (sparse : Sparse) (region : Instance) (own placed : List ℕ) (is : IsS
 pub few_fit : (xs : List ℕ) → IsStrictlyIncreasing xs → ((k : ℕ) → slice_index xs k < 2 ^ 32) → length xs ≤ 2 ^ 32
 few_fit xs up fits = few_below xs 4294967296 up
     (λ k d h. subst (λ (x : ℕ). x < 4294967296) (sym (get_or_default_zero xs k d h)) (fits k))
-
--- rows of that many cells have few words
-pub few_words : (rows cells : ℕ) → rows ≤ 2 ^ 32 → cells ≤ 2 ^ 32 → rows * words_for cells ≤ 2 ^ 58
-few_words rows cells few_rows few_cells =
-    (let most : rows * words_for cells ≤ 4294967296 * 67108864 = mul-le rows (words_for cells) 4294967296 67108864
-    (omega arith) (omega arith) in omega arith)

@@ -1,30 +1,60 @@
 //! Rows of bits from lists of cells, with other indices for these.
-ghost use Rattle.std.specs.Prelude.{◌≤◌, ◌^◌, length};
-ghost use Rattle.instance_regions.specs.Restricting.{AreCopied, AreEmpty, AreRanks, Copies, HasRoom, IsSelfContained};
+ghost use Rattle.std.specs.Prelude.{◌≡◌, [], length, IfOk};
+ghost use Rattle.instance_regions.specs.Restricting.{AreCopied, AreRanks, HaveRanks, IsSelfContained, IsOfRanks};
+ghost use Rattle.set_cover.specs.Bits.{IsRowOf};
 ghost use Rattle.set_cover.specs.Instance.{words_for};
 
-use set_cover::{Sparse, add};
+use cave_model::OutOfMemory;
+use set_cover::{BitRow, Sparse};
+use std::alloc::{AllocError, Global};
 
-/// Sets, from the bit `base` on, the rank of each of the cells.
-fn copy_row(words: &mut [u64], base: usize, cells: &[u32], ranks: &[u32])
-    requires room { HasRoom cells.now ranks.now base words.old }
-    requires small { length words.old ≤ 2 ^ 58 }
-    ensures { Copies words.old cells.now ranks.now base words.new }
+/// A row of `width` words without bits, with room for the ranks of the cells.
+fn bare_row(alloc: Global, width: usize, cells: &[u32], ranks: &[u32]) -> Result<BitRow, AllocError>
+    requires { HaveRanks cells.now ranks.now width }
+    ensures none { IfOk result (λ row. IsRowOf [] row) }
+    ensures whole { IfOk result (λ row. length row ≡ width) }
 {
+    let mut first = width;
+    let mut end = 0;
     for cell in cells {
-        add(words, base + ranks[*cell as usize] as usize);
+        let word = ranks[*cell as usize] as usize / 64;
+        first = usize::min(first, word);
+        end = usize::max(end, word + 1);
     }
+    let row = BitRow::spanning(alloc, width, first, end)?;
+    Ok(row)
 }
 
-/// Sets in the rows of the places with these indices the ranks of the cells that each lights.
-pub fn copy_rows(words: &mut [u64], sparse: &Sparse, ranks: &[u32], own: &[u32], placed: &[u32])
+/// A row of `width` words with the ranks of the cells.
+fn row_with(alloc: Global, width: usize, cells: &[u32], ranks: &[u32]) -> Result<BitRow, AllocError>
+    requires { HaveRanks cells.now ranks.now width }
+    ensures { IfOk result (IsOfRanks cells.now ranks.now width) }
+{
+    let mut row = bare_row(alloc, width, cells, ranks)?;
+    for cell in cells {
+        row.add(alloc, ranks[*cell as usize] as usize)?;
+    }
+    Ok(row)
+}
+
+/// The rows of the places with these indices: the ranks of the cells that each lights.
+pub fn copy_rows(
+    alloc: Global,
+    sparse: &Sparse,
+    ranks: &[u32],
+    own: &[u32],
+    placed: &[u32],
+) -> Result<Vec<BitRow>, OutOfMemory>
     requires closed { IsSelfContained sparse.now own.now placed.now }
     requires ranks { AreRanks sparse.now own.now ranks.now }
-    requires words { AreEmpty (length placed.now) (length own.now) words.old }
-    ensures { AreCopied sparse.now own.now placed.now (words_for (length own.now)) (length placed.now) words.new }
+    ensures { IfOk result (λ v.
+        AreCopied sparse.now own.now placed.now (words_for (length own.now)) (length placed.now) v.items) }
 {
-    let row_bits = 64 * own.len().div_ceil(64);
-    for (row, place) in placed.iter().enumerate() {
-        copy_row(words, row * row_bits, sparse.lit_by(*place as usize), ranks);
+    let width = own.len().div_ceil(64);
+    let mut rows = Vec::with_capacity(alloc, placed.len())?;
+    for place in placed {
+        let row = row_with(alloc, width, sparse.lit_by(*place as usize), ranks)?;
+        rows.push(row)?;
     }
+    Ok(rows)
 }

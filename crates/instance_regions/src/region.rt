@@ -4,9 +4,9 @@ ghost use Rattle.instance_regions.specs.Columns.{IsColumn};
 ghost use Rattle.instance_regions.specs.Region.{IsRegion};
 ghost use Rattle.set_cover.specs.Instance.{IsRowAt, LightsIn, row_of};
 
-use crate::columns::{columns_of, height};
+use crate::columns::columns_of;
 use cave_base::Cell;
-use set_cover::Instance;
+use set_cover::{BitRow, Instance};
 use std::alloc::{AllocError, Global};
 use std::marker::Model;
 
@@ -16,13 +16,13 @@ use std::marker::Model;
 #[derive(Debug, Drop)]
 pub struct Region {
     instance: Instance,
-    columns: Vec<u64>,
+    columns: Vec<BitRow>,
 }
 
 impl Model for Region {
-    ghost use Rattle.std.specs.Prelude.{length};
+    ghost use Rattle.std.specs.Prelude.{◌<◌, ◌^◌, length};
     ghost use Rattle.set_cover.specs.Instance.{Instance, instance_coded};
-    ghost use Rattle.instance_regions.specs.Columns.{AreColumns};
+    ghost use Rattle.instance_regions.specs.Columns.{AreColumns, height_of};
     ghost use Rattle.instance_regions.specs.Region.{IsRegion};
 
     ghost Value = { Instance };
@@ -32,7 +32,7 @@ impl Model for Region {
     ghost view = { λ r. r.instance };
 
     ghost invariant = { λ r. IsRegion r.instance
-        × AreColumns r.instance (length r.instance.places) r.columns.items };
+        × AreColumns r.instance (length r.instance.places) r.columns.items × (height_of r.instance < 2 ^ 32) };
 }
 
 impl Region {
@@ -79,7 +79,7 @@ impl Region {
 
     /// The row of the place with this index: bit `i % 64` of word `i / 64` is set exactly where it lights the cell with
     /// the index i.
-    pub fn row_at(&self, index: usize) -> &[u64]
+    pub fn row_at(&self, index: usize) -> &BitRow
         requires inside { index < length self.now.places }
         ensures row { result.now ≡ row_of self.now index }
         ensures whole { length result.now ≡ self.now.width }
@@ -89,18 +89,16 @@ impl Region {
 
     /// The column of the cell with this index: bit `i % 64` of word `i / 64` is set exactly where the place with the
     /// index i lights it.
-    pub fn column(&self, cell: usize) -> &[u64]
+    pub fn column(&self, cell: usize) -> &BitRow
         requires inside { cell < length self.now.cells }
         ensures column { IsColumn self.now cell result.now }
         ensures short { length result.now < 2 ^ 32 }
     {
-        let height = height(&self.instance);
-        let start = cell * height;
-        &self.columns[start..start + height]
+        &self.columns[cell]
     }
 
     /// The row of a place.
-    pub fn row(&self, place: Cell) -> &[u64]
+    pub fn row(&self, place: Cell) -> &BitRow
         requires place { Contains self.now.places place }
         ensures { IsRowAt self.now place result.now }
     {

@@ -1,13 +1,12 @@
 //! A part of an instance as a region of its own.
 ghost use Rattle.std.specs.Prelude.{◌≡◌, ◌<◌, length, map, slice_index, All, IfOk};
-ghost use Rattle.instance_regions.specs.Restricting.{AreCopied, AreRanks, IsSelfContained, IsRestriction};
-ghost use Rattle.set_cover.specs.Instance.{words_for};
+ghost use Rattle.instance_regions.specs.Restricting.{IsSelfContained, IsRestriction};
 
 use crate::copying::copy_rows;
 use crate::region::Region;
 use cave_base::Cell;
 use cave_model::OutOfMemory;
-use set_cover::{Instance, Sparse, empty, number};
+use set_cover::{Instance, Sparse, number};
 use std::alloc::Global;
 
 /// The items with these indices.
@@ -20,24 +19,6 @@ fn chosen(alloc: Global, items: &[Cell], indices: &[u32]) -> Result<Vec<Cell>, O
         these.push(items[*index as usize])?;
     }
     Ok(these)
-}
-
-/// The rows of the places with these indices, for the cells with those.
-fn rows_of(
-    alloc: Global,
-    sparse: &Sparse,
-    ranks: &[u32],
-    own: &[u32],
-    placed: &[u32],
-) -> Result<Vec<u64>, OutOfMemory>
-    requires closed { IsSelfContained sparse.now own.now placed.now }
-    requires ranks { AreRanks sparse.now own.now ranks.now }
-    ensures { IfOk result (λ v.
-        AreCopied sparse.now own.now placed.now (words_for (length own.now)) (length placed.now) v.items) }
-{
-    let mut words = empty(alloc, placed.len() * own.len().div_ceil(64))?;
-    copy_rows(words.as_mut_slice(), sparse, ranks, own, placed);
-    Ok(words)
 }
 
 /// The part with these cells and places, by their indices, as a region. `ranks` is memory for a number a cell.
@@ -54,10 +35,10 @@ pub fn restrict(
 {
     let cells = sparse.cells();
     number(ranks, own);
-    let words = rows_of(alloc, sparse, ranks, own, placed)?;
+    let rows = copy_rows(alloc, sparse, ranks, own, placed)?;
     let own_cells = chosen(alloc, cells, own)?;
     let own_places = chosen(alloc, sparse.places(), placed)?;
     let width = own.len().div_ceil(64);
-    let region = Region::new(alloc, Instance::new(own_cells, own_places, width, words))?;
+    let region = Region::new(alloc, Instance::new(own_cells, own_places, width, rows))?;
     Ok(region)
 }

@@ -3,17 +3,16 @@ use Rattle.std.proofs.Common.{◌≡◌, ◌≢◌, ℕ, ◌+◌, ◌-◌, ◌�
 use Rattle.std.proofs.Common.{Result, Ok, Err, IsTrue, refl, sym, ap, ◌∙◌}
 use Rattle.std.specs.Prelude.{◌↔◌}
 use Rattle.nbt_core.specs.declared.fault.NbtFault.{NbtFault}
-use Rattle.nbt_core.specs.declared.fault.NbtFault.TheVariants.{TooDeep, OutOfMemory}
+use Rattle.nbt_core.specs.declared.fault.NbtFault.TheVariants.{TooDeep}
 use Rattle.nbt_core.specs.declared.kind.Kind.{Kind}
 use Rattle.nbt_core.specs.declared.kind.Kind.TheVariants as kinds
-use Rattle.nbt_core.specs.Value.{Nbt, list, compound, no_items, field}
+use Rattle.nbt_core.specs.Value.{Nbt, compound, field}
 use Rattle.nbt_core.specs.Reading.{Reads, mapped, Fails, Gives}
 use Rattle.nbt_core.specs.TreeReading.{members_at, compound_at, value_at}
-use Rattle.nbt_core.specs.Skipping.{IsRead, read_or}
-use Rattle.nbt_core.specs.Borrowed.{payload_value, IsPayload}
+use Rattle.nbt_core.specs.Skipping.{IsRead}
 use Rattle.nbt_core.proofs.Results.{ok_is, err_never, mapped_err}
 use Rattle.nbt_core.proofs.Steps.{fails_too, value_compound, value_too_deep_compound}
-use Rattle.nbt_core.proofs.KindLemmas.{kind_of, kind_read, differ, never}
+use Rattle.nbt_core.proofs.KindLemmas.{kind_of, kind_read, differ}
 
 -- a value of another kind has no fields
 pub no_field : (name : List ℕ) (t : Nbt) → kind_of t ≢ kinds.Compound → ◌≡◌ {A = Option _} (field name t) None
@@ -54,25 +53,6 @@ module _ {X : Type 0} (fields : Nbt → X) (end room : ℕ) (kind : Kind) (bytes
       → mapped fields (value_at end room kind bytes) ≡ Err (TooDeep (end - length bytes))
   fields_too_deep none = ap (mapped fields) (ap (λ (k : Kind). value_at end room k bytes) k
       ∙ value_too_deep_compound end bytes room none)
-
-module _ {X : Type 0} (fields : Nbt → X) (end room : ℕ) (kind : Kind) (bytes : List ℕ)
-    (p : IsPayload end room kind bytes) where
-  -- what is found of a payload is found of its value
-  pub fields_seen : (found : X) (left : List ℕ) → mapped fields (value_at end room kind bytes) ≡ Ok (found, left)
-      → (value : Nbt) → payload_value end room kind bytes ≡ value → found ≡ fields value
-  fields_seen found left read value v =
-      let both : (fields p.whole.whole.value, p.whole.left) ≡ (found, left) =
-      ok_is (fields p.whole.whole.value, p.whole.left) (found, left)
-      (sym (ap (mapped fields) p.whole.whole.is) ∙ read) in
-      sym (ap (λ (x : X × List ℕ). x.0) both)
-      ∙ ap fields (sym (ap (read_or (list no_items)) p.whole.whole.is) ∙ v)
-
-  -- a payload that is read has no fault
-  pub fields_never : (e : NbtFault) → Fails e (mapped fields (value_at end room kind bytes)) → e ≢ OutOfMemory → ⊥
-  fields_never e fails other = never (mapped fields (value_at end room kind bytes)) e (record {
-    left = p.whole.left;
-    whole = record { value = fields p.whole.whole.value; is = ap (mapped fields) p.whole.whole.is };
-  }) fails other
 
 -- a payload whose fields were found is passed over
 pub record FieldsRead {X : Type 0} (fields : Nbt → X) (read : Reads Nbt) (found : X) (left : List ℕ) : Type 0 where

@@ -21,5 +21,5 @@ pub mod IntItems
 pub mod ViewLemmas
 pub mod NextLemmas
 pub mod ReadRoot
-pub mod ViewRoot
+pub mod RootFields
 pub mod Uniqueness

@@ -1,53 +1,93 @@
-//! The root, read where it lies: `Root` of specs/Spelling.antt, and where there is none `FaultOf` of
+//! Fields of the root, read where they lie: `Root` of specs/Spelling.antt, and where there is none `FaultOf` of
 //! specs/Breaking.antt.
-ghost use Rattle.std.specs.Prelude.{◌≡◌, ◌≢◌, IfOk, IfErr, MatchResult};
+ghost use Rattle.std.specs.Prelude.{◌≡◌, ◌≢◌, ◌≤◌, length, IfOk, IfErr, MatchResult};
 ghost use Rattle.nbt_core.specs.Breaking.{FaultOf};
-ghost use Rattle.nbt_core.specs.Reading.{GivesWhole};
+ghost use Rattle.nbt_core.specs.Fields.{changed, four_fields};
+ghost use Rattle.nbt_core.specs.Reading.{Gives, GivesWhole, mapped};
 ghost use Rattle.nbt_core.specs.Spelling.{Root};
-ghost use Rattle.nbt_core.specs.TreeReading.{named_at, root_at};
+ghost use Rattle.nbt_core.specs.TreeReading.{named_at, root_at, value_at};
 ghost use Rattle.nbt_core.specs.Value.{Nbt};
 ghost use Rattle.nbt_core.specs.declared.fault.NbtFault.{NbtFault};
+ghost use Rattle.nbt_core.specs.declared.kind.Kind.TheVariants.{Compound};
 
 use crate::fault::NbtFault;
-use crate::kind::Kind;
+use crate::fields::FourFields;
 use crate::reader::Reader;
 use crate::tree::DEEPEST;
-use crate::view::View;
 
-/// The value of the root that the bytes begin with, in those bytes: as `read_root`, but it takes no memory.
-pub fn root_view(bytes: &[u8]) -> Result<View<'_>, NbtFault>
-    ensures found { IfOk result (λ v. Root bytes.now v) }
-    ensures only { (t : Nbt) → Root bytes.now t → MatchResult result (λ v. v ≡ t) (λ _. ⊥) }
+/// The values of the last entries of these four names of the root that the bytes begin with, in those bytes. All of the
+/// root is judged as by `read_root`, in the walk that finds them, and no memory is taken.
+pub fn root_fields<'a>(
+    bytes: &'a [u8],
+    a: &[u8],
+    b: &[u8],
+    c: &[u8],
+    d: &[u8],
+) -> Result<FourFields<'a>, NbtFault>
+    ensures found { IfOk result (λ found. (t : Nbt) × Root bytes.now t
+        × (found ≡ four_fields a.now b.now c.now d.now t)) }
+    ensures only { (t : Nbt) → Root bytes.now t
+        → MatchResult result (λ found. found ≡ four_fields a.now b.now c.now d.now t) (λ _. ⊥) }
     ensures fault { IfErr result (λ e. FaultOf bytes.now e) }
     ensures refused { (e : NbtFault) → FaultOf bytes.now e → MatchResult result (λ _. ⊥) (λ f. f ≡ e) }
     ensures no_memory { IfErr result (λ e. e ≢ NbtFault.OutOfMemory) }
 {
-    judged(bytes)
+    judged(bytes, a, b, c, d)
 }
 
-/// The root of a whole input, as reading from left to right gives it.
+/// The fields of the root of a whole input, as reading from left to right gives it.
 #[tactic(auto, unfolding(crate::specs::TreeReading::root_at))]
-fn judged(bytes: &[u8]) -> Result<View<'_>, NbtFault>
-    ensures read { GivesWhole (λ v. v) result (root_at bytes.now) }
+fn judged<'a>(
+    bytes: &'a [u8],
+    a: &[u8],
+    b: &[u8],
+    c: &[u8],
+    d: &[u8],
+) -> Result<FourFields<'a>, NbtFault>
+    ensures read { GivesWhole (λ found. found) result
+        (changed (four_fields a.now b.now c.now d.now) (root_at bytes.now)) }
     ensures no_memory { IfErr result (λ e. e ≢ NbtFault.OutOfMemory) }
 {
     match bytes {
         [] => Err(NbtFault::Truncated { at: 0 }),
         [0x1f, 0x8b, ..] => Err(NbtFault::Compressed),
-        [10, rest @ ..] => named(Reader::new(rest, bytes.len())),
+        [10, rest @ ..] => named(Reader::new(rest, bytes.len()), a, b, c, d),
         [_, ..] => Err(NbtFault::NotCompound),
     }
 }
 
-/// The payload of the root, after its name.
+/// The fields of the root, after its id.
 #[tactic(auto, unfolding(crate::specs::TreeReading::named_at))]
-fn named<'a>(mut reader: Reader<'a>) -> Result<View<'a>, NbtFault>
-    ensures read { GivesWhole (λ v. v) result (named_at reader.entry.end reader.entry.rest.now) }
+fn named<'a>(
+    mut reader: Reader<'a>,
+    a: &[u8],
+    b: &[u8],
+    c: &[u8],
+    d: &[u8],
+) -> Result<FourFields<'a>, NbtFault>
+    ensures read { GivesWhole (λ found. found) result (changed (four_fields a.now b.now c.now d.now)
+        (named_at reader.entry.end reader.entry.rest.now)) }
     ensures no_memory { IfErr result (λ e. e ≢ NbtFault.OutOfMemory) }
 {
-    let end = reader.end;
     reader.text()?;
-    let payload = reader.rest;
-    reader.skip(Kind::Compound, DEEPEST)?;
-    Ok(View::new(payload, end, DEEPEST, Kind::Compound))
+    reader.root_fields(a, b, c, d)
+}
+
+impl<'a> Reader<'a> {
+    /// Passes over the payload of the root, and gives the fields of these four names.
+    fn root_fields(
+        &mut self,
+        a: &[u8],
+        b: &[u8],
+        c: &[u8],
+        d: &[u8],
+    ) -> Result<FourFields<'a>, NbtFault>
+        ensures read { Gives (λ found. found) result self.new.rest.now
+            (mapped (four_fields a.now b.now c.now d.now)
+            (value_at self.old.end 512 Compound self.old.rest.now)) }
+        ensures no_memory { IfErr result (λ e. e ≢ NbtFault.OutOfMemory) }
+    {
+        let room = self.one_deeper(DEEPEST)?;
+        self.four_fields(room, a, b, c, d)
+    }
 }

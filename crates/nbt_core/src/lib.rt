@@ -4,8 +4,8 @@
 //! with its place. It returns on all bytes: lists and compounds nest at most 512 deep, and no room
 //! is made for what the bytes only claim to hold.
 //!
-//! [`root_view`] judges the same bytes in the same way and takes no memory: its [`View`] borrows them, and reads the
-//! parts of the value where they are asked for.
+//! [`root_fields`] judges the same bytes in the same way and gives fields of the root in that walk. It takes no memory:
+//! each [`View`] borrows the bytes, and reads the parts of its value where they are asked for.
 //!
 //! ```rust
 //! let root = read_root(rt.alloc(), &bytes)?;
@@ -34,7 +34,7 @@ pub use entries_view::EntriesView;
 pub use fault::NbtFault;
 pub use fields::{FourFields, TwoFields};
 pub use items_view::ItemsView;
-pub use judge::root_view;
+pub use judge::root_fields;
 pub use root::read_root;
 pub use tag::{Entries, Tag, Tags};
 pub use view::View;

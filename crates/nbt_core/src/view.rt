@@ -1,6 +1,5 @@
 //! A value, read where it lies: `payload_value` of specs/Borrowed.antt, and its parts by specs/Parts.antt.
 use crate::entries_view::EntriesView;
-use crate::fields::FourFields;
 use crate::items_view::ItemsView;
 use crate::kind::{Kind, LeafKind};
 use crate::reader::Reader;
@@ -36,7 +35,6 @@ impl<'a> View<'a> {
     ghost use Rattle.std.specs.Option.{option_map};
     ghost use Rattle.nbt_core.specs.Value.{field};
     ghost use Rattle.nbt_core.specs.Parts.{int_of, text_of, items_in, entries_in};
-    ghost use Rattle.nbt_core.specs.Fields.{four_fields};
     ghost use Rattle.nbt_core.specs.Borrowed.{payload_value, IsPayload};
 
     /// The payload of this kind at the front of `rest`, bytes that end at the offset `end`, in which `room`
@@ -136,23 +134,6 @@ impl<'a> View<'a> {
                 found = Some(value);
             }
         }
-        found
-    }
-
-    /// The values of the last entries of these four names, found in one walk over the value.
-    pub fn four_fields(&self, a: &[u8], b: &[u8], c: &[u8], d: &[u8]) -> FourFields<'a>
-        ensures { result ≡ four_fields a.now b.now c.now d.now self.now }
-    {
-        if !self.kind.is_same(Kind::Compound) {
-            return (None, None, None, None);
-        }
-        let mut reader = Reader::new(self.rest, self.end);
-        let Ok(room) = reader.one_deeper(self.room) else {
-            return (None, None, None, None);
-        };
-        let Ok(found) = reader.four_fields(room, a, b, c, d) else {
-            return (None, None, None, None);
-        };
         found
     }
 }

@@ -9,8 +9,8 @@ mod lists;
 mod thin_rows;
 
 pub use bits::{
-    Bits, bit_count, bits_of, clear_all, clear_bit, common_count, drop_all, has_each, is_clear,
-    is_set, join_into, keep_all, set_bit, words_from,
+    Bits, bit_count, bits_of, clear_all, clear_bit, common_count, drop_all, is_clear, is_set,
+    join_into, keep_all, set_bit, words_from,
 };
 pub use coverage::Coverage;
 pub use dominance::{

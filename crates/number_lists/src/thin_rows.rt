@@ -1,7 +1,7 @@
 //! Rows of bits in one block of memory, of each only the words from that of its first bit to that of its last: where a
 //! row's bits stand near each other, that is little of it.
 
-use crate::bits::{clear_all, join_into, set_bit, words_from};
+use crate::bits::{clear_all, is_set, join_into, set_bit, words_from};
 use crate::lists::{NumberLists, small};
 use std::alloc::{AllocError, Global};
 
@@ -25,6 +25,17 @@ impl<'a> ThinRow<'a> {
             .get(index.wrapping_sub(self.from))
             .copied()
             .unwrap_or(0)
+    }
+
+    /// Whether the row has each of these bits that the part has. The part is whole.
+    pub fn has_each(&self, part: &[u64], bits: &[u32]) -> bool {
+        for bit in bits {
+            let bit = *bit as usize;
+            if is_set(part, bit) && !self.has(bit) {
+                return false;
+            }
+        }
+        true
     }
 
     /// Whether what is in the row and in the mask is in the other row. The mask is whole.

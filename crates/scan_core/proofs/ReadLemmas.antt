@@ -3,6 +3,8 @@ use Rattle.std.proofs.Common.{◌≡◌, ◌≢◌, ℕ, Bool, false, List, [], 
 use Rattle.std.proofs.Common.{Result, Ok, Err, IfErr, inl, inr, ⊎_elim, ◌⊎◌, refl, sym, ap, subst, ◌∙◌}
 use Rattle.nbt_core.specs.Breaking.{FaultOf}
 use Rattle.nbt_core.specs.Spelling.{Root}
+use Rattle.nbt_core.proofs.Results.{ok_is}
+use Rattle.nbt_core.proofs.RootLaws.{root_again}
 use Rattle.nbt_core.specs.Value.{Nbt, field}
 use Rattle.nbt_core.specs.declared.fault.NbtFault.{NbtFault}
 use Rattle.nbt_core.specs.declared.fault.NbtFault.TheVariants as inner
@@ -84,6 +86,10 @@ fault_of-blocks root size palette palettes there states fault s clean e h none p
     ∙ b)
 
 -- ---- bytes with a root
+
+-- they have no other
+pub one_root : (bytes : List ℕ) (root : Nbt) → Root bytes root → (t : Nbt) → Root bytes t → root ≡ t
+one_root bytes root is t other = ok_is root t (sym (root_again bytes root is) ∙ root_again bytes t other)
 
 -- a root has at most one fault
 both_faults : (root : Nbt) (a b : ScanFault) → fault_of root ≡ Some a → fault_of root ≡ Some b → a ≡ b

@@ -1,6 +1,7 @@
 //! A structure from its bytes: `Scans` of specs/Scan.antt, and where there is none `IsFaultOf` of specs/Faults.antt.
-ghost use Rattle.std.specs.Prelude.{◌≡◌, ◌≢◌, IfOk, IfErr};
+ghost use Rattle.std.specs.Prelude.{◌≡◌, ◌≢◌, IfOk, IfErr, codes};
 ghost use Rattle.cave_base.specs.Answer.{IsAnswer, IsRefusal};
+ghost use Rattle.nbt_core.specs.Fields.{four_fields};
 ghost use Rattle.nbt_core.specs.Spelling.{Root};
 ghost use Rattle.nbt_core.specs.Value.{Nbt};
 ghost use Rattle.scan_core.specs.Answer.{TellsInRoom};
@@ -13,7 +14,7 @@ use crate::fault::ScanFault;
 use crate::palette::palette_of;
 use crate::scan::Scan;
 use crate::size::size_of;
-use nbt_core::{View, root_view};
+use nbt_core::{View, root_fields};
 use std::alloc::Global;
 
 /// Reads the bytes of a structure file: an NBT root with a size, a palette and blocks. What else stands
@@ -31,26 +32,35 @@ pub fn read_scan(alloc: Global, bytes: &[u8]) -> Result<Scan, ScanFault>
     // Memory is wanted for bytes alone that begin with a root.
     ensures memory { IfErr result (λ e. e ≡ ScanFault.OutOfMemory → (root : Nbt) × Root bytes.now root) }
 {
-    let root = root_view(bytes)?;
-    scan_of(alloc, &root)
-}
-
-/// What the root tells.
-fn scan_of(alloc: Global, root: &View<'_>) -> Result<Scan, ScanFault>
-    ensures { let told = root.now in
-        TellsInRoom result (λ s. IsScanOf told s) (fault_of told) }
-{
-    let (sides, palettes, states, blocks) = root.four_fields(
+    let (size, palettes, palette, blocks) = root_fields(
+        bytes,
         b"size",
         b"palettes",
         b"palette",
         b"blocks",
-    );
-    let size = size_of(sides)?;
+    )?;
+    scan_of(alloc, size, palettes, palette, blocks)
+}
+
+/// What the fields of these names of a root tell.
+fn scan_of(
+    alloc: Global,
+    size: Option<View<'_>>,
+    palettes: Option<View<'_>>,
+    palette: Option<View<'_>>,
+    blocks: Option<View<'_>>,
+) -> Result<Scan, ScanFault>
+    requires { (told : Nbt) × ((size, palettes, palette, blocks)
+        ≡ four_fields (codes "size") (codes "palettes") (codes "palette") (codes "blocks") told) }
+    ensures { (told : Nbt) → (size.entry, palettes.entry, palette.entry, blocks.entry)
+        ≡ four_fields (codes "size") (codes "palettes") (codes "palette") (codes "blocks") told
+        → TellsInRoom result (λ s. IsScanOf told s) (fault_of told) }
+{
+    let size = size_of(size)?;
     if palettes.is_some() {
         return Err(ScanFault::Palettes);
     }
-    let palette = palette_of(alloc, states)?;
+    let palette = palette_of(alloc, palette)?;
     let cells = cells_of(alloc, blocks, size, palette.len())?;
     Ok(Scan::new(size, palette, cells))
 }

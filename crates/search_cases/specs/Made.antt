@@ -1,5 +1,5 @@
 -- What the rows of a small region are looked at for. This is this project's own.
-use Rattle.std.specs.Prelude.{◌≡◌, ℕ, ◌+◌, ◌*◌, ◌<◌, List, length, slice_index, slice_range}
+use Rattle.std.specs.Prelude.{◌≡◌, ℕ, ◌<◌, List, [], length, slice_index, slice_index_or, All}
 use Rattle.set_cover.specs.Bits.{Has, HasNoneFrom}
 
 -- the numbers below `count`, in order
@@ -7,9 +7,9 @@ pub record CountsUp (count : ℕ) (numbers : List ℕ) : Type 0 where
   pub long : length numbers ≡ count
   pub each : (k : ℕ) → k < count → slice_index numbers k ≡ k
 
--- the row of the place with this index
-abbrev pub made_row : ℕ → List ℕ → ℕ → List ℕ
-made_row width words place = slice_range words (place * width) (place * width + width)
+-- each row has `width` words
+abbrev pub AreWide : ℕ → List (List ℕ) → Type 0
+AreWide width rows = All (λ row. length row ≡ width) rows
 
 -- some bit, and none from the count on
 pub record IsRowFor (count : ℕ) (row : List ℕ) : Type 0 where
@@ -17,11 +17,11 @@ pub record IsRowFor (count : ℕ) (row : List ℕ) : Type 0 where
   pub some : (bit : ℕ) × Has row bit
 
 -- one of the rows has the bit
-abbrev pub IsLitIn : ℕ → ℕ → List ℕ → ℕ → Type 0
-IsLitIn places width words bit = (place : ℕ) × (place < places) × Has (made_row width words place) bit
+abbrev pub IsLitIn : List (List ℕ) → ℕ → Type 0
+IsLitIn rows bit = (place : ℕ) × (place < length rows) × Has (slice_index_or rows place []) bit
 
--- the rows of `places` places over `count` cells: each has some bit and none past the cells, and each cell is lit
-pub record AreRows (count places width : ℕ) (words : List ℕ) : Type 0 where
+-- rows over `count` cells: each has some bit and none past the cells, and each cell is lit
+pub record AreLit (count : ℕ) (rows : List (List ℕ)) : Type 0 where
   pub filled : 0 < count
-  pub each : (place : ℕ) → place < places → IsRowFor count (made_row width words place)
-  pub lit : (bit : ℕ) → bit < count → IsLitIn places width words bit
+  pub each : (place : ℕ) → place < length rows → IsRowFor count (slice_index_or rows place [])
+  pub lit : (bit : ℕ) → bit < count → IsLitIn rows bit

@@ -1,10 +1,11 @@
 //! Small regions from the cells that their places light, looked at row by row.
-ghost use Rattle.std.specs.Prelude.{◌≡◌, ◌≤◌, ◌<◌, ◌*◌, ◌+◌, ◌/◌, ℕ, IsTrue, length, IfOk};
-ghost use Rattle.search_cases.specs.Made.{CountsUp, made_row, IsRowFor, IsLitIn, AreRows};
+ghost use Rattle.std.specs.Prelude.{◌≡◌, ◌≤◌, ◌<◌, ◌*◌, ℕ, [], slice_index_or, IsTrue, length, IfOk};
+ghost use Rattle.search_cases.specs.Made.{CountsUp, AreWide, IsRowFor, IsLitIn, AreLit};
 ghost use Rattle.set_cover.specs.Instance.{words_for};
+ghost use Rattle.set_cover.specs.Rows.{AreRows};
 
 use instance_regions::Region;
-use set_cover::{Instance, first, has, next};
+use set_cover::{BitRow, Instance};
 use std::alloc::{AllocError, Global};
 
 /// No region made here has more cells or places.
@@ -12,18 +13,18 @@ const MOST: usize = 1000;
 
 /// The region of `count` cells, numbered from 0, in which each place lights these two; none where that is no region:
 /// where a number is no cell, where no place lights some cell, or where there are too many.
-pub fn made(alloc: Global, count: usize, rows: &[[u32; 2]]) -> Result<Option<Region>, AllocError> {
-    if count > MOST || rows.len() > MOST {
+pub fn made(alloc: Global, count: usize, lit: &[[u32; 2]]) -> Result<Option<Region>, AllocError> {
+    if count > MOST || lit.len() > MOST {
         return Ok(None);
     }
     let width = (count + 63) / 64;
-    let words = words_of(alloc, width, rows)?;
+    let rows = rows_of(alloc, width, lit)?;
     let cells = numbers(alloc, count)?;
-    let places = numbers(alloc, rows.len())?;
-    if !are_rows(count, rows.len(), width, &words) {
+    let places = numbers(alloc, lit.len())?;
+    if !are_lit(count, width, &rows) {
         return Ok(None);
     }
-    let region = Region::new(alloc, Instance::new(cells, places, width, words))?;
+    let region = Region::new(alloc, Instance::new(cells, places, width, rows))?;
     Ok(Some(region))
 }
 
@@ -40,53 +41,51 @@ fn numbers(alloc: Global, count: usize) -> Result<Vec<u32>, AllocError>
 }
 
 /// Rows of `width` words, with a bit for each cell that a place lights.
-fn words_of(alloc: Global, width: usize, rows: &[[u32; 2]]) -> Result<Vec<u64>, AllocError>
-    requires narrow { width ≤ 1000 }
-    requires few { length rows.now ≤ 1000 }
-    ensures { IfOk result (λ words. length words.items ≡ length rows.now * width) }
+fn rows_of(alloc: Global, width: usize, lit: &[[u32; 2]]) -> Result<Vec<BitRow>, AllocError>
+    ensures { IfOk result (λ rows. AreRows (length lit.now) width rows.items) }
 {
-    let mut words = vec![in alloc; 0u64; rows.len() * width]?;
-    light(words.as_mut_slice(), width, rows);
-    Ok(words)
+    let mut rows = Vec::new(alloc);
+    for cells in lit {
+        let row = row_of(alloc, width, cells)?;
+        rows.push(row)?;
+    }
+    Ok(rows)
 }
 
-/// Sets the bits of each row.
-fn light(words: &mut [u64], width: usize, rows: &[[u32; 2]])
-    ensures { length words.new ≡ length words.old }
+/// A row of `width` words with the bits of those of the cells for which it has room.
+fn row_of(alloc: Global, width: usize, cells: &[u32]) -> Result<BitRow, AllocError>
+    ensures { IfOk result (λ row. length row ≡ width) }
 {
-    for (place, row) in rows.iter().enumerate() {
-        for cell in row {
-            let word = place
-                .saturating_mul(width)
-                .saturating_add(*cell as usize / 64);
-            if word < words.len() {
-                words[word] |= 1 << (*cell % 64);
-            }
+    let mut row = BitRow::spanning(alloc, width, 0, width)?;
+    for cell in cells {
+        if *cell as usize / 64 < width {
+            row.add(alloc, *cell as usize)?;
         }
     }
+    Ok(row)
 }
 
 /// Whether the rows are those of a region.
-fn are_rows(count: usize, places: usize, width: usize, words: &[u64]) -> bool
+fn are_lit(count: usize, width: usize, rows: &[BitRow]) -> bool
     requires wide { width ≡ words_for count }
-    requires whole { length words.now ≡ places * width }
+    requires rows { AreWide width rows.now }
     requires short { width ≤ 1000 }
-    ensures { IsTrue result → AreRows count places width words.now }
+    ensures { IsTrue result → AreLit count rows.now }
 {
-    if count == 0 || !each_is_row(count, places, width, words) {
+    if count == 0 || !each_is_row(count, width, rows) {
         return false;
     }
-    each_is_lit(count, places, width, words)
+    each_is_lit(count, width, rows)
 }
 
 /// Whether each row has a bit, and none from the count on.
-fn each_is_row(count: usize, places: usize, width: usize, words: &[u64]) -> bool
-    requires whole { length words.now ≡ places * width }
+fn each_is_row(count: usize, width: usize, rows: &[BitRow]) -> bool
+    requires rows { AreWide width rows.now }
     requires short { width ≤ 1000 }
-    ensures { IsTrue result → (place : ℕ) → place < places → IsRowFor count (made_row width words.now place) }
+    ensures { IsTrue result → (at : ℕ) → at < length rows.now → IsRowFor count (slice_index_or rows.now at []) }
 {
-    for place in 0..places {
-        if !is_row(count, row(words, places, width, place)) {
+    for place in 0..rows.len() {
+        if !is_row(count, &rows[place]) {
             return false;
         }
     }
@@ -94,13 +93,13 @@ fn each_is_row(count: usize, places: usize, width: usize, words: &[u64]) -> bool
 }
 
 /// Whether the row has a bit, and none from the count on.
-fn is_row(count: usize, row: &[u64]) -> bool
+fn is_row(count: usize, row: &BitRow) -> bool
     requires { length row.now ≤ 1000 }
     ensures { IsTrue result → IsRowFor count row.now }
 {
-    match first(row) {
+    match row.next(0) {
         None => false,
-        Some(_) => match next(row, count) {
+        Some(_) => match row.next(count) {
             None => true,
             Some(_) => false,
         },
@@ -108,13 +107,13 @@ fn is_row(count: usize, row: &[u64]) -> bool
 }
 
 /// Whether some row has each bit below the count.
-fn each_is_lit(count: usize, places: usize, width: usize, words: &[u64]) -> bool
+fn each_is_lit(count: usize, width: usize, rows: &[BitRow]) -> bool
     requires wide { width ≡ words_for count }
-    requires whole { length words.now ≡ places * width }
-    ensures { IsTrue result → (bit : ℕ) → bit < count → IsLitIn places width words.now bit }
+    requires rows { AreWide width rows.now }
+    ensures { IsTrue result → (bit : ℕ) → bit < count → IsLitIn rows.now bit }
 {
     for bit in 0..count {
-        if !is_lit(places, width, words, bit) {
+        if !is_lit(width, rows, bit) {
             return false;
         }
     }
@@ -122,26 +121,15 @@ fn each_is_lit(count: usize, places: usize, width: usize, words: &[u64]) -> bool
 }
 
 /// Whether some row has the bit.
-fn is_lit(places: usize, width: usize, words: &[u64], bit: usize) -> bool
+fn is_lit(width: usize, rows: &[BitRow], bit: usize) -> bool
     requires inside { bit < 64 * width }
-    requires whole { length words.now ≡ places * width }
-    ensures { IsTrue result → IsLitIn places width words.now bit }
+    requires rows { AreWide width rows.now }
+    ensures { IsTrue result → IsLitIn rows.now bit }
 {
-    for place in 0..places {
-        if has(row(words, places, width, place), bit) {
+    for place in 0..rows.len() {
+        if rows[place].has(bit) {
             return true;
         }
     }
     false
-}
-
-/// The row of a place.
-fn row(words: &[u64], places: usize, width: usize, place: usize) -> &[u64]
-    requires whole { length words.now ≡ places * width }
-    requires inside { place < places }
-    ensures row { result.now ≡ made_row width words.now place }
-    ensures whole { length result.now ≡ width }
-{
-    let start = place * width;
-    &words[start..start + width]
 }

@@ -4,6 +4,7 @@
 
 mod branching;
 mod covers;
+mod descent;
 mod leaves;
 mod moves;
 mod strategy;

@@ -10,6 +10,7 @@ use Rattle.search_pool.specs.Rows.{AreFrom}
 use Rattle.search_pool.specs.Deques.{AreStocked, HasPushed}
 use Rattle.proof_tree.specs.Piece.{Subproblem}
 use Rattle.piece_deque.specs.Deals.{one_more_out}
+use Rattle.piece_deque.specs.Owners.{IsNew}
 use Rattle.worker_results.specs.Passes.{Owned, deques, all_taken}
 use Rattle.search_pool.specs.Slots.{IsReady, Owner, lent, lent_pass}
 
@@ -41,6 +42,10 @@ one_more start out (own ∷ owned) all =
 pub length-push : {A : Type 0} (xs : List A) (x : A) → length (xs ++ x ∷ []) ≡ length xs + 1
 length-push [] x = omega arith
 length-push (y ∷ ys) x = omega (arith, length-push ys x)
+
+-- nothing lies on a new deque
+pub new_is_stocked : (room : ℕ) (owner : Owner) → IsNew room owner → HasPushed [] owner
+new_is_stocked room owner new = record { first_out = new.first_out; pass = new.pass }
 
 -- a deque more, on which nothing lies
 pub stocked_push : (pieces : List Subproblem) (owners : List Owner) (owner : Owner) → AreStocked pieces owners

@@ -9,7 +9,7 @@ use Rattle.piece_deque.specs.declared.dealt.Dealt.{Dealt}
 use Rattle.piece_deque.specs.Deals.{thief_pass, one_more_out}
 use Rattle.worker_results.specs.Joining.{StartWith}
 use Rattle.worker_results.specs.Naming.{AreThieves, DequeId, Thief}
-use Rattle.worker_results.specs.Passes.{KnownPass, Owned}
+use Rattle.worker_results.specs.Passes.{IsRow, KnownPass, Owned, Row, all_taken}
 
 -- the owner's end of a deque of pieces, under the rule that those pushed are those in it and those taken
 abbrev pub Owner : Type 0
@@ -44,3 +44,7 @@ lent own = record { worker = own.worker; knows = one_more_out own.knows }
 -- the pass that was lent
 abbrev pub lent_pass : Owned → KnownPass
 lent_pass own = record { deque = own.worker; knows = thief_pass }
+
+-- a pass at each deque, in order, of which none took anything
+abbrev pub IsNewRow : ℕ → Row → Type 0
+IsNewRow workers row = IsRow workers row × (all_taken row.items ≡ [])

@@ -13,7 +13,6 @@ mod round;
 mod run;
 mod slots;
 mod starting;
-mod stock;
 mod unrun;
 mod worker;
 

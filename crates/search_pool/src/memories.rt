@@ -58,7 +58,10 @@ impl<M: Drop> Memories<M> {
             return Ok(None);
         };
         let mut entries = self.entries.lock(rt);
-        let Some(index) = index_of(entries.as_slice(), parent) else {
+        let named = entries
+            .iter()
+            .rposition(|entry| entry.name.as_slice() == parent);
+        let Some(index) = named else {
             return Ok(None);
         };
         let Some(entry) = entries.get_mut(index) else {
@@ -72,14 +75,4 @@ impl<M: Drop> Memories<M> {
         }
         Ok(Some(memory))
     }
-}
-
-/// The index of the last entry of this name.
-fn index_of<M>(entries: &[Remembered<M>], name: &[u32]) -> Option<usize> {
-    for index in (0..entries.len()).rev() {
-        if entries[index].name.as_slice() == name {
-            return Some(index);
-        }
-    }
-    None
 }

@@ -11,7 +11,7 @@ ghost use Rattle.search_traits.specs.Turns.{IsWithin};
 use crate::ledger::Ledger;
 use crate::memories::Memories;
 use crate::run::run_scope;
-use crate::slots::{fill, lend_all, owned, split_seats};
+use crate::slots::{fill, lend_all, owned};
 use crate::unrun::Unrun;
 use crate::worker::{Common, Sizes};
 use beacon::{Beacon, Seat};
@@ -70,8 +70,8 @@ where
     let alloc = run.search.alloc;
     let owned = owned::<B>(alloc, owners)?;
     let passes = lend_all(alloc, owned, run.workers.number)?;
-    let seats = split_seats(alloc, &beacon, first, run.workers.number)?;
-    let slots = fill(alloc, passes, seats.others)?;
+    let mut first = first;
+    let slots = fill(alloc, &beacon, &mut first, passes)?;
     let ledger = Ledger::new(run.turns);
     let memories = Memories::new(alloc);
     let common = Common {
@@ -95,7 +95,7 @@ where
         run.observer,
     )?;
     let turns = within(run.turns, ledger.taken(run.rt));
-    let joined = close_up(alloc, beacon, seats.first, run.goal, results)?;
+    let joined = close_up(alloc, beacon, first, run.goal, results)?;
     Ok(Ran { joined, turns })
 }
 

@@ -1,13 +1,13 @@
 //! Workers are started and joined one after another: `AreFrom` of specs/Rows.antt. Where one can't be started, its
 //! result is that of a worker that did nothing.
 ghost use Rattle.std.specs.Arc.{arc_value};
-ghost use Rattle.std.specs.Prelude.{◌≡◌, ◌≤◌, ◌<◌, ◌+◌, ◌∷◌, IfOk, IfSome, IsTrue, length};
+ghost use Rattle.std.specs.Prelude.{◌≡◌, ◌≤◌, ◌<◌, ◌+◌, IfOk, IfSome, IsTrue, length};
 ghost use Rattle.plan_options.specs.Crew.{most_workers};
 ghost use Rattle.search_pool.specs.Rows.{AreFrom};
 ghost use Rattle.worker_results.specs.Naming.{AreThieves};
 
 use crate::unrun::Unrun;
-use crate::worker::{Common, Post, Slot, work_one};
+use crate::worker::{Common, Post, Slot, take_from, work_one};
 use search_traits::{Closer, Observer};
 use std::sync::Wait;
 use std::thread;
@@ -28,29 +28,8 @@ impl<B: Naming> Promise<Option<Done<B>>> for Post {
     ghost kept_by = { λ p r. IfSome r (λ done. done.holdings.worker ≡ p.worker) };
 }
 
-/// The result, with the others after it.
-fn in_front<B: Naming>(done: Done<B>, mut others: Vec<Done<B>>) -> Result<Vec<Done<B>>, Unrun>
-    ensures { IfOk result (λ all. all.items ≡ done ∷ others.items) }
-{
-    others.insert(0, done)?;
-    Ok(others)
-}
-
-/// The result of a worker that could not be started, if its slot holds what is its.
-fn idle<B: Naming, R: Wait>(rt: &R, slot: &Slot<B>, post: Post) -> Option<Done<B>>
-    ensures { IfSome result (λ done. done.holdings.worker ≡ post.worker) }
-{
-    let Some(berth) = slot.lock(rt).take() else {
-        return None;
-    };
-    if berth.worker() != post.worker {
-        return None;
-    }
-    Some(berth.idle())
-}
-
-/// Starts a worker for each slot, one after another, and joins them, the last first. A worker that can't be started
-/// gives an idle result.
+/// Starts a worker for each slot, one after another, and joins them, the last first. What waited for a worker that
+/// can't be started is its result.
 pub(crate) fn run_from<'s, 'e, B, C, R, O>(
     scope: &'s Scope<'s, &'e ()>,
     rt: &'e R,
@@ -82,7 +61,7 @@ where
         ensures { IfSome result (λ done. done.holdings.worker ≡ post.worker) }
     { work_one::<B, C, R, O>(rt, common, closer, slot, observer, post) };
     let child = scope.spawn_with(post, work);
-    let others = run_from::<B, C, R, O>(
+    let mut others = run_from::<B, C, R, O>(
         scope,
         rt,
         common,
@@ -95,12 +74,13 @@ where
     )?;
     let done = match child {
         Ok(child) => child.join(rt),
-        Err(_) => idle(rt, slot, post),
+        Err(_) => take_from(rt, slot, post),
     };
-    match done {
-        Some(done) => in_front(done, others),
-        None => Err(Unrun::NoThread),
-    }
+    let Some(done) = done else {
+        return Err(Unrun::NoThread);
+    };
+    others.insert(0, done)?;
+    Ok(others)
 }
 
 /// Starts a worker for each slot, and joins them.

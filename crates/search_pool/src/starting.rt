@@ -1,13 +1,14 @@
 //! A run of workers over a region: `HandOver` of specs/Runs.antt. The beacon is opened, the deques are stocked, and
-//! both are named.
+//! both are named by the words of specs/Deques.antt.
 ghost use Rattle.std.specs.Arc.{arc_value};
 ghost use Rattle.std.specs.Prelude.{IfOk};
 ghost use Rattle.search_pool.specs.Runs.{HandOver};
 
+use crate::deques::{stocked, thieves_of};
 use crate::pool::{Ran, Run, run_named};
-use crate::stock::{Stock, stock_for};
 use crate::unrun::Unrun;
 use beacon::Beacon;
+use proof_tree::Piece;
 use search_traits::{Closer, Observer};
 use std::marker::Brand;
 use std::sync::Wait;
@@ -24,8 +25,11 @@ where
     ensures { IfOk result (HandOver (arc_value run.entry.search.region.now) run.entry.goal
         run.entry.workers.number run.entry.turns) }
 {
-    let Stock { owners, thieves } = stock_for(run.search.alloc, run.search.region, run.workers)?;
-    let (beacon, first) = Beacon::open(run.search.alloc, run.goal)?;
+    let alloc = run.search.alloc;
+    let root = Piece::root(alloc, run.search.region)?;
+    let owners = stocked(alloc, run.workers.number, root)?;
+    let thieves = thieves_of(alloc, &owners)?;
+    let (beacon, first) = Beacon::open(alloc, run.goal)?;
     // The names are those of this beacon and these deques.
     run_named::<Brand, C, R, O>(run, beacon, first, owners, &thieves)
 }

@@ -14,7 +14,7 @@ use piece_deque::Thief;
 use search_traits::{Closer, Desk, Observer, SharedSearch};
 use std::alloc::{AllocError, Global};
 use std::sync::{Arc, Mutex, Wait};
-use worker_results::{Berth, Done, Holdings, Naming, PoolDesk, Step, Tried};
+use worker_results::{Done, Holdings, Naming, PoolDesk, Step, Tried};
 
 /// How often a worker tries to steal from a deque where other threads are first, before it looks elsewhere.
 const TRIES: u32 = 1000;
@@ -22,8 +22,8 @@ const TRIES: u32 = 1000;
 /// How many pieces a worker shows to thieves at once, if it keeps more (this project's own).
 const SHOWN: usize = 2;
 
-/// Where a worker's seat and passes wait for it.
-pub(crate) type Slot<B> = Mutex<Option<Berth<B>>>;
+/// Where a worker finds what it begins with.
+pub(crate) type Slot<B> = Mutex<Option<Done<B>>>;
 
 /// A worker's number.
 #[derive(Clone, Copy)]
@@ -125,7 +125,7 @@ fn tell<B: Naming, O: Observer>(observer: &O, sizes: Sizes, post: Post, holdings
 
 /// Works on the piece that was taken last: whether the worker can go on.
 #[tactic(auto, using(search_traits::proofs::DeskLemmas::continues_then))]
-fn work_on<B, C, D, R>(
+fn work_piece<B, C, D, R>(
     rt: &R,
     search: SharedSearch<'_, C>,
     common: Common<'_, C::Memory>,
@@ -170,8 +170,19 @@ where
     }
 }
 
-/// Takes its seat and passes from the slot, and works until no piece is open, or it can't go on. None where the slot
-/// has nothing for it.
+/// Takes what the slot holds, if it is this worker's.
+pub(crate) fn take_from<B: Naming, R: Wait>(rt: &R, slot: &Slot<B>, post: Post) -> Option<Done<B>>
+    ensures { IfSome result (λ done. done.holdings.worker ≡ post.worker) }
+{
+    let done = slot.lock(rt).take()?;
+    if done.worker() != post.worker {
+        return None;
+    }
+    Some(done)
+}
+
+/// Begins with what the slot holds, and works until no piece is open, or it can't go on. None where the slot has
+/// nothing for it.
 pub(crate) fn work_one<B, C, R, O>(
     rt: &R,
     common: Common<'_, C::Memory>,
@@ -189,20 +200,17 @@ where
         × AreThieves B.deque 0 common.thieves.now }
     ensures { IfSome result (λ done. done.holdings.worker ≡ post.worker) }
 {
-    let berth = slot.lock(rt).take()?;
-    if berth.worker() != post.worker {
-        return None;
-    }
+    let (seat, cover, mut holdings) = take_from(rt, slot, post)?.into_parts();
     let search = SharedSearch {
         alloc: common.alloc,
         region: common.region,
         closer,
     };
-    let (seat, mut holdings) = berth.into_parts();
     let mut desk: PoolDesk<'_, B> = PoolDesk::new(
         common.beacon,
         common.region,
         seat,
+        cover,
         common.is_limited,
     );
     if let Ok(mut hand) = closer.hand(common.alloc) {
@@ -223,7 +231,7 @@ where
             }
             desk.allow();
             tell(observer, common.sizes, post, &holdings);
-            if !work_on(rt, search, common, &mut hand, &mut holdings, &mut desk) {
+            if !work_piece(rt, search, common, &mut hand, &mut holdings, &mut desk) {
                 break;
             }
             show_some(rt, &mut holdings, common);

@@ -67,7 +67,7 @@ pub trait Strategy: Proposer + Drop {
     /// Whether picks make shorter trees in the region than branches on cells, where a search gets long.
     fn is_for_picks(&self) -> bool;
 
-    /// The tree of a node, or a shorter one, both by indices.
+    /// A node's tree, or a shorter one, both by indices.
     fn shortened(
         &self,
         alloc: Global,
@@ -76,8 +76,14 @@ pub trait Strategy: Proposer + Drop {
         tree: &Proof,
     ) -> Result<Proof, AllocError>;
 
-    /// A tree by numbers, by indices.
-    fn in_indices(alloc: Global, region: &Region, tree: &Proof) -> Result<Proof, AllocError>;
+    /// A finished tree of the region, by numbers, or a shorter one, by indices.
+    fn shortened_whole(
+        &self,
+        alloc: Global,
+        region: &Region,
+        root: &Node,
+        tree: &Proof,
+    ) -> Result<Proof, AllocError>;
 
     /// The places of the region's core, ascending, by their indices: the region can do without the others.
     fn kept_places(
@@ -102,6 +108,7 @@ pub trait Strategy: Proposer + Drop {
 
     /// A cover of the region's core, by the indices of its places in the region.
     fn carried_places(
+        &self,
         alloc: Global,
         region: &Region,
         places: &[Cell],

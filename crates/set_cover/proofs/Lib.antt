@@ -8,5 +8,8 @@ pub mod OrderLemmas
 pub mod NumberLemmas
 pub mod LightLemmas
 pub mod RowLemmas
+pub mod SpanLemmas
+pub mod PartLemmas
+pub mod PieceLemmas
 pub mod ListedLemmas
 pub mod BucketLemmas

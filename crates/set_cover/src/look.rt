@@ -1,6 +1,6 @@
 //! Looking at rows.
 ghost use Rattle.std.specs.Prelude.{◌≡◌, ◌↔◌, ℕ, ◌*◌, ◌+◌, ◌<◌, ◌^◌, IsTrue, length, MatchOption};
-ghost use Rattle.set_cover.specs.Bits.{Has, Meet, IsWithin};
+ghost use Rattle.set_cover.specs.Bits.{Has, Meet};
 
 /// Whether the row has the bit.
 pub fn has(words: &[u64], bit: usize) -> bool
@@ -23,8 +23,8 @@ pub fn first(words: &[u64]) -> Option<usize>
     None
 }
 
-/// Whether some bit is in both rows.
-pub fn meet(one: &[u64], two: &[u64]) -> bool
+/// Whether some bit is in both.
+pub(crate) fn share_bits(one: &[u64], two: &[u64]) -> bool
     requires { length one.now ≡ length two.now }
     ensures { IsTrue result ↔ Meet one.now two.now }
 {
@@ -34,18 +34,4 @@ pub fn meet(one: &[u64], two: &[u64]) -> bool
         }
     }
     false
-}
-
-/// Whether what both the row and the part have is in the other row too.
-pub fn is_within(row: &[u64], part: &[u64], other: &[u64]) -> bool
-    requires part { length part.now ≡ length row.now }
-    requires other { length other.now ≡ length row.now }
-    ensures { IsTrue result ↔ IsWithin row.now part.now other.now }
-{
-    for index in 0..row.len() {
-        if row[index] & part[index] & !other[index] != 0 {
-            return false;
-        }
-    }
-    true
 }

@@ -9,6 +9,7 @@ use Rattle.std.proofs.lemmas.List.{length-append, length-drop, length-map, lengt
 use Rattle.std.proofs.lemmas.List.Elements.{All-head, All-tail, All-from_get_or}
 use Rattle.set_cover.specs.Bits.{Has}
 use Rattle.set_cover.specs.Instance.{Instance, IsInstance, LightsAt, row_of}
+use Rattle.set_cover.specs.Rows.{AreRows, words_of}
 use Rattle.set_cover.proofs.OrderLemmas.{element_at, element_of, rises}
 use Rattle.instance_regions.specs.Region.{IsRegion}
 use Rattle.pack_bound.specs.Indices.{IsCoverAt}
@@ -35,6 +36,11 @@ piece_at f width (x ∷ xs) (suc i) each lt =
     ∙ ap (λ (n : ℕ). take (i * width + width - i * width) (drop n (f x ++ flat_map f xs))) start
     ∙ ap (take (i * width + width - i * width)) behind
     ∙ piece_at f width xs i (All-tail (λ x. length (f x) ≡ width) x xs each) (omega arith)
+
+-- the words of these lists, one after another
+pub words_map : (f : ℕ → List ℕ) (xs : List ℕ) → words_of (map f xs) ≡ flat_map f xs
+words_map f [] = refl
+words_map f (x ∷ xs) = ap (λ (l : List ℕ). f x ++ l) (words_map f xs)
 
 -- how long lists of one length are together
 pub pieces_long : (f : ℕ → List ℕ) (width : ℕ) (xs : List ℕ) → All (λ x. length (f x) ≡ width) xs
@@ -76,6 +82,15 @@ module _ (region : Instance) (kept : List ℕ) (is : IsRegion region) (up : IsSt
   each : All (λ place. length (row_of region place) ≡ region.width) kept
   each = All-from_get_or (λ place. length (row_of region place) ≡ region.width) kept 0
       (λ k lt. row_long region (slice_index kept k) is.kept (inside k lt))
+
+  -- a row for each place
+  pub thin_rows : AreRows (length kept) region.width (map (row_of region) kept)
+  thin_rows = record {
+    whole = length-map kept (row_of region);
+    wide = λ k d lt. (let inner : k < length kept = omega (arith, lt, length-map kept (row_of region)) in
+        ap (λ (l : List ℕ). length l) (get_or-map (row_of region) kept k 0 d inner)
+        ∙ row_long region (slice_index kept k) is.kept (inside k inner));
+  }
 
   -- the row of a place is that of the region
   row_at : (k : ℕ) → k < length kept → row_of (thinned region kept) k ≡ row_of region (slice_index kept k)

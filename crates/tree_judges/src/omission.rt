@@ -12,7 +12,7 @@ use instance_regions::Region;
 use pack_bound::{Node, may_give_way};
 use proof_rules::{Group, Share};
 use proof_tree::Proof;
-use set_cover::{add_each, clear, empty, has, is_within};
+use set_cover::{add_each, clear_words, empty, has, is_within};
 use std::alloc::{AllocError, Global};
 
 /// Whether the cells may be left out: some of the region's, ascending.
@@ -59,7 +59,7 @@ pub(crate) fn unlit_without(
     ensures { IfOk result (λ left. IsWithout node.now.unlit omitted.now left.items) }
 {
     let mut left = Vec::from_slice(alloc, node.unlit())?;
-    clear(&mut left, omitted);
+    clear_words(&mut left, omitted);
     Ok(left)
 }
 

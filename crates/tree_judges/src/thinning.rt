@@ -1,6 +1,6 @@
 //! A region with some of its places alone.
 ghost use Rattle.std.specs.List.Sorted.{IsStrictlyIncreasing};
-ghost use Rattle.std.specs.Prelude.{◌≡◌, ◌↔◌, IsTrue, IfOk, MatchOption, map, flat_map, slice_index};
+ghost use Rattle.std.specs.Prelude.{◌≡◌, ◌↔◌, IsTrue, IfOk, MatchOption, map, slice_index};
 ghost use Rattle.instance_regions.specs.Region.{IsRegion};
 ghost use Rattle.pack_bound.specs.Indices.{IsCoverAt};
 ghost use Rattle.set_cover.specs.Instance.{row_of};
@@ -9,7 +9,7 @@ ghost use Rattle.tree_judges.specs.Thinning.{MayBeKept, thinned};
 use cave_base::Cell;
 use instance_regions::Region;
 use pack_bound::is_cover;
-use set_cover::Instance;
+use set_cover::{BitRow, Instance};
 use std::alloc::{AllocError, Global};
 
 /// The region with the places of these indices alone. None where they don't ascend, or some cell is lit by none of
@@ -48,8 +48,8 @@ fn with_places(alloc: Global, region: &Region, kept: &[u32]) -> Result<Region, A
 {
     let cells = Vec::from_slice(alloc, region.cells())?;
     let places = places_at(alloc, region, kept)?;
-    let words = rows_at(alloc, region, kept)?;
-    let less = Region::new(alloc, Instance::new(cells, places, region.width(), words))?;
+    let rows = rows_at(alloc, region, kept)?;
+    let less = Region::new(alloc, Instance::new(cells, places, region.width(), rows))?;
     Ok(less)
 }
 
@@ -67,14 +67,14 @@ fn places_at(alloc: Global, region: &Region, kept: &[u32]) -> Result<Vec<Cell>, 
     Ok(places)
 }
 
-/// The rows of these places, one after another.
-fn rows_at(alloc: Global, region: &Region, kept: &[u32]) -> Result<Vec<u64>, AllocError>
+/// The rows of these places.
+fn rows_at(alloc: Global, region: &Region, kept: &[u32]) -> Result<Vec<BitRow>, AllocError>
     requires { IsCoverAt region.now kept.now }
-    ensures { IfOk result (λ words. words.items ≡ flat_map (row_of region.now) kept.now) }
+    ensures { IfOk result (λ rows. rows.items ≡ map (row_of region.now) kept.now) }
 {
-    let mut words = Vec::new(alloc);
+    let mut rows = Vec::with_capacity(alloc, kept.len())?;
     for index in kept {
-        words.extend_from_slice(region.row_at(*index as usize))?;
+        rows.push(region.row_at(*index as usize).try_clone()?)?;
     }
-    Ok(words)
+    Ok(rows)
 }

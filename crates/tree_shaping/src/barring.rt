@@ -3,7 +3,7 @@
 //! node.
 
 use instance_reduction::{InRegion, NodePlaces, RegionInstance};
-use number_lists::{Dominance, first_dominating, small};
+use number_lists::{Dominance, first_dominating};
 use proof_tree::Bar;
 use std::alloc::{AllocError, Global};
 
@@ -30,7 +30,7 @@ pub fn bars_for(
     let kept = KeptPlaces { site };
     let mut bars = Vec::new(alloc);
     for index in (0..site.whole.region.places().len()).rev() {
-        let place = InRegion::of(small(index));
+        let place = InRegion::at(index);
         let is_kid = kids.contains(&place.number());
         if !is_kid && !site.is_barred(place) && site.lights_any(place) {
             push_bar(&mut bars, &kept, place, &kids)?;
@@ -46,18 +46,17 @@ pub fn bars_for_pick(
     pick: InRegion,
     bars: &mut Vec<Bar>,
 ) -> Result<(), AllocError> {
-    let by = pick.number();
     for index in 0..site.whole.region.places().len() {
-        let place = InRegion::of(small(index));
-        if place.number() != by
+        let place = InRegion::at(index);
+        if place.number() != pick.number()
             && !site.is_barred(place)
             && !site.whole.instance.is_left_out(place)
             && site.lights_any(place)
-            && site.is_within(place.number(), by)
+            && site.whole.is_within(place, pick, site.node.unlit())
         {
             bars.push(Bar {
                 place: place.number(),
-                by,
+                by: pick.number(),
             })?;
         }
     }
@@ -71,7 +70,7 @@ pub fn bars_at_first(alloc: Global, site: NodePlaces<'_>) -> Result<Vec<Bar>, Al
     let kept = KeptPlaces { site };
     let mut bars = Vec::new(alloc);
     for index in 0..region.places().len() {
-        let place = InRegion::of(small(index));
+        let place = InRegion::at(index);
         if instance.is_left_out(place) && !site.is_barred(place) {
             if let Some(cell) = instance.spread(place).first() {
                 let others = instance.sources(InRegion::of(*cell));

@@ -36,7 +36,7 @@ pub fn without_needless_kids(
 /// A place that is picked, and the trees with it chosen and with it barred.
 #[derive(Clone, Copy)]
 struct PickedTrees<'a> {
-    place: u32,
+    place: InRegion,
     with: &'a Proof,
     without: &'a Proof,
 }
@@ -88,7 +88,9 @@ impl<'a> Lessening<'a> {
         spoken: &mut Spoken,
     ) -> Result<Proof, AllocError> {
         match tree {
-            Proof::Branch { cell, kids } => self.branch(left, *cell, kids.trees(), room, spoken),
+            Proof::Branch { cell, kids } => {
+                self.branch(left, InRegion::of(*cell), kids.trees(), room, spoken)
+            }
             Proof::Omit { cells, kid } => {
                 self.omission(left, cells.as_slice(), kid.tree(), room, spoken)
             }
@@ -98,7 +100,7 @@ impl<'a> Lessening<'a> {
                 without,
             } => {
                 let trees = PickedTrees {
-                    place: *place,
+                    place: InRegion::of(*place),
                     with: with.tree(),
                     without: without.tree(),
                 };
@@ -122,15 +124,13 @@ impl<'a> Lessening<'a> {
     fn branch(
         self,
         left: NodeRows,
-        cell: u32,
+        cell: InRegion,
         kids: &[Proof],
         room: usize,
         spoken: &mut Spoken,
     ) -> Result<Proof, AllocError> {
         let mut left = left;
-        let places = self
-            .whole
-            .open_at(self.alloc, InRegion::of(cell), &left.barred)?;
+        let places = self.whole.open_at(self.alloc, cell, &left.barred)?;
         let told = self.each(&left, &places, kids, room)?;
         let finished = FinishedBranch {
             whole: self.whole,
@@ -185,22 +185,22 @@ impl<'a> Lessening<'a> {
             without,
         } = trees;
         let mut rest = left.copied(self.alloc)?;
-        set_bit(rest.barred.as_mut_slice(), place as usize);
+        set_bit(rest.barred.as_mut_slice(), place.index());
         let without = self.lessened(rest, without, room)?;
         spoken.join(&without.spoken);
-        if is_set(&left.gone, place as usize) {
+        if is_set(&left.gone, place.index()) {
             let SpokenTree { tree, .. } = without;
             return Ok(tree);
         }
         let mut below = left;
-        for lit in self.whole.instance.spread(InRegion::of(place)) {
+        for lit in self.whole.instance.spread(place) {
             clear_bit(below.unlit.as_mut_slice(), *lit as usize);
         }
         let with = self.lessened(below, with, room)?;
         spoken.join(&with.spoken);
         let (SpokenTree { tree: with, .. }, SpokenTree { tree: without, .. }) = (with, without);
         Ok(Proof::Pick {
-            place,
+            place: place.number(),
             with: Below::of(self.alloc, with)?,
             without: Below::of(self.alloc, without)?,
         })
@@ -218,17 +218,17 @@ impl<'a> Lessening<'a> {
         let mut barred = Vec::from_slice(self.alloc, &left.barred)?;
         let mut found = Vec::with_capacity(self.alloc, trees.len())?;
         for index in 0..trees.len() {
-            let place = places.get(index).copied().unwrap_or(u32::MAX);
-            if !is_set(&left.gone, place as usize) {
+            let place = InRegion::of(places.get(index).copied().unwrap_or(u32::MAX));
+            if !is_set(&left.gone, place.index()) {
                 let mut below = left.copied(self.alloc)?;
                 below.barred.clear();
                 below.barred.extend_from_slice(&barred)?;
-                for lit in self.whole.instance.spread(InRegion::of(place)) {
+                for lit in self.whole.instance.spread(place) {
                     clear_bit(below.unlit.as_mut_slice(), *lit as usize);
                 }
                 found.push(self.lessened(below, &trees[index], room)?)?;
             }
-            set_bit(barred.as_mut_slice(), place as usize);
+            set_bit(barred.as_mut_slice(), place.index());
         }
         Ok(found)
     }
@@ -237,7 +237,7 @@ impl<'a> Lessening<'a> {
 /// The branch on a cell with these kids, below what is left out for it. What is spoken of gains what it speaks of.
 fn branch_of(
     alloc: Global,
-    cell: u32,
+    cell: InRegion,
     kids: Vec<SpokenTree>,
     needless: Needless,
     spoken: &mut Spoken,
@@ -247,15 +247,18 @@ fn branch_of(
     }
     spoken.add_cell(cell);
     for bar in &needless.bars {
-        spoken.add_by(bar.by);
+        spoken.add_by(InRegion::of(bar.by));
     }
     let Needless {
         is_gone: _,
         bars,
         cells,
     } = needless;
-    let kids = Kids::of(trees_of(alloc, kids)?);
-    let tree = wrap(alloc, bars, Proof::Branch { cell, kids })?;
+    let branch = Proof::Branch {
+        cell: cell.number(),
+        kids: Kids::of(trees_of(alloc, kids)?),
+    };
+    let tree = wrap(alloc, bars, branch)?;
     let cells = bits_of(alloc, &cells)?;
     spoken.add_cells(&cells);
     omitted(alloc, cells, tree)

@@ -6,7 +6,7 @@
 
 use crate::node_rows::NodeRows;
 use crate::spoken::Spoken;
-use instance_reduction::RegionInstance;
+use instance_reduction::{InRegion, RegionInstance};
 use number_lists::{keep_all, set_bit};
 use proof_tree::{Bar, Proof};
 use std::alloc::{AllocError, Global};
@@ -23,7 +23,7 @@ pub(crate) struct SpokenTree {
 pub(crate) struct FinishedBranch<'a> {
     pub whole: RegionInstance<'a>,
     pub left: &'a NodeRows,
-    pub cell: u32,
+    pub cell: InRegion,
     pub places: &'a [u32],
     pub kids: &'a [SpokenTree],
 }
@@ -73,7 +73,7 @@ impl<'a> FinishedBranch<'a> {
         found: &mut Needless,
     ) -> Result<(), AllocError> {
         let unlit = self.left.unlit.as_slice();
-        let place = self.places.get(index).copied().unwrap_or(u32::MAX);
+        let place = InRegion::of(self.places.get(index).copied().unwrap_or(u32::MAX));
         if found.is_gone_at(index) || is_needed(self.kids, &found.is_gone, index, place) {
             return Ok(());
         }
@@ -83,15 +83,18 @@ impl<'a> FinishedBranch<'a> {
                 kid.spoken.write_cells(rest.as_mut_slice());
             }
         }
-        set_bit(rest.as_mut_slice(), self.cell as usize);
+        set_bit(rest.as_mut_slice(), self.cell.index());
         keep_all(rest.as_mut_slice(), unlit);
         for (other, by) in self.places.iter().enumerate() {
-            let by = *by;
+            let by = InRegion::of(*by);
             if other != index
                 && !found.is_gone_at(other)
                 && self.whole.is_within(place, by, &rest)
             {
-                found.bars.push(Bar { place, by })?;
+                found.bars.push(Bar {
+                    place: place.number(),
+                    by: by.number(),
+                })?;
                 let cells = found.cells.as_mut_slice();
                 self.whole.mark_beyond(place, by, unlit, cells);
                 found.go(index);
@@ -127,7 +130,7 @@ fn has_weights(kids: &[SpokenTree]) -> bool {
 
 /// Whether the place mustn't be barred above the tree of one of the kids before this one that stay. Where it is the
 /// place of a kid there, that one goes with it.
-fn is_needed(kids: &[SpokenTree], is_gone: &[bool], index: usize, place: u32) -> bool {
+fn is_needed(kids: &[SpokenTree], is_gone: &[bool], index: usize, place: InRegion) -> bool {
     for (other, kid) in kids.iter().enumerate() {
         if other < index
             && !is_gone.get(other).copied().unwrap_or(false)

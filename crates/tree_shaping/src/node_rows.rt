@@ -2,6 +2,7 @@
 
 use crate::needless_kids::Needless;
 use crate::spoken::Spoken;
+use instance_reduction::InRegion;
 use number_lists::{clear_bit, drop_all, is_set, set_bit};
 use proof_tree::Bar;
 use std::alloc::{AllocError, Global};
@@ -35,7 +36,7 @@ impl NodeRows {
         for bar in bars {
             set_bit(self.barred.as_mut_slice(), bar.place as usize);
             if !is_set(&self.gone, bar.place as usize) {
-                spoken.add_by(bar.by);
+                spoken.add_by(InRegion::of(bar.by));
                 kept.push(*bar)?;
             }
         }

@@ -1,5 +1,6 @@
 //! What a finished tree speaks of, by the indices of cells and places in the region.
 
+use instance_reduction::InRegion;
 use instance_regions::Region;
 use number_lists::{is_set, join_into, set_bit};
 use proof_rules::Group;
@@ -37,8 +38,8 @@ impl Spoken {
     }
 
     /// Whether the place mustn't be barred above the tree.
-    pub(crate) fn has_by(&self, place: u32) -> bool {
-        is_set(&self.bys, place as usize)
+    pub(crate) fn has_by(&self, place: InRegion) -> bool {
+        is_set(&self.bys, place.index())
     }
 
     /// Adds the cells to a row.
@@ -48,27 +49,27 @@ impl Spoken {
 
     pub(crate) fn add_cells(&mut self, cells: &[u32]) {
         for cell in cells {
-            self.add_cell(*cell);
+            self.add_cell(InRegion::of(*cell));
         }
     }
 
     pub(crate) fn add_groups(&mut self, groups: &[Group]) {
         for group in groups {
             for share in group.shares.as_slice() {
-                self.add_cell(share.cell);
+                self.add_cell(InRegion::of(share.cell));
             }
         }
         self.has_weights = true;
     }
 
-    pub(crate) fn add_cell(&mut self, cell: u32) {
-        set_bit(self.cells.as_mut_slice(), cell as usize);
+    pub(crate) fn add_cell(&mut self, cell: InRegion) {
+        set_bit(self.cells.as_mut_slice(), cell.index());
         self.size = self.size.saturating_add(1);
     }
 
     /// Adds a place that another is left out for.
-    pub(crate) fn add_by(&mut self, by: u32) {
-        set_bit(self.bys.as_mut_slice(), by as usize);
+    pub(crate) fn add_by(&mut self, by: InRegion) {
+        set_bit(self.bys.as_mut_slice(), by.index());
     }
 
     /// Adds what another tree speaks of.

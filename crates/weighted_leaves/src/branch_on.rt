@@ -1,8 +1,10 @@
-//! What to branch on, by its number in the instance.
+//! What to branch on.
+
+use instance_reduction::InInstance;
 
 /// A cell to branch on, or a place to pick.
 #[derive(Clone, Copy)]
 pub enum BranchOn {
-    Cell(u32),
-    Place(u32),
+    Cell(InInstance),
+    Place(InInstance),
 }

@@ -1,8 +1,8 @@
 //! Groups of a weighted leaf, of whole weights.
 
 use cave_base::Sequence;
-use instance_reduction::RowsLeft;
-use linear_relaxation::WholeWeights;
+use instance_reduction::{InInstance, RowsLeft};
+use linear_relaxation::{InPart, WholeWeights};
 use number_lists::is_set;
 use proof_rules::{Group, Share};
 use std::alloc::{AllocError, Global};
@@ -16,7 +16,7 @@ pub(crate) fn push_alone(
 ) -> Result<(), AllocError> {
     let mut shares = Vec::new(alloc);
     for cell in cells {
-        push_share(&mut shares, left, *cell, 1)?;
+        push_share(&mut shares, left, InInstance::of(*cell), 1)?;
     }
     push_shares(groups, 1, shares)
 }
@@ -31,23 +31,23 @@ pub(crate) fn push_group(
 ) -> Result<(), AllocError> {
     let mut shares = Vec::new(alloc);
     for (index, cell) in cells.iter().enumerate() {
-        push_share(&mut shares, left, *cell, whole.weight(index))?;
+        let weight = whole.weight(InPart::at(index));
+        push_share(&mut shares, left, InInstance::of(*cell), weight)?;
     }
     push_shares(groups, whole.capacity(), shares)
 }
 
-/// Adds the share of a cell of the instance, if it is left and weighs anything.
+/// Adds the share of a cell, if it is left and weighs anything.
 fn push_share(
     shares: &mut Vec<Share>,
     left: RowsLeft<'_>,
-    cell: u32,
+    cell: InInstance,
     weight: u32,
 ) -> Result<(), AllocError> {
-    let number = cell as usize;
-    if let Some(cell) = left.instance.cells().get(number) {
-        if weight > 0 && is_set(left.cells, number) {
+    if let Some(named) = left.instance.cell_in_region(cell) {
+        if weight > 0 && is_set(left.cells, cell.index()) {
             shares.push(Share {
-                cell: cell.number(),
+                cell: named.number(),
                 weight,
             })?;
         }

@@ -4,6 +4,7 @@
 use crate::kid_bounds::KidBounds;
 use crate::lane_runs::{LaneState, state};
 use crate::tree_sizes::before;
+use instance_reduction::InInstance;
 use linear_relaxation::{LANES, Lanes};
 use std::alloc::{AllocError, Global};
 
@@ -21,7 +22,7 @@ struct LaneKid {
 #[derive(Clone, Copy, Drop)]
 pub(crate) struct DoneLane {
     pub lane: usize,
-    pub place: u32,
+    pub place: InInstance,
 }
 
 /// Kids, some of them in lanes.
@@ -85,6 +86,7 @@ impl<'a> KidLanes<'a> {
                 let is_open = matches!(state(&self.lanes, lane, self.short_of), LaneState::Open);
                 if !is_open || lane_kid.runs >= KID_RUNS {
                     let place = self.places.get(lane_kid.kid).copied().unwrap_or(u32::MAX);
+                    let place = InInstance::of(place);
                     done.push(DoneLane { lane, place })?;
                 }
             }
@@ -119,7 +121,7 @@ impl<'a> KidLanes<'a> {
         if let Some(place) = self.places.get(kid) {
             let earlier = before(self.places, kid);
             self.kids
-                .tell(&mut self.lanes, lane, *place as usize, earlier);
+                .tell(&mut self.lanes, lane, InInstance::of(*place), earlier);
             self.next = kid.saturating_add(1);
             next = Some(LaneKid { kid, runs: 0 });
         } else {

@@ -2,6 +2,7 @@
 
 use crate::lane_runs::{LaneState, state};
 use crate::parts::Part;
+use instance_reduction::InInstance;
 use linear_relaxation::{Lanes, at};
 use number_lists::is_set;
 use std::alloc::{AllocError, Global};
@@ -10,7 +11,7 @@ use std::alloc::{AllocError, Global};
 #[derive(Drop)]
 pub(crate) struct KidStart {
     /// The place that the kid takes, or bars.
-    place: u32,
+    place: InInstance,
     is_taken: bool,
     /// Whether the weights are likely to close it.
     pub is_closed: bool,
@@ -24,7 +25,7 @@ pub(crate) struct KidStart {
 /// A kid's place, whether it is taken or barred there, the part by its number, and the places of the lanes.
 #[derive(Clone, Copy)]
 pub(crate) struct KidName<'a> {
-    pub place: u32,
+    pub place: InInstance,
     pub is_taken: bool,
     pub part: usize,
     pub places: &'a [u32],
@@ -57,11 +58,11 @@ impl KidStart {
     }
 
     /// Whether it is the kid that takes this place, or one where its place isn't open.
-    pub(crate) fn is_of(&self, place: usize, open: &[u64]) -> bool {
+    pub(crate) fn is_of(&self, place: InInstance, open: &[u64]) -> bool {
         if self.is_taken {
-            return self.place as usize == place;
+            return self.place.number() == place.number();
         }
-        !is_set(open, self.place as usize)
+        !is_set(open, self.place.index())
     }
 
     /// Writes the weights, and how much of each place is taken, by the instance's numbers.

@@ -6,7 +6,7 @@ use crate::kid_bounds::KidBounds;
 use crate::kid_lanes::KidLanes;
 use crate::kid_start::{KidName, KidStart};
 use crate::parts::Part;
-use linear_relaxation::ONE;
+use linear_relaxation::{InPart, ONE};
 use number_lists::clear_bit;
 use std::alloc::{AllocError, Global};
 
@@ -17,7 +17,7 @@ impl<'a> Shortfall<'a> {
         alloc: Global,
         number: usize,
         part: &'a Part,
-        cell: usize,
+        cell: InPart,
     ) -> Result<Vec<KidStart>, AllocError> {
         let mut kids = KidBounds::new(alloc, self.site, self.left, part)?;
         let places = kids.kids(alloc, cell)?;

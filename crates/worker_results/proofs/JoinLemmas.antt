@@ -14,7 +14,7 @@ use Rattle.schedule_law.specs.Joined.{pieces_closed, pieces_opened}
 use Rattle.schedule_law.proofs.PieceLemmas.{weigh-append}
 use Rattle.schedule_law.proofs.LongLemmas.{kids-append, pieces-append}
 use Rattle.worker_results.specs.Naming.{numbers_from}
-use Rattle.worker_results.specs.Passes.{Owned, KnownPass}
+use Rattle.worker_results.specs.Passes.{Owned, Row}
 use Rattle.worker_results.specs.Joining.{StartWith, numbers_of, total}
 use Rattle.worker_results.specs.Parting.{AreParted, told_size, weigh_done}
 use Rattle.worker_results.specs.Taking.{AreDrained, TakeRows}
@@ -63,7 +63,7 @@ total_starts h start (o ∷ os) = omega (arith, total_starts h start os)
 
 -- where all seats and passes came back, each piece that came to be is accounted for once
 pub joined : (region : Instance) (start : ℕ → List Subproblem) (workers goal word : ℕ)
-    (old new : Known) (owners drained : List Owned) (rows : List (List KnownPass)) (works : List Worked)
+    (old new : Known) (owners drained : List Owned) (rows : List Row) (works : List Worked)
     (left : List Subproblem) → AreParted region start workers old new owners rows works → TakeRows owners rows drained
     → AreDrained drained left → old.told ≡ Some goal → new.told ≡ Some word → word ≤ new.seen
     → numbers_of owners ≡ numbers_from 0 workers → StartWith start workers (root_of region ∷ [])

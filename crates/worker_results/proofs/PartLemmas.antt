@@ -12,10 +12,10 @@ use Rattle.proof_tree.specs.Weights.{weigh}
 use Rattle.schedule_law.specs.Joined.{all_kids, least_size, less_by}
 use Rattle.schedule_law.specs.Worked.{IsClosedFrom, IsWork, Worked}
 use Rattle.schedule_law.proofs.PieceLemmas.{weigh-append}
-use Rattle.worker_results.specs.Passes.{Owned, KnownPass, all_taken}
+use Rattle.worker_results.specs.Passes.{IsRow, KnownPass, Owned, Row, all_taken}
 use Rattle.worker_results.specs.Results.{Handed, KeepsTold}
 use Rattle.worker_results.specs.Joining.{numbers_of, total, workers_of, works_of}
-use Rattle.worker_results.specs.Parting.{AreResultParts, IsOneMore, IsRow, AreParted, told_size, weigh_done}
+use Rattle.worker_results.specs.Parting.{AreResultParts, IsOneMore, AreParted, told_size, weigh_done}
 
 -- an item more adds its number
 pub total-push : {A : Type 0} (f : A → ℕ) (xs : List A) (x : A) → total f (xs ++ x ∷ []) ≡ total f xs + f x
@@ -92,8 +92,8 @@ works_less region n m works le all =
 -- ---- one more
 
 module _ (region : Instance) (start : ℕ → List Subproblem) (workers : ℕ) where
-  apart_push : (old new : Known) (owners : List Owned) (rows : List (List KnownPass)) (works : List Worked)
-      (done : Handed) (own : Owned) (row : List KnownPass) (work : Worked)
+  apart_push : (old new : Known) (owners : List Owned) (rows : List Row) (works : List Worked)
+      (done : Handed) (own : Owned) (row : Row) (work : Worked)
       → AreParted region start workers old new owners rows works → AreResultParts region start workers done own row work
       → AreParted region start workers old (together new done.knows) (owners ++ own ∷ []) (rows ++ row ∷ [])
       (works ++ work ∷ [])
@@ -119,7 +119,7 @@ module _ (region : Instance) (start : ℕ → List Subproblem) (workers : ℕ) w
         balance = λ h. (let a = p.balance h in let b = are.is_done.adds_up.balance h in
             let c = total-push (weigh_done h) works work in
             let d = total-push (λ (o : Owned). weigh h o.knows.taken) owners own in
-            let e = total-push (λ (r : List KnownPass). weigh h (all_taken r)) rows row in
+            let e = total-push (λ (r : Row). weigh h (all_taken r.items)) rows row in
             let j = total-push (λ (o : Owned). weigh h o.knows.pushed) owners own in
             let l = total-push (λ (o : Owned). weigh h (start o.worker)) owners own in
             let n = total-push (λ (w : Worked). weigh h (all_kids w.opened)) works work in
@@ -133,14 +133,14 @@ module _ (region : Instance) (start : ℕ → List Subproblem) (workers : ℕ) w
             omega arith);
       }
 
-  module _ (done : Handed) (owners more_owners : List Owned) (rows more_rows : List (List KnownPass))
+  module _ (done : Handed) (owners more_owners : List Owned) (rows more_rows : List Row)
       (works more_works : List Worked)
       (one : IsOneMore region start workers done owners rows works more_owners more_rows more_works) where
     -- one result more was taken apart
     pub apart_more : (old new next : Known) → AreParted region start workers old new owners rows works
         → next ≡ together new done.knows → AreParted region start workers old next more_owners more_rows more_works
     apart_more old new next p is =
-        subst (λ (x : Known × (List Owned × (List (List KnownPass) × List Worked))).
+        subst (λ (x : Known × (List Owned × (List Row × List Worked))).
         AreParted region start workers old x.0 x.1.0 x.1.1.0 x.1.1.1)
         (λ i. (sym is i, (sym one.in_owners i, (sym one.in_rows i, sym one.in_works i))))
         (apart_push old new owners rows works done one.own one.row one.work p one.are)

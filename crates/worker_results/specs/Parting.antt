@@ -7,8 +7,7 @@ use Rattle.proof_tree.specs.Piece.{Subproblem}
 use Rattle.proof_tree.specs.Weights.{weigh}
 use Rattle.schedule_law.specs.Joined.{all_kids, least_size, pieces_closed, pieces_opened}
 use Rattle.schedule_law.specs.Worked.{IsWork, Worked}
-use Rattle.worker_results.specs.Naming.{numbers_from}
-use Rattle.worker_results.specs.Passes.{Owned, KnownPass, all_taken, deques}
+use Rattle.worker_results.specs.Passes.{IsRow, Owned, Row, all_taken}
 use Rattle.worker_results.specs.Results.{Handed, IsHandedIn}
 use Rattle.worker_results.specs.Holdings.{work_of}
 use Rattle.worker_results.specs.Joining.{numbers_of, total, workers_of, works_of}
@@ -16,10 +15,6 @@ use Rattle.worker_results.specs.Joining.{numbers_of, total, workers_of, works_of
 -- `passes` passes at each deque are still out
 abbrev pub AreOut : ℕ → List Owned → Type 0
 AreOut passes owners = All (λ own. own.knows.out ≡ passes) owners
-
--- a pass at each deque, in order
-abbrev pub IsRow : ℕ → List KnownPass → Type 0
-IsRow workers row = deques row ≡ numbers_from 0 workers
 
 -- a worker's pieces, by what became of them
 abbrev pub weigh_done : (Subproblem → ℕ) → Worked → ℕ
@@ -33,7 +28,7 @@ told_size (Some size) = size
 
 -- what is known of the parts, where the first seat was so before it took in the others, and is so now
 pub record AreParted (region : Instance) (start : ℕ → List Subproblem) (workers : ℕ) (old new : Known)
-    (owners : List Owned) (rows : List (List KnownPass)) (works : List Worked) : Type 0 where
+    (owners : List Owned) (rows : List Row) (works : List Worked) : Type 0 where
   pub first : new.first ≡ true
   pub out : new.out ≡ old.out - length rows
   pub kept : AtLeast (least_size (told_size old.told) works) new.told
@@ -43,11 +38,11 @@ pub record AreParted (region : Instance) (start : ℕ → List Subproblem) (work
   pub balance : (weight : Subproblem → ℕ)
       → total (weigh_done weight) works + total (λ own. weigh weight own.knows.pushed) owners
       ≡ total (λ own. weigh weight (start own.worker)) owners
-      + (total (λ own. weigh weight own.knows.taken) owners + total (λ row. weigh weight (all_taken row)) rows)
+      + (total (λ own. weigh weight own.knows.taken) owners + total (λ row. weigh weight (all_taken row.items)) rows)
       + total (λ work. weigh weight (all_kids work.opened)) works
 
 -- the owner, the row and the work of each result, in order
-pub record AreOfEach (results : List Handed) (owners : List Owned) (rows : List (List KnownPass)) (works : List Worked)
+pub record AreOfEach (results : List Handed) (owners : List Owned) (rows : List Row) (works : List Worked)
     : Type 0 where
   pub numbers : numbers_of owners ≡ workers_of results
   pub count : length rows ≡ length results
@@ -55,9 +50,9 @@ pub record AreOfEach (results : List Handed) (owners : List Owned) (rows : List 
 
 -- the parts of one result
 pub record AreResultParts (region : Instance) (start : ℕ → List Subproblem) (workers : ℕ) (done : Handed) (own : Owned)
-    (row : List KnownPass) (work : Worked) : Type 0 where
+    (row : Row) (work : Worked) : Type 0 where
   pub owner : own ≡ record { worker = done.holdings.worker; knows = done.holdings.own }
-  pub passes : row ≡ done.holdings.passes
+  pub passes : row.items ≡ done.holdings.passes
   pub heaps : work ≡ work_of done.holdings done.cover
   pub out : own.knows.out ≡ workers
   pub each : IsRow workers row
@@ -65,10 +60,10 @@ pub record AreResultParts (region : Instance) (start : ℕ → List Subproblem) 
 
 -- one result was taken apart, and its parts stand at the ends
 pub record IsOneMore (region : Instance) (start : ℕ → List Subproblem) (workers : ℕ) (done : Handed)
-    (owners : List Owned) (rows : List (List KnownPass)) (works : List Worked) (more_owners : List Owned)
-    (more_rows : List (List KnownPass)) (more_works : List Worked) : Type 0 where
+    (owners : List Owned) (rows : List Row) (works : List Worked) (more_owners : List Owned)
+    (more_rows : List Row) (more_works : List Worked) : Type 0 where
   pub own : Owned
-  pub row : List KnownPass
+  pub row : Row
   pub work : Worked
   pub are : AreResultParts region start workers done own row work
   pub in_owners : more_owners ≡ owners ++ own ∷ []

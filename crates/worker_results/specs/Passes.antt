@@ -1,10 +1,12 @@
 -- What is known of a worker's passes at the deques. This is this project's own.
-use Rattle.std.specs.Prelude.{◌≡◌, ℕ, ◌+◌, ◌-◌, true, false, List, [], ◌++◌, map, flat_map, refl}
+use Rattle.std.specs.Prelude.{◌≡◌, ℕ, ◌+◌, ◌-◌, true, false, List, [], ◌++◌, Vec, map, flat_map, refl}
 use Rattle.std.specs.Coded.{Coded, code_by, coded×, coded_ℕ}
+use Rattle.std.specs.declared.alloc.Global.{Global}
 use Rattle.proof_tree.specs.Piece.{Subproblem}
 use Rattle.proof_tree.specs.Weights.{weigh}
 use Rattle.piece_deque.specs.declared.dealt.Dealt.{Dealt}
 use Rattle.piece_deque.specs.Deals.{dealt_coded}
+use Rattle.worker_results.specs.Naming.{numbers_from}
 
 -- a pass at the deque of this number
 pub record KnownPass : Type 0 where
@@ -37,6 +39,14 @@ IsOthers pass = (pass.spent ≡ false) × (pass.pushed ≡ [])
 -- the numbers of the deques
 abbrev pub deques : List KnownPass → List ℕ
 deques passes = map (λ pass. pass.deque) passes
+
+-- passes as they lie in memory
+abbrev pub Row : Type 0
+Row = Vec KnownPass Global
+
+-- a pass at each deque, in order
+abbrev pub IsRow : ℕ → Row → Type 0
+IsRow workers row = deques row.items ≡ numbers_from 0 workers
 
 -- all that the passes took
 abbrev pub all_taken : List KnownPass → List Subproblem

@@ -24,10 +24,6 @@ KeepsTold cover told = IfSome told (HasCoverOf cover)
 abbrev pub IsSeatAt : TableId → Seated → Type 0
 IsSeatAt beacon seat = (seat.beacon ≡ beacon) × (seat.knows.first ≡ false)
 
--- one that told nothing yet
-abbrev pub IsNewSeatAt : TableId → Seated → Type 0
-IsNewSeatAt beacon seat = IsSeatAt beacon seat × (seat.knows.told ≡ None)
-
 -- a worker's desk
 pub record Desked : Type 0 where
   pub region : Instance

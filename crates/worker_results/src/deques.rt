@@ -1,20 +1,21 @@
 //! Owners take back the passes of all workers, and what is left in the deques is taken: `TakeRows` and `AreDrained` of
 //! specs/Taking.antt.
 ghost use Rattle.std.specs.Prelude.{◌≡◌, length, All, IfOk};
-ghost use Rattle.worker_results.specs.Parting.{AreOut, IsRow};
+ghost use Rattle.worker_results.specs.Parting.{AreOut};
 ghost use Rattle.worker_results.specs.Joining.{numbers_of};
 ghost use Rattle.worker_results.specs.Naming.{numbers_from};
+ghost use Rattle.worker_results.specs.Passes.{IsRow};
 ghost use Rattle.worker_results.specs.Taking.{AreDrained, TakeRows, take_back_row};
 
 use crate::naming::Naming;
 use crate::own::Own;
-use crate::pass_row::PassRow;
+use crate::pass_at::PassAt;
 use cave_model::OutOfMemory;
 use proof_tree::Piece;
 use std::alloc::Global;
 
 /// Each owner takes back all passes at its deque.
-pub(crate) fn take_rows<B: Naming>(owners: &mut Vec<Own<B>>, rows: Vec<PassRow<B>>)
+pub(crate) fn take_rows<B: Naming>(owners: &mut Vec<Own<B>>, rows: Vec<Vec<PassAt<B>>>)
     requires numbers { numbers_of owners.old.items ≡ numbers_from 0 B.workers }
     requires out { AreOut (length rows.items) owners.old.items }
     requires rows { All (IsRow B.workers) rows.items }
@@ -27,13 +28,14 @@ pub(crate) fn take_rows<B: Naming>(owners: &mut Vec<Own<B>>, rows: Vec<PassRow<B
 }
 
 /// Each owner takes back one pass at its deque.
-fn take_row<B: Naming>(owners: &mut Vec<Own<B>>, row: PassRow<B>)
-    requires { numbers_of owners.old.items ≡ numbers_from 0 B.workers }
+fn take_row<B: Naming>(owners: &mut Vec<Own<B>>, row: Vec<PassAt<B>>)
+    requires numbers { numbers_of owners.old.items ≡ numbers_from 0 B.workers }
+    requires row { IsRow B.workers row }
     ensures numbers { numbers_of owners.new.items ≡ numbers_of owners.old.items }
-    ensures done { owners.new.items ≡ take_back_row owners.old.items row }
+    ensures done { owners.new.items ≡ take_back_row owners.old.items row.items }
 {
     let mut next = 0;
-    for pass in row.into_items() {
+    for pass in row {
         owners[next].take_back(pass);
         next += 1;
     }

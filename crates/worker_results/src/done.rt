@@ -1,21 +1,17 @@
-//! What a worker hands over once it is done: `Handed` of specs/Results.antt. What it promises is `IsHandedIn`
-//! there.
+//! What a worker has done: `Handed` of specs/Results.antt, which it begins with and hands over in the end. What that
+//! promises is `IsHandedIn` there.
 ghost use Rattle.std.specs.Prelude.{◌≡◌, IfSome};
 ghost use Rattle.schedule_law.specs.Worked.{IsCoverFor};
-ghost use Rattle.worker_results.specs.Parting.{AreResultParts};
 ghost use Rattle.worker_results.specs.Results.{IsSeatAt, KeepsTold};
 ghost use Rattle.worker_results.specs.Holdings.{AreClosedFrom};
 
 use crate::holdings::Holdings;
 use crate::naming::Naming;
-use crate::own::Own;
-use crate::pass_row::PassRow;
 use beacon::Seat;
 use instance_regions::Cover;
-use schedule_law::Work;
 use std::marker::Model;
 
-/// A worker's seat, its passes, its smallest cover, and what became of the pieces that it took.
+/// A worker's seat, its smallest cover, its passes, and what became of the pieces that it took.
 #[derive(Drop)]
 pub struct Done<B: Naming> {
     seat: Seat,
@@ -44,17 +40,8 @@ impl<B: Naming> Model for Done<B> {
         × AreClosedFrom B.region d.seat.knows.seen d.holdings.closed };
 }
 
-/// The parts of a result.
-#[derive(Drop)]
-pub(crate) struct Parts<B: Naming> {
-    pub(crate) seat: Seat,
-    pub(crate) own: Own<B>,
-    pub(crate) passes: PassRow<B>,
-    pub(crate) work: Work,
-}
-
 impl<B: Naming> Done<B> {
-    /// The result of a worker.
+    /// What a worker has done, with this seat.
     pub fn new(seat: Seat, cover: Option<Cover>, holdings: Holdings<B>) -> Done<B>
         requires seat { IsSeatAt B.beacon seat }
         requires cover { KeepsTold cover seat.knows.told × IfSome cover (IsCoverFor B.region) }
@@ -79,23 +66,19 @@ impl<B: Naming> Done<B> {
         self.holdings.worker()
     }
 
-    /// All that it hands over.
-    pub(crate) fn into_parts(self) -> Parts<B>
-        ensures seat { (result.seat.beacon ≡ B.beacon) × (result.seat.knows ≡ self.knows) }
-        ensures parts { AreResultParts B.region B.start B.workers self
-            result.own result.passes result.work }
+    /// The seat, the cover and the holdings.
+    pub fn into_parts(self) -> (Seat, Option<Cover>, Holdings<B>)
+        ensures seat { IsSeatAt B.beacon result.0 × (result.0.knows ≡ self.knows) }
+        ensures cover { (result.1 ≡ self.cover) × KeepsTold result.1 result.0.knows.told
+            × IfSome result.1 (IsCoverFor B.region) }
+        ensures holdings { (result.2 ≡ self.holdings)
+            × AreClosedFrom B.region result.0.knows.seen result.2.closed }
     {
         let Done {
             seat,
             cover,
             holdings,
         } = self;
-        let (own, passes, work) = holdings.into_parts(cover);
-        Parts {
-            seat,
-            own,
-            passes,
-            work,
-        }
+        (seat, cover, holdings)
     }
 }

@@ -1,13 +1,12 @@
 //! What a worker holds while it works: its passes, and what became of the pieces that it took. Seen as `HeldParts` of
 //! specs/Holdings.antt, it always is as `HeldSoundly` says.
 ghost use Rattle.std.specs.Prelude.{◌≡◌, ◌-◌, [], length, option_copied, option_map, slice_get};
-ghost use Rattle.worker_results.specs.Naming.{numbers_from};
-ghost use Rattle.worker_results.specs.Passes.{all_taken, deques};
+ghost use Rattle.worker_results.specs.Passes.{IsRow, all_taken};
 ghost use Rattle.worker_results.specs.Holdings.{IsFresh, HeldSoundly, work_of};
 
 use crate::naming::Naming;
 use crate::own::Own;
-use crate::pass_row::PassRow;
+use crate::pass_at::PassAt;
 use instance_regions::Cover;
 use proof_tree::{Closed, Name, Opened, Piece};
 use schedule_law::Work;
@@ -18,7 +17,7 @@ use std::marker::Model;
 #[derive(Drop)]
 pub struct Holdings<B: Naming> {
     pub(crate) own: Own<B>,
-    pub(crate) passes: PassRow<B>,
+    pub(crate) passes: Vec<PassAt<B>>,
     pub(crate) closed: Vec<Closed>,
     pub(crate) opened: Vec<Opened>,
     pub(crate) held: Vec<Piece>,
@@ -27,6 +26,7 @@ pub struct Holdings<B: Naming> {
 
 impl<B: Naming> Model for Holdings<B> {
     ghost use Rattle.std.specs.Prelude.{◌≡◌};
+    ghost use Rattle.worker_results.specs.Passes.{IsRow};
     ghost use Rattle.worker_results.specs.Holdings.{HeldParts, held_parts_coded, held_of, HeldSoundly};
 
     ghost Value = { HeldParts };
@@ -34,21 +34,21 @@ impl<B: Naming> Model for Holdings<B> {
     ghost coded = { held_parts_coded };
 
     ghost view = { λ s.
-        held_of s.own s.passes s.closed.items s.opened.items s.held.items s.kept.items };
+        held_of s.own s.passes.items s.closed.items s.opened.items s.held.items s.kept.items };
 
-    ghost invariant = { λ s. (s.own.knows.out ≡ B.workers)
+    ghost invariant = { λ s. ((s.own.knows.out ≡ B.workers) × IsRow B.workers s.passes)
         × HeldSoundly B.region (B.start s.own.worker)
-        (held_of s.own s.passes s.closed.items s.opened.items s.held.items s.kept.items) };
+        (held_of s.own s.passes.items s.closed.items s.opened.items s.held.items s.kept.items) };
 }
 
 impl<B: Naming> Holdings<B> {
     /// Nothing was taken yet, and nothing pushed but what is there at the start.
-    pub fn new(alloc: Global, own: Own<B>, passes: PassRow<B>) -> Holdings<B>
+    pub fn new(alloc: Global, own: Own<B>, passes: Vec<PassAt<B>>) -> Holdings<B>
         requires own { (own.knows.out ≡ B.workers) × (own.knows.pushed ≡ B.start own.worker)
             × (own.knows.taken ≡ []) }
-        requires others { all_taken passes ≡ [] }
+        requires others { IsRow B.workers passes × (all_taken passes.items ≡ []) }
         ensures passes { (result.worker ≡ own.worker) × (result.own ≡ own.knows)
-            × (result.passes ≡ passes) }
+            × (result.passes ≡ passes.items) }
         ensures fresh { IsFresh (B.start own.worker) result }
     {
         Holdings {
@@ -77,10 +77,10 @@ impl<B: Naming> Holdings<B> {
     }
 
     /// Its passes, and what it hands over with this cover.
-    pub fn into_parts(self, cover: Option<Cover>) -> (Own<B>, PassRow<B>, Work)
+    pub fn into_parts(self, cover: Option<Cover>) -> (Own<B>, Vec<PassAt<B>>, Work)
         ensures own { (result.0.worker ≡ self.worker) × (result.0.knows ≡ self.own)
             × (result.0.knows.out ≡ B.workers) }
-        ensures passes { (result.1 ≡ self.passes) × (deques result.1 ≡ numbers_from 0 B.workers) }
+        ensures passes { (result.1.items ≡ self.passes) × IsRow B.workers result.1 }
         ensures work { result.2 ≡ work_of self cover }
         ensures holdings { HeldSoundly B.region (B.start self.worker) self }
     {

@@ -2,10 +2,8 @@
 //! (specs/Holdings.antt, specs/Joining.antt): each piece was opened, closed, handed back or left in a deque, just once.
 #![tactic(auto)]
 
-mod berth;
 mod deques;
 mod done;
-mod draining;
 mod holdings;
 mod joined;
 mod keeping;
@@ -13,19 +11,16 @@ mod naming;
 mod own;
 mod parting;
 mod pass_at;
-mod pass_row;
 mod pool_desk;
 mod step;
 mod taking;
 mod working;
 
-pub use berth::Berth;
 pub use done::Done;
 pub use holdings::Holdings;
 pub use joined::{Joined, close_up};
 pub use naming::Naming;
 pub use own::Own;
 pub use pass_at::PassAt;
-pub use pass_row::PassRow;
 pub use pool_desk::PoolDesk;
 pub use step::{Step, Tried};

@@ -1,15 +1,15 @@
 //! A worker's own end of its deque: `Owned` of specs/Passes.antt. The worker takes and pushes by it, lends passes and
-//! takes them back.
-ghost use Rattle.std.specs.Prelude.{◌≡◌, ◌≢◌, [], ◌∷◌, IfErr, OnOk};
+//! takes them back. Once no thread runs any more, what is left there is taken: `Drained`.
+ghost use Rattle.std.specs.Prelude.{◌≡◌, ◌≢◌, [], ◌∷◌, IfErr, IsTrue, OnOk};
 ghost use Rattle.crossbeam_deque.specs.Handles.{worker_deque, worker_flavor, worker_view};
 ghost use Rattle.piece_deque.specs.Deals.{one_more_out, pushed_too, thief_pass};
 ghost use Rattle.piece_deque.specs.Rule.{Answers, HeldCount, WasEmpty};
 ghost use Rattle.piece_deque.specs.declared.answer.Take.TheVariants.{Again};
-ghost use Rattle.worker_results.specs.Passes.{IsOwners, took_back};
+ghost use Rattle.worker_results.specs.Passes.{Drained, IsOwners, took_back};
 
 use crate::naming::Naming;
 use crate::pass_at::PassAt;
-use piece_deque::{Owner, Take};
+use piece_deque::{Owner, Take, last_take};
 use proof_tree::Piece;
 use std::marker::{Model, PhantomData};
 
@@ -102,12 +102,22 @@ impl<B: Naming> Own<B> {
         piece_deque::take_back(&mut self.owner, pass.into_pass());
     }
 
-    /// The deque's end alone.
-    pub(crate) fn into_owner(self) -> Owner
-        ensures known { worker_view result ≡ self.knows }
-        ensures owners { (worker_flavor result ≡ 0) × IsOwners (worker_view result) }
+    /// Takes what is left, where each other pass was taken back. False where memory was refused.
+    pub fn drain(self, left: &mut Vec<Piece>) -> bool
+        requires { self.knows.out ≡ 0 }
+        ensures { IsTrue result → Drained self.knows left.old.items left.new.items }
     {
-        let Own { owner, .. } = self;
-        owner
+        let Own { mut owner, .. } = self;
+        for _ in 0..u64::MAX {
+            if left.reserve(1).is_err() {
+                return false;
+            }
+            match last_take(&mut owner) {
+                Take::Got(piece) => left.push_reserved(piece),
+                Take::Empty => return true,
+                Take::Again => {}
+            }
+        }
+        false
     }
 }

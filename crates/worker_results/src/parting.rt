@@ -4,10 +4,10 @@ ghost use Rattle.std.specs.Prelude.{◌≡◌, true, IfOk};
 ghost use Rattle.beacon.specs.Marks.{together};
 ghost use Rattle.worker_results.specs.Parting.{AreOfEach, AreParted, IsOneMore};
 
-use crate::done::{Done, Parts};
+use crate::done::Done;
 use crate::naming::Naming;
 use crate::own::Own;
-use crate::pass_row::PassRow;
+use crate::pass_at::PassAt;
 use beacon::{Beacon, Seat};
 use cave_model::OutOfMemory;
 use schedule_law::Work;
@@ -18,7 +18,7 @@ use std::alloc::Global;
 pub(crate) struct AllParts<B: Naming> {
     pub(crate) first: Seat,
     pub(crate) owners: Vec<Own<B>>,
-    pub(crate) rows: Vec<PassRow<B>>,
+    pub(crate) rows: Vec<Vec<PassAt<B>>>,
     pub(crate) works: Vec<Work>,
 }
 
@@ -53,7 +53,7 @@ pub(crate) fn part_all<B: Naming>(
 /// Takes one result more apart, and joins its seat.
 fn part_one<B: Naming>(
     beacon: &Beacon,
-    parts: AllParts<B>,
+    mut parts: AllParts<B>,
     done: Done<B>,
 ) -> Result<AllParts<B>, OutOfMemory>
     requires beacon { (beacon.now ≡ B.beacon) × (parts.first.beacon ≡ B.beacon) }
@@ -64,26 +64,11 @@ fn part_one<B: Naming>(
         parts.owners.items parts.rows.items parts.works.items
         more.owners.items more.rows.items more.works.items) }
 {
-    let AllParts {
-        mut first,
-        mut owners,
-        mut rows,
-        mut works,
-    } = parts;
-    let Parts {
-        seat,
-        own,
-        passes,
-        work,
-    } = done.into_parts();
-    beacon.join(&mut first, seat);
-    owners.push(own)?;
-    rows.push(passes)?;
-    works.push(work)?;
-    Ok(AllParts {
-        first,
-        owners,
-        rows,
-        works,
-    })
+    let (seat, cover, holdings) = done.into_parts();
+    let (own, passes, work) = holdings.into_parts(cover);
+    beacon.join(&mut parts.first, seat);
+    parts.owners.push(own)?;
+    parts.rows.push(passes)?;
+    parts.works.push(work)?;
+    Ok(parts)
 }

@@ -3,7 +3,7 @@
 ghost use Rattle.std.specs.Arc.{arc_value};
 ghost use Rattle.std.specs.Prelude.{◌≡◌, None, Some, IfSome, if◌then◌else◌};
 ghost use Rattle.schedule_law.specs.Worked.{IsCoverFor};
-ghost use Rattle.worker_results.specs.Results.{IsNewSeatAt, IsSeatAt, KeepsTold, one_more, state_of};
+ghost use Rattle.worker_results.specs.Results.{IsSeatAt, KeepsTold, one_more, state_of};
 
 use crate::naming::Naming;
 use beacon::{Beacon, Seat};
@@ -54,14 +54,16 @@ impl<'a, B: Naming> PoolDesk<'a, B> {
         beacon: &'a Beacon,
         region: &'a Arc<Region>,
         seat: Seat,
+        cover: Option<Cover>,
         is_limited: bool,
     ) -> PoolDesk<'a, B>
         requires places { (beacon.now ≡ B.beacon) × (arc_value region.now ≡ B.region) }
-        requires seat { IsNewSeatAt B.beacon seat }
+        requires seat { IsSeatAt B.beacon seat }
+        requires cover { KeepsTold cover seat.knows.told × IfSome cover (IsCoverFor B.region) }
         ensures { result ≡ record {
           region = B.region;
           knows = seat.knows;
-          cover = None;
+          cover = cover;
           limit = if is_limited then Some 0 else None;
           granted = 0;
         } }
@@ -70,7 +72,7 @@ impl<'a, B: Naming> PoolDesk<'a, B> {
             beacon,
             region,
             seat,
-            cover: None,
+            cover,
             limit: if is_limited { Some(0) } else { None },
             granted: 0,
             of: PhantomData,

@@ -2,10 +2,13 @@
 //! `TakesOwn` and `StealsFrom` of specs/Steps.antt.
 ghost use Rattle.std.specs.Prelude.{◌≡◌, ◌<◌, length};
 ghost use Rattle.worker_results.specs.Naming.{AreThieves};
+ghost use Rattle.worker_results.specs.Passes.{IsRow};
 ghost use Rattle.worker_results.specs.Steps.{StealsFrom, TakesOwn};
+ghost use Rattle.worker_results.specs.Tries.{TriedOne};
 
 use crate::holdings::Holdings;
 use crate::naming::Naming;
+use crate::pass_at::PassAt;
 use crate::step::Tried;
 use piece_deque::{Take, Thief};
 
@@ -40,7 +43,7 @@ impl<B: Naming> Holdings<B> {
         if self.held.reserve(1).is_err() {
             return Tried::OutOfMemory;
         }
-        match self.passes.steal(thieves, deque) {
+        match try_one(&mut self.passes, thieves, deque) {
             Take::Got(piece) => {
                 self.held.push_reserved(piece);
                 Tried::Got
@@ -49,4 +52,18 @@ impl<B: Naming> Holdings<B> {
             Take::Again => Tried::Again,
         }
     }
+}
+
+/// The piece at the front of the deque of this number, by the pass at it.
+fn try_one<B: Naming>(passes: &mut Vec<PassAt<B>>, thieves: &[Thief], deque: usize) -> Take
+    requires thieves { AreThieves B.deque 0 thieves.now }
+    requires number { deque < length thieves.now }
+    requires row { IsRow B.workers passes.old }
+    ensures row { IsRow B.workers passes.new }
+    ensures tried { TriedOne deque passes.old.items result passes.new.items }
+{
+    if deque >= passes.len() {
+        return Take::Again;
+    }
+    passes[deque].steal(&thieves[deque])
 }

@@ -13,7 +13,7 @@ use memory::{Arc, Global};
 use search_core::plan_by_one;
 use search_moves::Moves;
 use search_traits::{RegionFault, Unobserved};
-use set_cover::{Instance, add};
+use set_cover::{Instance, BitRow};
 use std::io::Read;
 
 const MEMORY: &str = "memory is never refused here";
@@ -70,14 +70,19 @@ fn numbers(line: &str) -> Vec<u32> {
         .collect()
 }
 
+/// A row of these ascending bits.
+fn row_of(width: usize, bits: &[u32]) -> BitRow {
+    let [first, last] = [bits.first(), bits.last()].map(|bit| bit.map_or(0, |bit| *bit as usize / 64));
+    let mut row = BitRow::spanning(Global, width, first, last + 1).expect(MEMORY);
+    bits.iter().for_each(|bit| row.add(Global, *bit as usize).expect(MEMORY));
+    row
+}
+
 /// The region of the next lines: its cells, its places, and for each of these the indices of the cells that it lights.
 fn region_of(next: &mut impl FnMut() -> Vec<u32>) -> Region {
     let (cells, places) = (next(), next());
     let width = cells.len().div_ceil(64);
-    let mut rows = vec![0; width * places.len()];
-    for row in rows.chunks_mut(width) {
-        next().iter().for_each(|cell| add(row, *cell as usize));
-    }
+    let rows = places.iter().map(|_| row_of(width, &next())).collect();
     let [cells, places] = [cells, places].map(memory::Vec);
     let instance = Instance::new(cells, places, width, memory::Vec(rows));
     Region::new(Global, instance).expect(MEMORY)

@@ -1,6 +1,6 @@
 //! Relaxations side by side, of three cells of which each place lights two. The linear programs' values are worked out
 //! by hand: one and a half for all of it, two where a place is barred, one where a cell is lit.
-use linear_relaxation::{Lanes, ONE};
+use linear_relaxation::{InPart, Lanes, ONE};
 use number_lists::NumberLists;
 use std::alloc::{AllocError, Global};
 use std::test::Fail;
@@ -31,8 +31,8 @@ fn each_lane_shows_its_own_value(rt: HostRuntime) -> Result<(), Fail> {
     let alloc = rt.alloc();
     let mut lanes = lanes(alloc)?;
     lanes.begin();
-    lanes.bar(1, 2);
-    lanes.light(2, 0);
+    lanes.bar(1, InPart::of(2));
+    lanes.light(2, InPart::of(0));
     lanes.make_ready();
     for _ in 0..4u32 {
         lanes.run(alloc)?;

@@ -1,6 +1,7 @@
-use Rattle.std.proofs.Common.{◌≡◌, ◌∙◌, List, length, ap, sym, arith}
+use Rattle.std.proofs.Common.{◌≡◌, ◌∙◌, length, ap, arith}
 use Rattle.search_pool.proofs.SlotLemmas.{in_a_row, length-map, owned_long}
 use Rattle.search_pool.proofs.CrewLemmas.{few_workers}
+use Rattle.beacon.specs.declared.known.Known.{Known}
 use Rattle.worker_results.specs.Naming.{numbers_from}
 use Rattle.worker_results.specs.Results.{Handed}
 use Rattle.worker_results.specs.Holdings.{work_of}
@@ -15,6 +16,20 @@ run_scope-requires-clause-count g c κs within =
     let same = c.requires.few.0 in
     let slice = c.as_slice.ensures.len in
     (omega (arith, long, few.0, each, same, slice), omega (arith, long, few.1, each, same, slice))
+
+pub close_up-requires-clause-seat : goal.close_up-requires-clause-seat
+close_up-requires-clause-seat g c =
+    let split = c.in_ok-slots.ensures.first in
+    let first = c.requires.seat in
+    let owned = c.in_ok-passes.passes.owned.items in
+    let long = owned_long owned g.B.Naming.workers c.in_ok-passes.ensures.numbers in
+    let each = c.in_ok-slots.ensures.each in
+    record {
+      of_it = split.same ∙ first.1;
+      first = split.chief;
+      told = split.told ∙ ap (λ (k : Known). k.told) first.2;
+      out = (let a = split.out in let b = ap (λ (k : Known). k.out) first.2 in omega (arith, a, b, long, each));
+    }
 
 pub close_up-requires-clause-all : goal.close_up-requires-clause-all
 close_up-requires-clause-all g c =

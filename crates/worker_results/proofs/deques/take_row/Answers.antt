@@ -8,13 +8,13 @@ use Rattle.worker_results.proofs.deques.take_row.Goals as goal
 
 pub loop-pass-init : goal.loop-pass-init
 loop-pass-init g c =
-    let items = c.into_items-pass-items.result.items in
+    let items = c.args.row.items in
     let rest = c.into_iter-pass-iterator.result.rest.items in
     let is : rest ≡ items = c.into_iter-pass-iterator.ensures.into_iter_gives.0 in
-    let of = c.into_items-pass-items.ensures.deques in
+    let of = c.requires.row in
     let long : length rest ≡ g.B.Naming.workers = ap length is ∙ row_long items 0 g.B.Naming.workers of in
     record {
-      numbers = c.requires;
+      numbers = c.requires.numbers;
       deques = ap deques is ∙ of ∙ ap (numbers_from 0) (sym long);
       all = (omega arith);
       done = refl {a = take_back_row c.args.owners.now.items rest};
@@ -28,7 +28,7 @@ returns-clause-done g c =
     let os = c.loop-pass.owners.items in
     let long = owners_long os g.B.Naming.workers i.numbers in
     let all = i.all in
-    let first = c.into_iter-pass-iterator.ensures.into_iter_gives.0 ∙ c.into_items-pass-items.ensures.same in
+    let first = c.into_iter-pass-iterator.ensures.into_iter_gives.0 in
     sym (take_end os c.loop-pass.next rest.items (omega arith)) ∙ i.done
     ∙ ap (take_back_row c.args.owners.now.items) first
 

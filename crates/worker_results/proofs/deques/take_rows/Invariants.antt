@@ -2,9 +2,9 @@ use Rattle.std.proofs.Common.{◌≡◌, ◌+◌, ℕ, length, All}
 use Rattle.proof_tree.specs.Piece.{Subproblem}
 use Rattle.proof_tree.specs.Weights.{weigh}
 use Rattle.worker_results.specs.Naming.{numbers_from}
-use Rattle.worker_results.specs.Passes.{all_taken}
+use Rattle.worker_results.specs.Passes.{IsRow, all_taken}
 use Rattle.worker_results.specs.Joining.{numbers_of, total}
-use Rattle.worker_results.specs.Parting.{AreOut, IsRow}
+use Rattle.worker_results.specs.Parting.{AreOut}
 use Rattle.worker_results.proofs.deques.take_rows.Given as goal
 
 abbrev pub invariant-loop-row : goal.invariant-loop-row
@@ -15,7 +15,7 @@ invariant-loop-row g l = record {
   pushed : (h : Subproblem → ℕ) → total (λ o. weigh h o.knows.pushed) l.owners.items
       ≡ total (λ o. weigh h o.knows.pushed) l.initial.owners.items;
   taken : (h : Subproblem → ℕ) → total (λ o. weigh h o.knows.taken) l.owners.items
-      + total (λ r. weigh h (all_taken r)) l.row-iterator.rest.items
+      + total (λ r. weigh h (all_taken r.items)) l.row-iterator.rest.items
       ≡ total (λ o. weigh h o.knows.taken) l.initial.owners.items
-      + total (λ r. weigh h (all_taken r)) l.initial.row-iterator.rest.items;
+      + total (λ r. weigh h (all_taken r.items)) l.initial.row-iterator.rest.items;
 }

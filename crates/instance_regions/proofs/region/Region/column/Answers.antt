@@ -1,19 +1,18 @@
-use Rattle.std.proofs.Common.{ℕ, List, ◌<◌, ◌+◌, ◌*◌, length, sym, subst}
-use Rattle.std.specs.Prelude.{slice_range}
+use Rattle.std.proofs.Common.{◌<◌, ℕ, List, [], length, ap, arith}
+use Rattle.std.proofs.lemmas.List.{get_or_default}
 use Rattle.set_cover.specs.Instance.{Instance}
-use Rattle.instance_regions.specs.Columns.{height_of, IsColumn}
-use Rattle.instance_regions.proofs.ColumnLemmas.{column_at}
 use Rattle.instance_regions.proofs.region.Region.column.Goals as goal
 
-pub returns-clause-column : goal.returns-clause-column
-returns-clause-column c = subst (λ (i : Instance). IsColumn i c.args.cell
-    (slice_range c.deref.result.now (c.args.cell * c.height-height.result)
-    (c.args.cell * c.height-height.result + c.height-height.result))) c.self.view_is
-    (subst (λ (h : ℕ). IsColumn c.self.inside.instance c.args.cell
-    (slice_range c.deref.result.now (c.args.cell * h) (c.args.cell * h + h))) (sym c.height-height.ensures.exact)
-    (subst (λ (words : List ℕ). IsColumn c.self.inside.instance c.args.cell
-    (slice_range words (c.args.cell * height_of c.self.inside.instance)
-    (c.args.cell * height_of c.self.inside.instance + height_of c.self.inside.instance))) (sym c.deref.ensures.value)
-    (column_at c.self.inside.instance c.self.inside.columns.items c.args.cell
-    (subst (λ (i : Instance). c.args.cell < length i.cells) (sym c.self.view_is) c.requires.inside)
-    c.self.invariant.1)))
+pub returns-clause-short : goal.returns-clause-short
+returns-clause-short c =
+    let columns = c.self.inside.columns.items in
+    let lt : c.args.cell < length c.self.inside.instance.cells =
+    omega (arith, c.requires.inside, ap (λ (i : Instance). length i.cells) c.self.view_is) in
+    omega (
+      arith,
+      ap (λ (l : List ℕ). length l) c.index.ensures,
+      ap (λ (l : List ℕ). length l)
+          (get_or_default columns c.args.cell c.index.result.now [] (omega (arith, lt, c.self.invariant.1.whole))),
+      (c.self.invariant.1.each c.args.cell lt).whole,
+      c.self.invariant.2,
+    )

@@ -14,9 +14,9 @@ invariant_of-self g c =
     let now = c.in-Ok.ensures.ok in
     let own = c.push.new.self in
     let some : 0 < length i.kept.items = (let l = took.len in omega arith) in (
-      ap (λ (d : Dealt). d.out) now ∙ c.self.invariant.0,
-      shows_kept g.B.Naming.region (g.B.Naming.start i.own.worker) (g.B.Naming.start own.worker) i.own own i.passes
-          i.closed.items i.opened.items i.held.items i.kept.items c.remove-oldest.new.self.items
+      (ap (λ (d : Dealt). d.out) now ∙ c.self.invariant.0.0, c.self.invariant.0.1),
+      shows_kept g.B.Naming.region (g.B.Naming.start i.own.worker) (g.B.Naming.start own.worker) i.own own
+          i.passes.items i.closed.items i.opened.items i.held.items i.kept.items c.remove-oldest.new.self.items
           c.remove-oldest.result (ap g.B.Naming.start c.in-Ok.ensures.same) now
           (λ h. let w = weigh_first h i.kept.items c.remove-oldest.result some took.value in
           let e = ap (weigh h) took.items in omega arith) c.self.invariant.1,
@@ -35,8 +35,8 @@ invariant_of-self-in-Err g c =
     ∙ put_back i.kept.items c.remove-oldest.new.self.items c.push_reserved.new.self.items c.remove-oldest.result
     c.in-Err.back _ some took.value took.items err.0 more.items (omega (arith, took.len, more.len)) in
     let same : own ≡ i.own = (λ k. record { worker = c.in-Err.ensures.same k; knows = err.1 k }) in (
-      ap (λ (d : Dealt). d.out) err.1 ∙ c.self.invariant.0,
+      (ap (λ (d : Dealt). d.out) err.1 ∙ c.self.invariant.0.0, c.self.invariant.0.1),
       subst (λ (x : Owned × List Subproblem). HeldSoundly g.B.Naming.region (g.B.Naming.start x.0.worker)
-          (held_of x.0 i.passes i.closed.items i.opened.items i.held.items x.1))
+          (held_of x.0 i.passes.items i.closed.items i.opened.items i.held.items x.1))
           (λ k. (sym same k, sym back k)) c.self.invariant.1,
     )

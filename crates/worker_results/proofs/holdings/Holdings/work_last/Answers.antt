@@ -25,7 +25,7 @@ invariant_of-self-in-Ok-Closed g c =
     from_closing region p shown e closing on c.floor_of.ensures.closed in
     let least : 0 ≤ shown = omega arith in (
       c.self.invariant.0,
-      closed_now region (g.B.Naming.start i.own.worker) i.own i.passes i.closed.items c.reserve.new.self.items
+      closed_now region (g.B.Naming.start i.own.worker) i.own i.passes.items i.closed.items c.reserve.new.self.items
           c.push_reserved-in-Ok-Closed.new.self.items i.opened.items c.reserve-else-is_err.new.self.items i.held.items
           c.pop.new.self.items i.kept.items p e c.reserve.ensures.items c.push_reserved-in-Ok-Closed.ensures.items
           c.in-Some.ensures.items c.reserve-else-is_err.ensures.items closing.of_it
@@ -48,7 +48,7 @@ invariant_of-self-in-Ok g c =
     let on : o.piece.region ≡ region = (let one = is.0 in cc) in
     let fit : IsOpenedIn region o = record { of_it = on; opens = is.1 } in (
       c.self.invariant.0,
-      opened_now region (g.B.Naming.start i.own.worker) i.own i.passes i.closed.items c.reserve.new.self.items
+      opened_now region (g.B.Naming.start i.own.worker) i.own i.passes.items i.closed.items c.reserve.new.self.items
           i.opened.items c.reserve-else-is_err.new.self.items c.push_reserved-in-Ok.new.self.items i.held.items
           c.pop.new.self.items i.kept.items c.kept_kids.new.kept.items p o c.reserve.ensures.items
           c.reserve-else-is_err.ensures.items c.push_reserved-in-Ok.ensures.items c.in-Some.ensures.items

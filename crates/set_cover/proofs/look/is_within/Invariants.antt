@@ -1,5 +1,0 @@
-use Rattle.set_cover.proofs.WordLemmas.{WithinSoFar}
-use Rattle.set_cover.proofs.look.is_within.Given as goal
-
-abbrev pub invariant-loop-index : goal.invariant-loop-index
-invariant-loop-index l = WithinSoFar l.row l.part l.other l.index
