@@ -1,9 +1,12 @@
 -- A flood from a block's cells, level by level.
-use Rattle.std.proofs.Common.{◌≡◌, ℕ, ◌+◌, ◌-◌, ◌≤◌, List, [], length, slice_index, refl, sym, ap}
-use Rattle.std.proofs.Common.{subst, ◌∙◌, arith}
+use Rattle.std.proofs.Common.{◌≡◌, ℕ, ◌+◌, ◌-◌, ◌*◌, ◌≤◌, List, [], length, slice_index, refl, sym, ap}
+use Rattle.std.proofs.Common.{subst, ◌∙◌, arith, inl, inr}
+use Rattle.std.proofs.lemmas.Bool.{cases_lt}
+use Rattle.std.proofs.lemmas.List.{get_or_past}
 use Rattle.cave_base.specs.Box.{cell_count}
 use Rattle.cave_model.specs.Cave.{Cave}
-use Rattle.cave_problem.specs.Blocks.{AreBlank, AreExact, AreLevels, AreSized, HasRoom, IsComplete, IsLinked}
+use Rattle.cave_problem.specs.Blocks.{AreBlank, AreExact, AreLevels, AreSized, AreWidened, HasRoom, IsComplete}
+use Rattle.cave_problem.specs.Blocks.{IsLinked, IsWordAt}
 use Rattle.cave_problem.specs.BlockFlood.{AreWide, HasSpread}
 use Rattle.cave_problem.specs.Reach.{AreLinked, AreSides, BeginsWith, IsReach}
 use Rattle.cave_problem.specs.declared.block_flood.BlockFlood.{BlockFlood}
@@ -14,17 +17,14 @@ use Rattle.cave_problem.proofs.LevelLemmas.{complete_more}
 -- ---- before the flood
 
 -- memory that is ready has no word
-pub blank_ready : (reach levels words : List ℕ) → words ≡ levels → reach ≡ [] → AreBlank levels (length reach)
-    → AreBlank words 0
-blank_ready reach levels words same none s = record {
-  none = λ k le. ap (λ (l : List ℕ). slice_index l k) same ∙ s.none k (omega (arith, ap length none));
-}
+pub blank_ready : (reach levels : List ℕ) → reach ≡ [] → AreBlank levels (length reach) → AreBlank levels 0
+blank_ready reach levels none s = record { none = λ k le. s.none k (omega (arith, ap length none)) }
 
 -- ---- the flood
 
 -- what a flood leaves in these lists
 pub record IsSpread (cave : Cave) (cells local reach near levels : List ℕ) (cell_count count : ℕ) : Type 0 where
-  pub wide : AreWide cell_count local near levels
+  pub wide : AreWide cell_count local near
   pub found : IsReach local reach
   pub sized : AreSized (length reach) near levels count
   pub linked : IsLinked cave cells reach near count
@@ -55,24 +55,36 @@ spreading_none cave cells sides local reach near levels e found blank = record {
 
 -- sides and words have room for the reach
 pub reach_sized : (sides local reach near levels : List ℕ) (count cells : ℕ) → IsReach local reach
-    → AreWide cells local near levels → AreLinked sides reach near count → count ≤ length reach
-    → AreSized (length reach) near levels count
-reach_sized sides local reach near levels count cells found wide linked le =
+    → AreWide cells local near → AreLinked sides reach near count → count ≤ length reach
+    → length levels ≡ 16 * length reach → AreSized (length reach) near levels count
+reach_sized sides local reach near levels count cells found wide linked le long =
     let few = reach_few local reach found in
     record {
       few = le;
-      here = omega (arith, few, wide.numbers, wide.words);
+      here = omega (arith, long);
       each = λ number lt. record {
         sides = omega (arith, lt, le, few, wide.numbers, wide.sides);
-        words = λ face small. omega (
-          arith,
-          (linked.each number face lt small).inside,
-          few,
-          wide.numbers,
-          wide.words,
-        );
+        words = λ face small. omega (arith, (linked.each number face lt small).inside, long);
       };
     }
+
+-- room for more words changes none
+pub levels_widened : (cave : Cave) (cells reach old new : List ℕ) (least : ℕ) → AreWidened (length reach) old new
+    → AreLevels cave cells reach least old → AreLevels cave cells reach least new
+levels_widened cave cells reach old new least w s = record {
+  there = record {
+    exact = λ number level lt le small. subst (IsWordAt cave cells level (slice_index reach number))
+        (sym (w.same (16 * number + level) (omega (arith, lt, small)))) (s.there.exact number level lt le small);
+  };
+  none = λ number level lt small. elim (cases_lt (16 * number + level) (16 * length reach)) [
+    | inl before ↦ w.same (16 * number + level) before ∙ s.none number level lt small
+    | inr past ↦ beyond (16 * number + level) past
+  ];
+  others = record { none = λ k past. beyond k past };
+}
+  where
+    beyond : (k : ℕ) → 16 * length reach ≤ k → slice_index new k ≡ 0
+    beyond k past = get_or_past new k 0 (omega (arith, w.long, past))
 
 module _ (cave : Cave) (cells sides local reach near levels : List ℕ) (from level : ℕ)
     (s : Spreading cave cells sides local reach near levels from level)
@@ -114,29 +126,32 @@ module _ (cave : Cave) (cells sides local reach near levels : List ℕ) (from le
       down = omega arith
 
   -- at the end
-  pub spreading_all : (count : ℕ) → AreWide count next wider levels → level ≤ cave.rule.need + 1
-      → IsSpread cave cells next grown wider levels count (length reach)
-  spreading_all count wide le = record {
+  pub spreading_all : (count : ℕ) (words : List ℕ) → AreWide count next wider
+      → AreWidened (length grown) levels words → level ≤ cave.rule.need + 1
+      → IsSpread cave cells next grown wider words count (length reach)
+  spreading_all count words wide w le = record {
     wide = wide;
     found = found;
-    sized = reach_sized sides next grown wider levels (length reach) count found wide linked kept.longer;
+    sized = reach_sized sides next grown wider words (length reach) count found wide linked kept.longer w.long;
     linked = grown_linked;
     there = record {
-      exact = λ number any h low small. grown_levels.there.exact number any h (omega (arith, le)) small;
+      exact = λ number any h low small. widened.there.exact number any h (omega (arith, le)) small;
     };
     complete = complete_more cave cells grown (length reach) (level - 1) cave.rule.need (omega arith) grown_complete;
-    others = grown_levels.others;
+    others = widened.others;
   }
+    where
+      widened : AreLevels cave cells grown level words
+      widened = levels_widened cave cells grown levels words level w grown_levels
 
 -- lists that are the same have the same
-pub spread_same : (cave : Cave) (cells local reach near levels same_local same_near same_levels : List ℕ) (count : ℕ)
-    → local ≡ same_local → near ≡ same_near → levels ≡ same_levels
+pub spread_same : (cave : Cave) (cells local reach near levels same_local same_near : List ℕ) (count : ℕ)
+    → local ≡ same_local → near ≡ same_near
     → IsSpread cave cells local reach near levels (cell_count cave.size) count
-    → IsSpread cave cells same_local reach same_near same_levels (cell_count cave.size) count
-spread_same cave cells local reach near levels same_local same_near same_levels count e f g s =
-    subst (λ (l : List ℕ). IsSpread cave cells l reach same_near same_levels (cell_count cave.size) count) e
-    (subst (λ (l : List ℕ). IsSpread cave cells local reach l same_levels (cell_count cave.size) count) f
-    (subst (λ (l : List ℕ). IsSpread cave cells local reach near l (cell_count cave.size) count) g s))
+    → IsSpread cave cells same_local reach same_near levels (cell_count cave.size) count
+spread_same cave cells local reach near levels same_local same_near count e f s =
+    subst (λ (l : List ℕ). IsSpread cave cells l reach same_near levels (cell_count cave.size) count) e
+    (subst (λ (l : List ℕ). IsSpread cave cells local reach l levels (cell_count cave.size) count) f s)
 
 -- there is room for more words of the linked cells
 pub spread_room : (cave : Cave) (cells : List ℕ) (flood : BlockFlood) (count : ℕ) → length cells ≤ 64

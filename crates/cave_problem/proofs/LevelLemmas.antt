@@ -180,9 +180,12 @@ complete_next cave cells reach near count level lit linked le inside s = record 
     | inr from ↦ (let before = s.each bit from.0 source (reaches_less cave (slice_index cells bit) (level + 1)
         (level + entering_cost cave cell) from.0 (omega arith) from.2) in
         let cost = reaches_cost cave (slice_index cells bit) level cell lit r in
+        let own = reaches_cost cave (slice_index cells bit) (level + entering_cost cave cell) from.0 (omega arith)
+        from.2 in
         let side = side_to cave linked.links.0 reach near count linked.links.1 linked.links.2 before.0 cell before.1
         (inside before.0 (omega (arith, before.1, le)))
-        (subst (λ (c : ℕ). AreNeighbours cave.size c cell) (sym before.2) from.1) (omega arith) in
+        (subst (λ (c : ℕ). AreNeighbours cave.size c cell) (sym before.2) from.1)
+        (subst (λ (c : ℕ). entering_cost cave c < 15) (sym before.2) (omega (arith, own))) (omega arith) in
         (slice_index near (6 * before.0 + side.0), side.2.inside, side.2.there))
   ];
 }

@@ -91,12 +91,13 @@ module _ (cave : Cave) (sides reach near : List ℕ) (count : ℕ) (s : AreSides
 
   -- each neighbour that light can enter is a side
   pub side_to : (number to : ℕ) → number < count → slice_index reach number < cell_count cave.size
-      → AreNeighbours cave.size (slice_index reach number) to → entering_cost cave to < 15
+      → AreNeighbours cave.size (slice_index reach number) to
+      → entering_cost cave (slice_index reach number) < 15 → entering_cost cave to < 15
       → (face : ℕ) × (face < 6) × IsNumberOf reach to (slice_index near (6 * number + face))
-  side_to number to lt inside n passes =
+  side_to number to lt inside n lets_in passes =
       let face = index_of n.face in
       let side = s.each (slice_index reach number) face inside (index_below n.face) in
-      let at = side.opens to (listed_at cave.size (slice_index reach number) n.face ∙ n.there) passes in (
+      let at = side.opens to (listed_at cave.size (slice_index reach number) n.face ∙ n.there) lets_in passes in (
         face,
         index_below n.face,
         subst (λ (c : ℕ). IsNumberOf reach c (slice_index near (6 * number + face))) at

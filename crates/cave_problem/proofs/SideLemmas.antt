@@ -1,11 +1,13 @@
 -- The sides of cells are listed.
-use Rattle.std.proofs.Common.{◌≡◌, ℕ, ◌+◌, ◌*◌, ◌<◌, List, length, set, slice_index, get_or, Option, Some, None}
-use Rattle.std.proofs.Common.{sym, subst, ◌∙◌, arith, inl, inr, get_or-set_same, get_or-set_other, length-set}
+use Rattle.std.proofs.Common.{◌≡◌, ℕ, ◌+◌, ◌*◌, ◌<◌, ◌≤◌, List, length, set, slice_index, get_or, Option, Some}
+use Rattle.std.proofs.Common.{None, refl, sym, subst, ◌∙◌, arith, inl, inr}
+use Rattle.std.proofs.Common.{get_or-set_same, get_or-set_other, length-set}
 use Rattle.std.specs.Prelude.{IfSome}
 use Rattle.std.proofs.lemmas.Bool.{cases_lt, cases_eq}
 use Rattle.cave_base.specs.Box.{Point, cell_count}
 use Rattle.cave_model.specs.Cells.{neighbours_of}
 use Rattle.cave_model.specs.Cave.{Cave}
+use Rattle.cave_model.specs.Light.{entering_cost}
 use Rattle.cave_model.proofs.NeighbourLemmas.{listed_inside}
 use Rattle.cave_problem.specs.Reach.{AreInside, AreSides, AreSidesOf, IsSide}
 
@@ -14,6 +16,11 @@ pub beyond_inside : (size : Point) (cell face : ℕ) (beyond : Option ℕ) → c
     → get_or (neighbours_of size cell) face None ≡ beyond → IfSome beyond (λ to. to < cell_count size)
 beyond_inside size cell face None h e = tt
 beyond_inside size cell face (Some to) h e = listed_inside size cell face to h e
+
+-- a cell that no light enters is each of its sides
+pub is_itself : (cave : Cave) (cell : ℕ) (beyond : Option ℕ) → 15 ≤ entering_cost cave cell
+    → IsSide cave cell beyond cell
+is_itself cave cell beyond opaque = record { leads = inl refl; opens = λ other e lets_in. absurd (omega arith) }
 
 -- the next side of a cell
 pub sides_next : (cave : Cave) (cell face to : ℕ) (old new : List ℕ) → 6 * cell + face < length new

@@ -107,7 +107,7 @@ module _ (cave : Cave) (reach near levels : List ℕ) (sources number level abov
   by_sides cells linked exact bit before lt source n r =
       let cost = reaches_cost cave (slice_index cells bit) (level + entering_cost cave cell) before (omega arith) r in
       let side = side_to cave linked.links.0 reach near (number + 1) linked.links.1 linked.links.2 number before
-      (omega arith) inside (neighbours_mutual cave.size before cell n) (omega arith) in
+      (omega arith) inside (neighbours_mutual cave.size before cell n) (omega (arith, cost)) (omega arith) in
       (s.exact bit).1 (
         side.0,
         side.1,

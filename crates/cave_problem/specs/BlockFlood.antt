@@ -6,16 +6,15 @@ use Rattle.cave_problem.specs.Blocks.{AreBlank, AreExact, AreSized, IsComplete, 
 use Rattle.cave_problem.specs.Reach.{IsReach}
 use Rattle.cave_problem.specs.declared.block_flood.BlockFlood.{BlockFlood}
 
--- numbers for `count` cells, with six sides and 16 words for each
-pub record AreWide (count : ℕ) (local near levels : List ℕ) : Type 0 where
+-- numbers for `count` cells, with six sides for each
+pub record AreWide (count : ℕ) (local near : List ℕ) : Type 0 where
   pub small : count ≤ most_cells
   pub numbers : length local ≡ count
   pub sides : length near ≡ 6 * count
-  pub words : length levels ≡ 16 * count
 
 -- the memory of a flood, for `count` cells, after one flood: a reach, and words of its cells alone
 pub record IsLeft (count : ℕ) (flood : BlockFlood) : Type 0 where
-  pub wide : AreWide count flood.local.items flood.near.items flood.levels.items
+  pub wide : AreWide count flood.local.items flood.near.items
   pub found : IsReach flood.local.items flood.reach.items
   pub others : AreBlank flood.levels.items (length flood.reach.items)
 

@@ -28,6 +28,11 @@ word_at levels number level = slice_index levels (16 * number + level)
 pub record AreBlank (levels : List ℕ) (count : ℕ) : Type 0 where
   pub none : (k : ℕ) → 16 * count ≤ k → slice_index levels k ≡ 0
 
+-- room for the words of `count` cells, where words that come have no bit
+pub record AreWidened (count : ℕ) (old new : List ℕ) : Type 0 where
+  pub long : length new ≡ 16 * count
+  pub same : (k : ℕ) → k < 16 * count → slice_index new k ≡ slice_index old k
+
 -- six sides are there for the number, whose words are there
 pub record AreInRoom (near levels : List ℕ) (number : ℕ) : Type 0 where
   pub sides : 6 * number + 6 ≤ length near

@@ -7,10 +7,11 @@ use Rattle.cave_model.specs.Cells.{neighbours_of}
 use Rattle.cave_model.specs.Cave.{Cave}
 use Rattle.cave_model.specs.Light.{entering_cost}
 
--- what lies beyond a face, where light can enter it, or else the cell itself
+-- what lies beyond a face, where light can enter it and the cell, or else the cell itself
 pub record IsSide (cave : Cave) (cell : ℕ) (beyond : Option ℕ) (to : ℕ) : Type 0 where
   pub leads : (to ≡ cell) ⊎ (beyond ≡ Some to)
-  pub opens : (other : ℕ) → beyond ≡ Some other → entering_cost cave other < 15 → to ≡ other
+  pub opens : (other : ℕ) → beyond ≡ Some other → entering_cost cave cell < 15 → entering_cost cave other < 15
+      → to ≡ other
 
 -- six sides for each cell, of which those of the first `count` are known
 pub record AreSides (cave : Cave) (count : ℕ) (sides : List ℕ) : Type 0 where

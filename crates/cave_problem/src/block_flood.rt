@@ -7,14 +7,14 @@ ghost use Rattle.cave_base.specs.Box.{cell_count, most_cells};
 ghost use Rattle.cave_problem.specs.BlockFlood.{HasSpread, IsLeft, IsReady};
 ghost use Rattle.cave_problem.specs.Reach.{AreSides, AreSources};
 
-use crate::levels::{blank, settle};
+use crate::levels::{settle, widen};
 use crate::reach::{Linked, NONE, begin, forget, grow};
 use cave_base::Cell;
 use cave_model::World;
 use std::alloc::{AllocError, Global};
 
 /// The memory of a flood, for a box: made once, and lent to each block. Each cell of the box has its number in the
-/// reach, and each number of the reach a cell, six numbers of sides and 16 words.
+/// reach, and each number of the reach a cell, six numbers of sides and 16 words. There are words for the reach alone.
 #[derive(Drop)]
 pub struct BlockFlood {
     pub local: Vec<u32>,
@@ -33,7 +33,7 @@ impl BlockFlood {
             local: vec![in alloc; NONE; count as usize]?,
             reach: Vec::new(alloc),
             near: vec![in alloc; 0u32; 6 * count as usize]?,
-            levels: vec![in alloc; 0u64; 16 * count as usize]?,
+            levels: Vec::new(alloc),
         })
     }
 
@@ -52,24 +52,26 @@ impl BlockFlood {
     {
         let local = self.local.as_mut_slice();
         let near = self.near.as_mut_slice();
-        let levels = self.levels.as_mut_slice();
+        let levels = &mut self.levels;
         let reach = &mut self.reach;
         begin(local, reach, sources)?;
         let mut from = 0;
         for level in (world.need() + 1..15).rev() {
             let count = reach.len();
             grow(sides, local, reach, near, from)?;
+            widen(levels, reach.len())?;
             let linked = Linked {
                 reach: reach.as_slice(),
                 near,
                 sources: sources.len(),
                 count,
             };
-            settle(world, &linked, levels, level);
+            settle(world, &linked, levels.as_mut_slice(), level);
             from = count;
         }
         let count = reach.len();
         grow(sides, local, reach, near, from)?;
+        widen(levels, reach.len())?;
         Ok(count)
     }
 
@@ -79,7 +81,7 @@ impl BlockFlood {
         ensures { IsReady (length self.old.local.items) self.new }
     {
         forget(self.local.as_mut_slice(), self.reach.as_slice());
-        blank(self.levels.as_mut_slice(), self.reach.len());
+        self.levels.clear();
         self.reach.clear();
     }
 }

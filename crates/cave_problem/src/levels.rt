@@ -1,11 +1,12 @@
 //! Which of a block's cells, up to 64, bring a level of light to a cell, as the bits of a word.
 //!
 //! A cell gets a level from what its sides have at a higher one, so the levels are filled from the highest down.
-ghost use Rattle.std.specs.Prelude.{◌<◌, ◌≤◌, ◌*◌, ◌^◌, length};
-ghost use Rattle.cave_problem.specs.Blocks.{AreBlank, AreInRoom, HasRoom, IsUnion, IsWordBy, Settles};
+ghost use Rattle.std.specs.Prelude.{◌<◌, ◌≤◌, ◌*◌, ◌^◌, length, OnOk};
+ghost use Rattle.cave_problem.specs.Blocks.{AreInRoom, AreWidened, HasRoom, IsUnion, IsWordBy, Settles};
 
 use crate::reach::Linked;
 use cave_model::World;
+use std::alloc::AllocError;
 
 /// The bits that the sides of the cell with this number have at a level.
 fn gathered(near: &[u32], levels: &[u64], number: usize, level: usize) -> u64
@@ -55,13 +56,11 @@ pub fn settle(world: &World, linked: &Linked<'_>, levels: &mut [u64], level: u8)
     }
 }
 
-/// Takes the words of the first `count` cells away.
-pub fn blank(levels: &mut [u64], count: usize)
-    requires room { 16 * count ≤ length levels.old }
-    requires others { AreBlank levels.old count }
-    ensures { AreBlank levels.new 0 }
+/// Makes room for the words of `count` cells. Those that come have no bit.
+pub fn widen(levels: &mut Vec<u64>, count: usize) -> Result<(), AllocError>
+    requires small { count < 2 ^ 32 }
+    ensures { OnOk result (AreWidened count levels.old.items levels.new.items) }
 {
-    for index in 0..16 * count {
-        levels[index] = 0;
-    }
+    levels.resize(16 * count, 0)?;
+    Ok(())
 }

@@ -1,6 +1,7 @@
 //! The sides of all cells: for each the six cells to which light can go on from there.
-ghost use Rattle.std.specs.Prelude.{◌<◌, ◌≡◌, ◌*◌, length, IfOk, IfSome};
+ghost use Rattle.std.specs.Prelude.{◌<◌, ◌≤◌, ◌≡◌, ◌*◌, length, IfOk, IfSome};
 ghost use Rattle.cave_base.specs.Box.{cell_count};
+ghost use Rattle.cave_model.specs.Light.{entering_cost};
 ghost use Rattle.cave_problem.specs.Reach.{AreSides, AreSidesOf, IsSide};
 
 use cave_base::Cell;
@@ -23,8 +24,33 @@ fn side_of(world: &World, cell: Cell, beyond: Option<Cell>) -> Cell
     cell
 }
 
-/// Lists the sides of a cell.
+/// Lists the sides of a cell. In a cave most cells let no light in.
 fn list_sides(world: &World, cell: Cell, sides: &mut [Cell])
+    requires in_box { cell < cell_count world.now.size }
+    requires whole { length sides.old ≡ 6 * cell_count world.now.size }
+    ensures { AreSidesOf world.now cell 6 sides.old sides.new }
+{
+    if world.class_of(cell).opacity < OPAQUE {
+        list_beyond(world, cell, sides);
+    } else {
+        list_itself(world, cell, sides);
+    }
+}
+
+/// Lists the cell itself at each face, where no light enters it.
+fn list_itself(_world: &World, cell: Cell, sides: &mut [Cell])
+    requires in_box { cell < cell_count _world.now.size }
+    requires whole { length sides.old ≡ 6 * cell_count _world.now.size }
+    requires opaque { 15 ≤ entering_cost _world.now cell }
+    ensures { AreSidesOf _world.now cell 6 sides.old sides.new }
+{
+    for face in 0..6 {
+        sides[6 * cell as usize + face] = cell;
+    }
+}
+
+/// Lists what lies beyond each face of a cell where light can enter it.
+fn list_beyond(world: &World, cell: Cell, sides: &mut [Cell])
     requires in_box { cell < cell_count world.now.size }
     requires whole { length sides.old ≡ 6 * cell_count world.now.size }
     ensures { AreSidesOf world.now cell 6 sides.old sides.new }

@@ -8,19 +8,18 @@ use cave_model::OutOfMemory;
 use set_cover::{BitRow, Sparse};
 use std::alloc::{AllocError, Global};
 
-/// A row of `width` words without bits, with room for the ranks of the cells.
+/// A row of `width` words without bits, with room from the first cell's rank to the last one's.
 fn bare_row(alloc: Global, width: usize, cells: &[u32], ranks: &[u32]) -> Result<BitRow, AllocError>
     requires { HaveRanks cells.now ranks.now width }
     ensures none { IfOk result (λ row. IsRowOf [] row) }
     ensures whole { IfOk result (λ row. length row ≡ width) }
 {
-    let mut first = width;
-    let mut end = 0;
-    for cell in cells {
-        let word = ranks[*cell as usize] as usize / 64;
-        first = usize::min(first, word);
-        end = usize::max(end, word + 1);
+    if cells.is_empty() {
+        let row = BitRow::spanning(alloc, width, 0, 0)?;
+        return Ok(row);
     }
+    let first = ranks[cells[0] as usize] as usize / 64;
+    let end = ranks[cells[cells.len() - 1] as usize] as usize / 64 + 1;
     let row = BitRow::spanning(alloc, width, first, end)?;
     Ok(row)
 }

@@ -31,6 +31,10 @@ fn join(parents: &mut [u32], one: usize, two: usize)
     requires forest { IsForest parents.old }
     ensures { Joins parents.old one two parents.new }
 {
+    // Most cells of a place are joined already.
+    if parents[one] == parents[two] {
+        return;
+    }
     let first = find(parents, one);
     let second = find(parents, two);
     let low = usize::min(first, second);

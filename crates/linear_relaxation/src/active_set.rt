@@ -5,8 +5,8 @@
 //! programming: a case study in combining interior point and simplex methods").
 
 use crate::fixed_point::ONE;
-use crate::indices::{mark, number_all};
-use number_lists::{Coverage, small};
+use crate::indices::mark;
+use number_lists::small;
 use std::alloc::{AllocError, Global};
 
 /// A place that lights less weight than one by this much isn't taken soon, nor does a cell weigh anything soon that is
@@ -62,19 +62,6 @@ impl ActiveSet {
     pub(crate) fn cells(&self, alloc: Global) -> Result<Vec<u32>, AllocError> {
         marked(alloc, self.cells.as_slice())
     }
-}
-
-/// Which of these cells each of these places lights, by their numbers in these lists.
-pub(crate) fn coverage_of(
-    alloc: Global,
-    whole: &Coverage,
-    places: &[u32],
-    cells: &[u32],
-) -> Result<Coverage, AllocError> {
-    let mut numbers = vec![in alloc; u32::MAX; whole.cell_count()]?;
-    number_all(numbers.as_mut_slice(), cells);
-    let lights = whole.all_lights().at(alloc, places)?;
-    Coverage::of(alloc, lights.renumbered(alloc, &numbers)?, cells.len())
 }
 
 /// The indices that are marked, ascending.

@@ -1,7 +1,7 @@
 //! One side of relaxations that are solved side by side, as `side` has that of one: each number has a lane for each of
 //! them. A number that a lane is without stays 0 there.
 
-use crate::runs::runs_of;
+use crate::runs::{ranked_runs, runs_of};
 use crate::side::Lack;
 use number_lists::NumberLists;
 use std::alloc::{AllocError, Global};
@@ -30,10 +30,15 @@ impl LaneSide {
         meets: &NumberLists,
         others: usize,
     ) -> Result<LaneSide, AllocError> {
+        LaneSide::of(alloc, runs_of(alloc, meets)?, others)
+    }
+
+    /// The side of numbers of which each meets those of its runs.
+    fn of(alloc: Global, runs: NumberLists, others: usize) -> Result<LaneSide, AllocError> {
         let none = f32x8::splat(0.0);
-        let count = meets.count();
+        let count = runs.count();
         Ok(LaneSide {
-            runs: runs_of(alloc, meets)?,
+            runs,
             sums: vec![in alloc; none; others.saturating_add(1)]?,
             counts: vec![in alloc; none; count]?,
             steps: vec![in alloc; none; count]?,
@@ -43,17 +48,18 @@ impl LaneSide {
         })
     }
 
-    /// The side of the numbers that have these indices, each of which meets those of its list, of others that lanes
-    /// have as told here.
+    /// The side of the numbers with these indices, each of which meets those alone of the other side that have a rank.
+    /// Lanes have these as told here.
     pub(crate) fn part(
         &self,
         alloc: Global,
         indices: &[u32],
-        meets: &NumberLists,
+        ranks: &[u32],
         others: &[f32x8],
     ) -> Result<LaneSide, AllocError> {
         let none = f32x8::splat(0.0);
-        let mut part = LaneSide::new(alloc, meets, others.len())?;
+        let runs = ranked_runs(alloc, &self.runs, indices, ranks)?;
+        let mut part = LaneSide::of(alloc, runs, others.len())?;
         put_sums(part.sums.as_mut_slice(), others);
         let numbers = part.numbers.as_mut_slice();
         let counts = part.counts.as_mut_slice();

@@ -17,6 +17,7 @@ mod lane_steps;
 mod lanes;
 mod relaxation;
 mod rounding;
+mod run_lists;
 mod runs;
 mod side;
 mod sides;

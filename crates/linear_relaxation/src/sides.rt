@@ -1,6 +1,7 @@
 //! Both sides of a relaxation, and the steps that they make in turn.
 
 use crate::fixed_point::one_of;
+use crate::runs::ranks_of;
 use crate::side::{Lack, Side};
 use number_lists::Coverage;
 use std::alloc::{AllocError, Global};
@@ -25,6 +26,21 @@ impl Sides {
         Ok(Sides {
             taken: Side::new(alloc, taken, coverage.all_lights(), cells)?,
             weights: Side::new(alloc, weights, coverage.all_lit_by(), places)?,
+        })
+    }
+
+    /// The sides of these places and cells alone.
+    pub(crate) fn part(
+        &self,
+        alloc: Global,
+        places: &[u32],
+        cells: &[u32],
+    ) -> Result<Sides, AllocError> {
+        let of_places = ranks_of(alloc, self.taken.numbers().len(), places)?;
+        let of_cells = ranks_of(alloc, self.weights.numbers().len(), cells)?;
+        Ok(Sides {
+            taken: self.taken.part(alloc, places, &of_cells, cells.len())?,
+            weights: self.weights.part(alloc, cells, &of_places, places.len())?,
         })
     }
 

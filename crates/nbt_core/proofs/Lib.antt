@@ -12,6 +12,7 @@ pub mod FaultLaws
 pub mod RootLaws
 pub mod SkipLemmas
 pub mod FixedItems
+pub mod PlainLemmas
 pub mod KindLemmas
 pub mod MemberLemmas
 pub mod FieldLemmas

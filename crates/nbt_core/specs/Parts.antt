@@ -1,7 +1,8 @@
 -- What a value holds, by its kind.
-use Rattle.std.specs.Prelude.{◌≡◌, ◌≢◌, ℕ, ℤ, Bool, true, false, ◌&&◌, List, [], ◌∷◌, Option, Some, None}
+use Rattle.std.specs.Prelude.{◌≡◌, ◌≢◌, ℕ, ℤ, pos, Bool, true, false, ◌&&◌, List, [], ◌∷◌, Option, Some, None}
+use Rattle.std.specs.Prelude.{slice_index_or}
 use Rattle.nbt_core.specs.Value.{int, text}
-use Rattle.nbt_core.specs.Value.{Nbt, leaf, list, compound, Members, no_members, member, listed}
+use Rattle.nbt_core.specs.Value.{Nbt, leaf, list, compound, Members, no_members, member, items_of, listed}
 
 -- the number of an Int
 abbrev pub int_of : Nbt → Option ℤ
@@ -47,3 +48,12 @@ IsFrontOf old None new = (old ≡ []) × (new ≡ [])
 abbrev pub IsIntOfFront : List Nbt → Option ℤ → List Nbt → Type 0
 IsIntOfFront old (Some n) new = old ≡ leaf (int n) ∷ new
 IsIntOfFront old None new = ((n : ℤ) (others : List Nbt) → old ≢ leaf (int n) ∷ others) × (new ≡ old)
+
+-- a list of three Ints
+abbrev pub three_ints : List ℤ → Nbt
+three_ints ns = list (items_of (leaf (int (slice_index_or ns 0 (pos 0))) ∷ leaf (int (slice_index_or ns 1 (pos 0)))
+    ∷ leaf (int (slice_index_or ns 2 (pos 0))) ∷ []))
+
+-- a compound of two entries: a list of three Ints under the name `a`, then an Int under the name `b`
+abbrev pub numbers : List ℕ → List ℕ → List ℤ → ℤ → Nbt
+numbers a b ns n = compound (member a (three_ints ns) (member b (leaf (int n)) no_members))

@@ -32,8 +32,8 @@ impl<'a> Model for ItemsView<'a> {
 }
 
 impl<'a> ItemsView<'a> {
-    ghost use Rattle.std.specs.Prelude.{◌≡◌, length};
-    ghost use Rattle.nbt_core.specs.Parts.{are_compounds, IsFrontOf, IsIntOfFront};
+    ghost use Rattle.std.specs.Prelude.{◌≡◌, ◌∷◌, length, IfSome};
+    ghost use Rattle.nbt_core.specs.Parts.{are_compounds, numbers, IsFrontOf, IsIntOfFront};
     ghost use Rattle.nbt_core.specs.Fields.{AreFieldsOfFront};
     ghost use Rattle.nbt_core.specs.Borrowed.{item_values, ArePayloads};
 
@@ -124,5 +124,35 @@ impl<'a> ItemsView<'a> {
         self.rest = reader.rest;
         self.count -= 1;
         Some(found)
+    }
+
+    /// The numbers of the next item and the items after it, where the item has two entries alone: a list of three Ints
+    /// under the name `a`, then an Int under the name `b`. `None` says only that `next_fields` has to be asked.
+    #[inline(always)]
+    pub fn split_numbers(&self, a: &[u8], b: &[u8]) -> Option<([i32; 3], i32, ItemsView<'a>)>
+        ensures { IfSome result (λ r. self.now ≡ numbers a.now b.now r.0 r.1 ∷ r.2) }
+    {
+        if self.count == 0 {
+            return None;
+        }
+        if !self.kind.is_same(Kind::Compound) {
+            return None;
+        }
+        let mut reader = Reader::new(self.rest, self.end);
+        let Ok(room) = reader.one_deeper(self.room) else {
+            return None;
+        };
+        let Some(triple) = reader.triple_named(room, a) else {
+            return None;
+        };
+        let Some(number) = reader.int_named(room, b) else {
+            return None;
+        };
+        let Ok(None) = reader.kind() else {
+            return None;
+        };
+        let count = self.count - 1;
+        let others = ItemsView::new(reader.rest, self.end, self.room, self.kind, count);
+        Some((triple, number, others))
     }
 }

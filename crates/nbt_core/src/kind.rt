@@ -12,6 +12,7 @@ pub enum Kind {
 
 impl Kind {
     /// Whether both are one kind.
+    #[inline(always)]
     pub fn is_same(self, other: Kind) -> bool
         ensures { IsTrue result ↔ (self ≡ other) }
     {
@@ -19,6 +20,7 @@ impl Kind {
     }
 
     /// How many bytes each payload of this kind takes, where all take as many.
+    #[inline(always)]
     pub fn fixed_size(self) -> Option<usize>
         ensures size { result ≡ fixed_size self }
         ensures small { IfSome result (λ size. size ≤ 8) }
@@ -52,6 +54,7 @@ pub enum LeafKind {
 }
 
 /// What the id names: a kind, or End as `Some(None)`, or nothing as `None`.
+#[inline(always)]
 #[tactic(auto, unfolding(crate::specs::Ids::kind_named))]
 pub fn kind_named(id: u8) -> Option<Option<Kind>>
     ensures { result ≡ kind_named id }

@@ -23,6 +23,7 @@ mod judge;
 mod kind;
 pub mod laws;
 mod leaf;
+mod plain_entries;
 mod reader;
 mod root;
 mod skip;

@@ -19,6 +19,7 @@ pub struct Reader<'a> {
 
 impl<'a> Reader<'a> {
     /// The bytes `rest`, which end at the offset `end`.
+    #[inline(always)]
     pub fn new(rest: &'a [u8], end: usize) -> Reader<'a>
         requires { length rest.now ≤ end }
         ensures rest { result.rest.now ≡ rest.now }
@@ -28,6 +29,7 @@ impl<'a> Reader<'a> {
     }
 
     /// The next `n` bytes.
+    #[inline(always)]
     #[tactic(auto, unfolding(crate::specs::Reading::run_at))]
     pub fn run(&mut self, n: usize) -> Result<&'a [u8], NbtFault>
         ensures read { Gives (λ run. run.now) result self.new.rest.now (run_at self.old.end n self.old.rest.now) }
@@ -77,6 +79,7 @@ impl<'a> Reader<'a> {
     }
 
     /// The next four bytes, big-endian, as a signed number.
+    #[inline(always)]
     #[tactic(auto, unfolding(crate::specs::Reading::signed_at))]
     pub fn int(&mut self) -> Result<i32, NbtFault>
         ensures read { Gives (λ n. n) result self.new.rest.now (int_at self.old.end self.old.rest.now) }
@@ -98,6 +101,7 @@ impl<'a> Reader<'a> {
     }
 
     /// The count of a list: one below 0 counts nothing.
+    #[inline(always)]
     #[tactic(auto, unfolding(crate::specs::Reading::count_at))]
     pub fn count(&mut self) -> Result<u32, NbtFault>
         ensures read { Gives (λ n. n) result self.new.rest.now (count_at self.old.end self.old.rest.now) }
@@ -110,6 +114,7 @@ impl<'a> Reader<'a> {
     }
 
     /// The count of an array, and the bytes of that number of numbers, each of `size` bytes.
+    #[inline(always)]
     #[tactic(auto, unfolding(crate::specs::LeafReading::counted_at))]
     pub fn counted(&mut self, size: usize) -> Result<(usize, &'a [u8]), NbtFault>
         requires { size ≤ 8 }
@@ -130,6 +135,7 @@ impl<'a> Reader<'a> {
     }
 
     /// A length of two bytes, and that number of bytes.
+    #[inline(always)]
     #[tactic(auto, unfolding(crate::specs::Reading::text_at))]
     pub fn text(&mut self) -> Result<&'a [u8], NbtFault>
         ensures read { Gives (λ text. text.now) result self.new.rest.now (text_at self.old.end self.old.rest.now) }
@@ -142,6 +148,7 @@ impl<'a> Reader<'a> {
     }
 
     /// The kind that the next id names, or `None` for End.
+    #[inline(always)]
     #[tactic(auto, unfolding(crate::specs::Reading::kind_at))]
     pub fn kind(&mut self) -> Result<Option<Kind>, NbtFault>
         ensures read { Gives (λ kind. kind) result self.new.rest.now (kind_at self.old.end self.old.rest.now) }
@@ -164,6 +171,7 @@ impl<'a> Reader<'a> {
     }
 
     /// The offset of the next byte.
+    #[inline(always)]
     pub fn place(&self) -> usize
         ensures { result ≡ self.now.end - length self.now.rest.now }
     {

@@ -12,6 +12,7 @@ use crate::reader::Reader;
 
 impl Reader<'_> {
     /// Passes over a payload, in which `room` containers may nest, and judges it. No memory is taken.
+    #[inline(always)]
     #[cycle(skip)]
     pub fn skip(&mut self, kind: Kind, room: u16) -> Result<(), NbtFault>
         ensures read { Skips result self.new.rest.now (value_at self.old.end room kind self.old.rest.now) }
@@ -27,12 +28,20 @@ impl Reader<'_> {
             }
             Kind::Compound => {
                 let room = self.one_deeper(room)?;
-                self.skip_entries(room)
+                match self.past_plain(room) {
+                    // nearly every compound of a structure is a block
+                    Some(rest) => {
+                        self.rest = rest;
+                        Ok(())
+                    }
+                    None => self.skip_entries(room),
+                }
             }
         }
     }
 
     /// Passes over a payload that holds no other.
+    #[inline(always)]
     fn skip_leaf(&mut self, kind: LeafKind) -> Result<(), NbtFault>
         ensures read { Skips result self.new.rest.now (leaf_at self.old.end kind self.old.rest.now) }
         ensures end { self.new.end ≡ self.old.end }
@@ -54,7 +63,8 @@ impl Reader<'_> {
     }
 
     /// Passes over the next `n` bytes.
-    fn skip_run(&mut self, n: usize) -> Result<(), NbtFault>
+    #[inline(always)]
+    pub fn skip_run(&mut self, n: usize) -> Result<(), NbtFault>
         ensures read { Skips result self.new.rest.now (run_at self.old.end n self.old.rest.now) }
         ensures end { self.new.end ≡ self.old.end }
         ensures shrinks { length self.new.rest.now ≤ length self.old.rest.now }
@@ -65,6 +75,7 @@ impl Reader<'_> {
     }
 
     /// Passes over a length of two bytes, and that number of bytes.
+    #[inline(always)]
     fn skip_text(&mut self) -> Result<(), NbtFault>
         ensures read { Skips result self.new.rest.now (text_at self.old.end self.old.rest.now) }
         ensures end { self.new.end ≡ self.old.end }
@@ -76,6 +87,7 @@ impl Reader<'_> {
     }
 
     /// Passes over the count of an array, and that number of numbers of `size` bytes.
+    #[inline(always)]
     fn skip_array(&mut self, size: usize) -> Result<(), NbtFault>
         requires { size ≤ 8 }
         ensures read { Skips result self.new.rest.now (counted_at self.old.end size self.old.rest.now) }
@@ -88,6 +100,7 @@ impl Reader<'_> {
     }
 
     /// Passes over the id of the items, their count, and the items.
+    #[inline(always)]
     #[cycle(skip)]
     fn skip_list(&mut self, room: u16) -> Result<(), NbtFault>
         ensures read { Skips result self.new.rest.now
@@ -107,6 +120,7 @@ impl Reader<'_> {
     }
 
     /// Passes over `count` payloads of this kind.
+    #[inline(always)]
     #[cycle(skip)]
     fn skip_items(&mut self, kind: Kind, count: u32, room: u16) -> Result<(), NbtFault>
         ensures read { Skips result self.new.rest.now

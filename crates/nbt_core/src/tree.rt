@@ -62,6 +62,7 @@ impl Reader<'_> {
     }
 
     /// The room that is left inside a container that begins here.
+    #[inline(always)]
     pub fn one_deeper(&self, room: u16) -> Result<u16, NbtFault>
         ensures ok { IfOk result (λ less. room ≡ less + 1) }
         ensures too_deep { IfErr result (λ e. (room ≡ 0)

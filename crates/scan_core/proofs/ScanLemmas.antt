@@ -126,7 +126,7 @@ name_clean i t state s = ap (λ (o : Option ScanFault). first_fault (o ∷ []))
     (on_is (field (codes "Name") t) (leaf (values.text state.name)) _ _ s.named)
 
 -- what tells an entry in the box, of a state of the palette, has no fault
-entry_clean : (size : Point) (states i : ℕ) (t : Nbt) (entry : Entry) → IsEntryOf t entry
+pub entry_clean : (size : Point) (states i : ℕ) (t : Nbt) (entry : Entry) → IsEntryOf t entry
     → (IsTrue (is_within size entry.at) × (entry.state < states)) → first_fault (entry_faults size states i t) ≡ None
 entry_clean size states i t entry e g = first_two _ _
     (on_is (field (codes "pos") t) (point_value entry.at) _ _ e.placed ∙ chosen (is_within size entry.at) _ _ g.0)

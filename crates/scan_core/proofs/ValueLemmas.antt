@@ -1,12 +1,13 @@
 -- What single values tell.
-use Rattle.std.proofs.Common.{◌≡◌, ◌≢◌, ℤ, true, false, List, [], ◌∷◌, length, Option, Some, None}
+use Rattle.std.proofs.Common.{◌≡◌, ◌≢◌, ℤ, pos, negsuc, true, false, List, [], ◌∷◌, length, Option, Some, None}
 use Rattle.std.proofs.Common.{refl, sym, ap, ◌∙◌, arith}
 use Rattle.std.proofs.lemmas.List.{nil_from_length}
 use Rattle.nbt_core.specs.Value.{Nbt, leaf, list, compound, items_of, listed}
 use Rattle.nbt_core.specs.Value as values
 use Rattle.nbt_core.specs.Parts.{items_in, are_compounds}
 use Rattle.cave_base.specs.Box.{Point}
-use Rattle.scan_core.specs.Judging.{on_triple}
+use Rattle.scan_core.specs.Judging.{on_triple, point_of}
+use Rattle.scan_core.specs.Scan.{point_value, triple}
 use Rattle.scan_core.specs.Told.{AreCompoundsOf, triple_value}
 use Rattle.scan_core.proofs.ScanLemmas.{listed-items_of, items_of-listed}
 
@@ -57,3 +58,11 @@ on_triple-wrong wrong right (list (values.item (leaf (values.int x))
     (values.item (leaf (values.int y)) (values.item (leaf (values.int z)) values.no_items)))) other = absurd
     (other (x ∷ y ∷ z ∷ []) refl)
 on_triple-wrong wrong right t other = refl
+
+-- three numbers that are coordinates are those of the point
+pub point_triple : (x y z : ℤ) (at : Point) → Some at ≡ point_of x y z → triple x y z ≡ point_value at
+point_triple (pos x) (pos y) (pos z) at e =
+    let same : at ≡ record { x = x; y = y; z = z } = cc in ap point_value (sym same)
+point_triple (negsuc x) y z at e = absurd cc
+point_triple (pos x) (negsuc y) z at e = absurd cc
+point_triple (pos x) (pos y) (negsuc z) at e = absurd cc

@@ -1,13 +1,14 @@
 //! The state of each cell, from the blocks of a structure: `AreCellsOf` of specs/Cells.antt, and where there is none
 //! `blocks_fault` of specs/Faults.antt.
-ghost use Rattle.std.specs.Prelude.{◌≡◌, All, None, codes, length, IsTrue};
+ghost use Rattle.std.specs.Prelude.{◌≡◌, ◌<◌, ◌∷◌, ℕ, All, Some, None, pos, codes, length, IfSome, IsTrue};
 ghost use Rattle.cave_base.specs.Box as grid;
 ghost use Rattle.nbt_core.specs.Fields.{two_fields};
 ghost use Rattle.nbt_core.specs.Value.{Nbt};
 ghost use Rattle.scan_core.specs.Answer.{TellsOrFaults, TellsInRoom};
 ghost use Rattle.scan_core.specs.Cells.{AreCellsOf, IsIndexOf, IsPlaced, IsPointOf, ShowEntries};
-ghost use Rattle.scan_core.specs.Faults.{blocks_fault, entry_faults, pos_fault, state_fault};
+ghost use Rattle.scan_core.specs.Faults.{blocks_fault, entry_faults, index_fault, pos_fault, state_fault};
 ghost use Rattle.scan_core.specs.Judging.{each_from, first_fault};
+ghost use Rattle.scan_core.specs.declared.fault.ScanFault.{ScanFault};
 
 use crate::fault::{Field, ScanFault};
 use crate::value::{compounds, int, natural, triple};
@@ -56,6 +57,11 @@ fn fill(
         (first_fault (each_from 0 (entry_faults sides states) told)) }
 {
     for index in 0..entries.len() {
+        if let Some((placed, others)) = sound_entry(size, states, &entries) {
+            cells[placed.cell as usize] = Some(placed.state);
+            entries = others;
+            continue;
+        }
         let Some((pos, state)) = entries.next_fields(b"pos", b"state") else {
             return Ok(());
         };
@@ -70,6 +76,52 @@ fn fill(
 struct Placed {
     cell: Cell,
     state: u32,
+}
+
+/// What the next entry tells and the entries after it, where it has a place and a state alone, and both are sound. So
+/// has nearly every block of a file. `None` says only that `placement` has to be asked.
+#[inline(always)]
+fn sound_entry<'a>(
+    size: [u32; 3],
+    states: usize,
+    entries: &ItemsView<'a>,
+) -> Option<(Placed, ItemsView<'a>)>
+    requires { IsTrue (grid.is_small (grid.point size)) }
+    ensures { let sides = grid.point size in
+        IfSome result (λ r. (told : Nbt) × (entries.now ≡ told ∷ r.1)
+        × IsPlaced told sides states r.0.cell r.0.state) }
+{
+    let Some(found) = entries.split_numbers(b"pos", b"state") else {
+        return None;
+    };
+    let numbers = found.0;
+    let Some(at) = natural(numbers) else {
+        return None;
+    };
+    if !is_within(size, at) {
+        return None;
+    }
+    let Some(state) = known(states, found.1) else {
+        return None;
+    };
+    let placed = Placed {
+        cell: number(size, at),
+        state,
+    };
+    Some((placed, found.2))
+}
+
+/// The number as an index below `states`, where it is one.
+#[inline(always)]
+fn known(states: usize, number: i32) -> Option<u32>
+    ensures known { IfSome result (λ state. (number ≡ pos state) × (state < states)) }
+    ensures unknown { result ≡ None → (index : ℕ) → index_fault states index number ≡ Some (ScanFault.BadState index) }
+{
+    if number >= 0 && (number as usize) < states {
+        Some(number as u32)
+    } else {
+        None
+    }
 }
 
 /// What the place and the state of the entry with this index tell.
@@ -127,9 +179,8 @@ fn index_of(states: usize, index: usize, found: Option<View<'_>>) -> Result<u32,
     let Some(number) = int(&value) else {
         return Err(ScanFault::WrongType(Field::StateField(index)));
     };
-    if number >= 0 && (number as usize) < states {
-        Ok(number as u32)
-    } else {
-        Err(ScanFault::BadState { index })
-    }
+    let Some(state) = known(states, number) else {
+        return Err(ScanFault::BadState { index });
+    };
+    Ok(state)
 }

@@ -94,17 +94,25 @@ impl BitRow {
         ensures { OnOk result (IsWith self.old bit self.new) }
     {
         let word = bit / 64;
-        if word < self.before || word - self.before >= self.words.len() {
-            *self = self.wider(alloc, bit)?;
+        if self.before <= word && word - self.before < self.words.len() {
+            add(self.words.as_mut_slice(), bit - 64 * self.before);
             return Ok(());
         }
-        add(self.words.as_mut_slice(), bit - 64 * self.before);
+        self.widen(alloc, bit)
+    }
+
+    /// Makes room for a bit, and sets it.
+    #[cold]
+    #[inline(never)]
+    fn widen(&mut self, alloc: Global, bit: usize) -> Result<(), AllocError>
+        requires { bit < 64 * length self.old }
+        ensures { OnOk result (IsWith self.old bit self.new) }
+    {
+        *self = self.wider(alloc, bit)?;
         Ok(())
     }
 
     /// A copy with room for a bit, and with this bit.
-    #[cold]
-    #[inline(never)]
     fn wider(&self, alloc: Global, bit: usize) -> Result<BitRow, AllocError>
         requires { bit < 64 * length self.now }
         ensures { IfOk result (IsWith self.now bit) }

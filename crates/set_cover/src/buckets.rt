@@ -5,6 +5,9 @@ ghost use Rattle.set_cover.specs.Buckets.{AreNone, IsPushed};
 use std::alloc::{AllocError, Global};
 use std::marker::Model;
 
+/// Room for this many numbers is made at once in a list that gets its first.
+const SHORT: usize = 16;
+
 /// Lists of numbers by a key.
 #[derive(Debug, Drop)]
 pub struct Buckets {
@@ -37,6 +40,7 @@ impl Buckets {
         ensures { OnOk result (IsPushed self.old key item self.new) }
     {
         let list = &mut self.lists[key];
+        make_room(list)?;
         list.push(item)?;
         Ok(())
     }
@@ -48,4 +52,15 @@ impl Buckets {
     {
         &self.lists[key]
     }
+}
+
+/// Makes room in a list without numbers.
+#[inline(always)]
+fn make_room(list: &mut Vec<u32>) -> Result<(), AllocError>
+    ensures { list.new.items ≡ list.old.items }
+{
+    if list.is_empty() {
+        list.reserve(SHORT)?;
+    }
+    Ok(())
 }

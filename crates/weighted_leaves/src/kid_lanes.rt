@@ -1,11 +1,11 @@
-//! The kids of a branch in lanes: each is run until all is known of it, or for `KID_RUNS` runs. Then the next kid takes
-//! its lane, so that lanes stand idle only at the end.
+//! The kids of a branch in lanes, but for those that the weights close as they are: each is run until all is known of
+//! it, or for `KID_RUNS` runs. Then the next kid takes its lane, so that lanes stand idle only at the end.
 
 use crate::kid_bounds::KidBounds;
 use crate::lane_runs::{LaneState, state};
 use crate::tree_sizes::before;
 use instance_reduction::InInstance;
-use linear_relaxation::{LANES, Lanes};
+use linear_relaxation::{LANES, Lanes, ONE};
 use std::alloc::{AllocError, Global};
 
 /// How many runs the relaxation of a kid makes at most.
@@ -114,21 +114,34 @@ impl<'a> KidLanes<'a> {
         Ok(())
     }
 
+    /// The first kid from this one on that the weights don't close as they are.
+    fn open_from(&self, kid: usize) -> usize {
+        let enough = self.short_of.wrapping_add(ONE);
+        for index in kid..self.places.len() {
+            let place = self.places.get(index).copied().unwrap_or(u32::MAX);
+            if self.kids.plain(InInstance::of(place)) <= enough {
+                return index;
+            }
+        }
+        self.places.len()
+    }
+
     /// Tells a lane that has begun of the next kid, if there is one; else it stays empty.
     fn fill(&mut self, lane: usize) {
-        let kid = self.next;
-        let mut next = None;
+        let next = self.next;
+        let kid = self.open_from(next);
+        let mut lane_kid = None;
         if let Some(place) = self.places.get(kid) {
             let earlier = before(self.places, kid);
             self.kids
                 .tell(&mut self.lanes, lane, InInstance::of(*place), earlier);
             self.next = kid.saturating_add(1);
-            next = Some(LaneKid { kid, runs: 0 });
+            lane_kid = Some(LaneKid { kid, runs: 0 });
         } else {
             self.lanes.clear_lane(lane);
         }
         if lane < LANES {
-            self.lane_kids[lane] = next;
+            self.lane_kids[lane] = lane_kid;
         }
     }
 }

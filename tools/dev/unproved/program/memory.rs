@@ -111,6 +111,11 @@ impl<T> Vec<T> {
     }
 
     #[inline]
+    pub fn reserve(&mut self, more: usize) -> Result<(), AllocError> {
+        self.0.reserve(more);
+        Ok(())
+    }
+
     pub fn push(&mut self, item: T) -> Result<(), AllocError> {
         self.0.push(item);
         Ok(())

@@ -3,9 +3,11 @@ use Rattle.std.proofs.Common.{arith}
 use Rattle.cave_base.specs.Box.{cell_count}
 use Rattle.set_cover.proofs.OrderLemmas.{few_below}
 use Rattle.cave_problem.specs.BlockFlood.{IsReady}
+use Rattle.cave_problem.specs.Blocks.{HasRoom}
 use Rattle.cave_problem.specs.Filling.{IsFilling}
 use Rattle.cave_problem.specs.Storing.{IsStored, Stores}
 use Rattle.cave_problem.proofs.FillLemmas.{filling_next, filling_all}
+use Rattle.cave_problem.proofs.FloodLemmas.{spread_room}
 use Rattle.cave_problem.proofs.StoreLemmas.{block_inside, block_once}
 use Rattle.cave_problem.proofs.filling.fill.Goals.{After-store, After-as_mut_slice-covered}
 use Rattle.cave_problem.proofs.filling.fill.Goals as goal
@@ -52,6 +54,17 @@ spread-requires-clause-sources c = record {
   once = block_once c.args.cells.now c.block_of-sources.result.now c.loop-block.block c.block_of-sources.ensures
       c.requires.cells.ascending;
 }
+
+pub store-requires-clause-room : goal.store-requires-clause-room
+store-requires-clause-room c =
+    subst (λ (l : List ℕ). HasRoom c.args.world.now l c.as_slice-near.result.now c.as_slice-levels.result.now
+    (length c.block_of-sources.result.now) c.in_ok-count.count) (sym c.as_slice-reach.ensures.value)
+    (subst (λ (l : List ℕ). HasRoom c.args.world.now c.spread.new.self.reach.items l c.as_slice-levels.result.now
+    (length c.block_of-sources.result.now) c.in_ok-count.count) (sym c.as_slice-near.ensures.value)
+    (subst (λ (l : List ℕ). HasRoom c.args.world.now c.spread.new.self.reach.items c.spread.new.self.near.items l
+    (length c.block_of-sources.result.now) c.in_ok-count.count) (sym c.as_slice-levels.ensures.value)
+    (spread_room c.args.world.now c.block_of-sources.result.now c.spread.new.self c.in_ok-count.count
+    c.block_of-sources.ensures.few c.in_ok-count.ensures)))
 
 -- there are as many words as the cells take
 words : (c : After-as_mut_slice-covered) → length c.as_mut_slice-covered.result.now

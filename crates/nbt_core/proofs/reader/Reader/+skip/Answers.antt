@@ -1,4 +1,4 @@
-use Rattle.std.proofs.Common.{◌*◌, refl, sym, ◌∙◌, arith}
+use Rattle.std.proofs.Common.{ℕ, ◌*◌, Ok, refl, sym, ◌∙◌, arith}
 use Rattle.std.proofs.lemmas.Result.{err_from_is_err_and}
 use Rattle.nbt_core.specs.Value.{leaf}
 use Rattle.nbt_core.specs.LeafReading.{leaf_at}
@@ -48,8 +48,18 @@ skip-returns-in_ok-room-in-List-clause-read t c =
           c.in_ok-room-in-List.ensures.ok,
     ) c.skip_list.ensures.read
 
-pub skip-returns-in_ok-room-in-Compound-clause-read : goal.skip-returns-in_ok-room-in-Compound-clause-read
-skip-returns-in_ok-room-in-Compound-clause-read t c =
+pub skip-returns-in-Some-clause-read : goal.skip-returns-in-Some-clause-read
+skip-returns-in-Some-clause-read t c =
+    rw (
+      c.in-Compound.is,
+      value_compound c.args.self.now.end c.args.self.now.rest.now c.args.room
+          c.in_ok-room-in-Compound.room c.in_ok-room-in-Compound.ensures.ok,
+    )
+    (compound_passed c.args.self.now.end (value_at c.args.self.now.end c.in_ok-room-in-Compound.room)
+    c.args.self.now.rest.now {X = ℕ} (Ok 0) c.in-Some.rest.now c.in-Some.ensures.read)
+
+pub skip-returns-in-None-clause-read : goal.skip-returns-in-None-clause-read
+skip-returns-in-None-clause-read t c =
     rw (
       c.in-Compound.is,
       value_compound c.args.self.now.end c.args.self.now.rest.now c.args.room

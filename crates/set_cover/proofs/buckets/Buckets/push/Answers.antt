@@ -14,8 +14,8 @@ returns c =
       ap length c.self.view_is,
       length-map c.self.inside.lists.items (λ (v : Vec ℕ). v.items),
     ) in
-    let was : c.index_mut-list.result.now.items ≡ bucket c.args.self.now c.args.key =
-    ap (λ (v : Vec ℕ). v.items) c.index_mut-list.ensures.value
+    let was : c.make_room.new.list.items ≡ bucket c.args.self.now c.args.key =
+    c.make_room.ensures ∙ ap (λ (v : Vec ℕ). v.items) c.index_mut-list.ensures.value
     ∙ list_at c.self.inside.lists.items c.args.key c.index_mut-list.result.now c.args.self.now c.self.view_is inside
     in
     pushed c.self.inside.lists.items c.args.key c.args.item c.push.new.self c.args.self.now c.self.view_is inside

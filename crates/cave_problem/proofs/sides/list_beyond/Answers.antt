@@ -1,7 +1,7 @@
 use Rattle.std.proofs.Common.{List, Option, None, ℕ, get_or, ap, sym, subst, arith}
 use Rattle.cave_problem.specs.Reach.{IsSide}
 use Rattle.cave_problem.proofs.SideLemmas.{beyond_inside, sides_next}
-use Rattle.cave_problem.proofs.sides.list_sides.Goals as goal
+use Rattle.cave_problem.proofs.sides.list_beyond.Goals as goal
 
 pub side_of-requires : goal.side_of-requires
 side_of-requires c = record {
