@@ -13,6 +13,7 @@ mod reduced_instance;
 mod reduced_node;
 mod region_instance;
 mod rows_left;
+mod stale;
 mod stand_ins;
 
 pub use cyclic_core::CyclicCore;

@@ -26,6 +26,16 @@ pub(crate) fn most_of(numbers: &[f32x8], indices: &[u32]) -> f32x8 {
     most
 }
 
+/// Adds an amount to the numbers at these indices.
+pub(crate) fn add_lanes(numbers: &mut [f32x8], indices: &[u32], amount: f32x8) {
+    for index in indices {
+        let index = *index as usize;
+        if index < numbers.len() {
+            numbers[index] = numbers[index] + amount;
+        }
+    }
+}
+
 /// A lane of each number, in fixed point.
 pub(crate) fn lane_numbers(
     alloc: Global,

@@ -13,14 +13,5 @@ pub mod RootLaws
 pub mod SkipLemmas
 pub mod FixedItems
 pub mod PlainLemmas
-pub mod KindLemmas
-pub mod MemberLemmas
-pub mod FieldLemmas
-pub mod FieldViews
-pub mod ItemLemmas
-pub mod IntItems
-pub mod ViewLemmas
-pub mod NextLemmas
 pub mod ReadRoot
-pub mod RootFields
 pub mod Uniqueness

@@ -1,4 +1,4 @@
--- A code for each value, by which values are told apart, as the models of `Tags` and `Entries` need it.
+-- A code for each value, by which values are told apart, as the models of `Tags`, `Entries` and views need it.
 use Rattle.std.specs.Prelude.{◌≡◌, ℕ, List, refl}
 use Rattle.std.specs.Coded.{Coded, coded_list, coded_ℕ, coded_ℤ, coded×}
 use Rattle.std.proofs.Common.{ap}

@@ -1,10 +1,8 @@
--- Passing over payloads, and values that are known to be whole.
-use Rattle.std.specs.Prelude.{◌≡◌, ◌+◌, ◌<◌, ◌≤◌, List, length, ℕ, Some, Result, Ok, Err}
+-- Passing over payloads.
+use Rattle.std.specs.Prelude.{◌≡◌, ◌+◌, List, ℕ, Some, Result, Ok, Err}
 use Rattle.nbt_core.specs.declared.fault.NbtFault.{NbtFault}
-use Rattle.nbt_core.specs.declared.kind.Kind.{Kind}
 use Rattle.nbt_core.specs.declared.kind.Kind.TheVariants as kinds
 use Rattle.nbt_core.specs.declared.kind.LeafKind.TheVariants as leaves
-use Rattle.nbt_core.specs.Value.{Nbt}
 use Rattle.nbt_core.specs.Reading.{Reads, Fails, count_at, kind_at, text_at}
 
 -- reading gives this value, and leaves these bytes
@@ -16,32 +14,6 @@ pub record IsRead {A : Type 0} (read : Reads A) (left : List ℕ) : Type 0 where
 abbrev pub Skips : {X A : Type 0} → Result X NbtFault → List ℕ → Reads A → Type 0
 Skips (Ok x) left read = IsRead read left
 Skips (Err e) left read = Fails e read
-
--- reading meets no fault
-pub record IsReadable {A : Type 0} (read : Reads A) : Type 0 where
-  pub left : List ℕ
-  pub whole : IsRead read left
-
--- the value that is read, or another where there is a fault
-abbrev pub read_or : {A : Type 0} → A → Reads A → A
-read_or other (Ok x) = x.0
-read_or other (Err e) = other
-
--- an entry of this kind and this name, and its payload with what comes after it
-pub record IsHead (end : ℕ) (kind : Kind) (name bytes payload : List ℕ) : Type 0 where
-  pub after_kind : List ℕ
-  pub kinded : kind_at end bytes ≡ Ok (Some kind, after_kind)
-  pub named : text_at end after_kind ≡ Ok (name, payload)
-  pub shorter : length payload < length bytes
-
--- an entry of this name and this value, and the bytes after it
-pub record IsEntry (end : ℕ) (inner : Kind → List ℕ → Reads Nbt) (name : List ℕ) (value : Nbt) (bytes left : List ℕ)
-    : Type 0 where
-  pub kind : Kind
-  pub payload : List ℕ
-  pub head : IsHead end kind name bytes payload
-  pub read : inner kind payload ≡ Ok (value, left)
-  pub shorter : length left ≤ length payload
 
 -- a list of `count` Ints whose items are still to come
 pub record AreInts (end room count : ℕ) (bytes items : List ℕ) : Type 0 where

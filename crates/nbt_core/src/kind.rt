@@ -21,7 +21,7 @@ impl Kind {
 
     /// How many bytes each payload of this kind takes, where all take as many.
     #[inline(always)]
-    pub fn fixed_size(self) -> Option<usize>
+    pub(crate) fn fixed_size(self) -> Option<usize>
         ensures size { result ≡ fixed_size self }
         ensures small { IfSome result (λ size. size ≤ 8) }
     {

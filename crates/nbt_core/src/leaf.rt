@@ -49,7 +49,7 @@ fn longs(alloc: Global, count: usize, run: &[u8]) -> Result<Vec<i64>, AllocError
 impl Reader<'_> {
     /// A payload that holds no other.
     #[tactic(auto, unfolding(crate::specs::LeafReading::leaf_at, crate::specs::LeafReading::array_at))]
-    pub fn leaf(&mut self, alloc: Global, kind: LeafKind) -> Result<Tag, NbtFault>
+    pub(crate) fn leaf(&mut self, alloc: Global, kind: LeafKind) -> Result<Tag, NbtFault>
         ensures read { Gives nbt result self.new.rest.now (mapped leaf (leaf_at self.old.end kind self.old.rest.now)) }
         ensures end { self.new.end ≡ self.old.end }
         ensures shrinks { length self.new.rest.now ≤ length self.old.rest.now }

@@ -31,7 +31,7 @@ impl<'a> Reader<'a> {
     /// The next `n` bytes.
     #[inline(always)]
     #[tactic(auto, unfolding(crate::specs::Reading::run_at))]
-    pub fn run(&mut self, n: usize) -> Result<&'a [u8], NbtFault>
+    pub(crate) fn run(&mut self, n: usize) -> Result<&'a [u8], NbtFault>
         ensures read { Gives (λ run. run.now) result self.new.rest.now (run_at self.old.end n self.old.rest.now) }
         ensures end { self.new.end ≡ self.old.end }
         ensures shrinks { length self.new.rest.now ≤ length self.old.rest.now }
@@ -48,7 +48,7 @@ impl<'a> Reader<'a> {
 
     /// The next `N` bytes, as an array.
     #[tactic(auto, unfolding(crate::specs::Reading::run_at))]
-    pub fn array<const N: usize>(&mut self) -> Result<[u8; N], NbtFault>
+    pub(crate) fn array<const N: usize>(&mut self) -> Result<[u8; N], NbtFault>
         ensures read { Gives (λ run. run) result self.new.rest.now (run_at self.old.end N self.old.rest.now) }
         ensures end { self.new.end ≡ self.old.end }
         ensures shrinks { length self.new.rest.now ≤ length self.old.rest.now }
@@ -60,7 +60,7 @@ impl<'a> Reader<'a> {
 
     /// The next byte, as a signed number.
     #[tactic(auto, unfolding(crate::specs::Reading::signed_at))]
-    pub fn byte(&mut self) -> Result<i8, NbtFault>
+    pub(crate) fn byte(&mut self) -> Result<i8, NbtFault>
         ensures read { Gives (λ n. n) result self.new.rest.now (signed_at self.old.end w8 1 self.old.rest.now) }
         ensures end { self.new.end ≡ self.old.end }
         ensures shrinks { length self.new.rest.now ≤ length self.old.rest.now }
@@ -70,7 +70,7 @@ impl<'a> Reader<'a> {
 
     /// The next two bytes, big-endian, as a signed number.
     #[tactic(auto, unfolding(crate::specs::Reading::signed_at))]
-    pub fn short(&mut self) -> Result<i16, NbtFault>
+    pub(crate) fn short(&mut self) -> Result<i16, NbtFault>
         ensures read { Gives (λ n. n) result self.new.rest.now (signed_at self.old.end w16 2 self.old.rest.now) }
         ensures end { self.new.end ≡ self.old.end }
         ensures shrinks { length self.new.rest.now ≤ length self.old.rest.now }
@@ -92,7 +92,7 @@ impl<'a> Reader<'a> {
 
     /// The next eight bytes, big-endian, as a signed number.
     #[tactic(auto, unfolding(crate::specs::Reading::signed_at))]
-    pub fn long(&mut self) -> Result<i64, NbtFault>
+    pub(crate) fn long(&mut self) -> Result<i64, NbtFault>
         ensures read { Gives (λ n. n) result self.new.rest.now (signed_at self.old.end w64 8 self.old.rest.now) }
         ensures end { self.new.end ≡ self.old.end }
         ensures shrinks { length self.new.rest.now ≤ length self.old.rest.now }
@@ -116,7 +116,7 @@ impl<'a> Reader<'a> {
     /// The count of an array, and the bytes of that number of numbers, each of `size` bytes.
     #[inline(always)]
     #[tactic(auto, unfolding(crate::specs::LeafReading::counted_at))]
-    pub fn counted(&mut self, size: usize) -> Result<(usize, &'a [u8]), NbtFault>
+    pub(crate) fn counted(&mut self, size: usize) -> Result<(usize, &'a [u8]), NbtFault>
         requires { size ≤ 8 }
         ensures read { Gives (λ r. (r.0, r.1.now)) result self.new.rest.now
             (counted_at self.old.end size self.old.rest.now) }
@@ -172,7 +172,7 @@ impl<'a> Reader<'a> {
 
     /// The offset of the next byte.
     #[inline(always)]
-    pub fn place(&self) -> usize
+    pub(crate) fn place(&self) -> usize
         ensures { result ≡ self.now.end - length self.now.rest.now }
     {
         self.end - self.rest.len()

@@ -64,7 +64,7 @@ impl Reader<'_> {
 
     /// Passes over the next `n` bytes.
     #[inline(always)]
-    pub fn skip_run(&mut self, n: usize) -> Result<(), NbtFault>
+    pub(crate) fn skip_run(&mut self, n: usize) -> Result<(), NbtFault>
         ensures read { Skips result self.new.rest.now (run_at self.old.end n self.old.rest.now) }
         ensures end { self.new.end ≡ self.old.end }
         ensures shrinks { length self.new.rest.now ≤ length self.old.rest.now }

@@ -33,7 +33,7 @@ fn push_entry(
 impl Reader<'_> {
     /// The name and the payload of the root.
     #[tactic(auto, unfolding(crate::specs::TreeReading::named_at))]
-    pub fn named(mut self, alloc: Global) -> Result<Tag, NbtFault>
+    pub(crate) fn named(mut self, alloc: Global) -> Result<Tag, NbtFault>
         ensures { GivesWhole nbt result (named_at self.entry.end self.entry.rest.now) }
     {
         self.text()?;

@@ -27,9 +27,10 @@ impl<'a> ThinRow<'a> {
             .unwrap_or(0)
     }
 
-    /// Whether the row has each of these bits that the part has. The part is whole.
+    /// Whether the row has each of these bits that the part has, looked for from the last on: of rows that are compared
+    /// many have the first one. The part is whole.
     pub fn has_each(&self, part: &[u64], bits: &[u32]) -> bool {
-        for bit in bits {
+        for bit in bits.iter().rev() {
             let bit = *bit as usize;
             if is_set(part, bit) && !self.has(bit) {
                 return false;
@@ -63,16 +64,6 @@ impl<'a> ThinRow<'a> {
                 .get(index.wrapping_add(shift))
                 .copied()
                 .unwrap_or(0);
-        }
-    }
-
-    /// Takes the bits of this row out of a whole row.
-    pub fn drop_in(&self, row: &mut [u64]) {
-        for index in 0..self.words.len() {
-            let at = index.wrapping_add(self.from);
-            if at < row.len() {
-                row[at] &= !self.words[index];
-            }
         }
     }
 

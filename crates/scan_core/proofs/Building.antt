@@ -13,7 +13,7 @@ use Rattle.scan_core.specs.Scan.{IsListOf, IsScanOf}
 use Rattle.scan_core.specs.Faults.{side_fault, list_fault, name_fault, place_fault, index_fault, entry_faults}
 use Rattle.scan_core.specs.Faults.{told_size, told_states, fault_of, size_fault, blocks_fault}
 use Rattle.scan_core.specs.Told.{IsSizeOf, IsPaletteOf}
-use Rattle.nbt_core.specs.Parts.{are_compounds}
+use Rattle.nbt_views.specs.Parts.{are_compounds}
 use Rattle.scan_core.specs.Judging.{first_fault, point_of, on_triple, on_field, on_compounds, each_from, on_text}
 use Rattle.scan_core.specs.Judging.{on_int}
 use Rattle.scan_core.specs.declared.state.BlockState.{BlockState}

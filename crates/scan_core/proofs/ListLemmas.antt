@@ -4,7 +4,7 @@ use Rattle.std.proofs.Common.{sym, ap, ◌∙◌}
 use Rattle.std.specs.Prelude.{if◌then◌else◌}
 use Rattle.nbt_core.specs.Value.{Nbt, leaf, list, compound, listed}
 use Rattle.scan_core.specs.Faults.{list_fault}
-use Rattle.nbt_core.specs.Parts.{are_compounds}
+use Rattle.nbt_views.specs.Parts.{are_compounds}
 use Rattle.scan_core.specs.Judging.{first_fault, on_compounds, each_from}
 use Rattle.scan_core.specs.Answer.{TellsInRoom}
 use Rattle.scan_core.specs.Scan.{AreEach, IsListOf}

@@ -5,8 +5,8 @@ use Rattle.std.proofs.lemmas.List.Elements.{All-nil, All-cons}
 use Rattle.std.proofs.lemmas.List.Kept.{AllPairs-cons}
 use Rattle.std.proofs.lemmas.Slice.Eq.{bytes_eq-Decides}
 use Rattle.nbt_core.specs.Value.{Nbt, leaf, list, compound, Members, no_members, member, members_of}
-use Rattle.nbt_core.specs.Parts.{named, entries_in}
 use Rattle.nbt_core.specs.Value as values
+use Rattle.nbt_views.specs.Parts.{named, entries_in}
 use Rattle.scan_core.specs.Properties.{has_name, with_text, last_texts, props_of, HasEachOnce}
 
 -- where a disjunction is false, both parts are

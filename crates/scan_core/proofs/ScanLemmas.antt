@@ -8,7 +8,7 @@ use Rattle.nbt_core.specs.Value as values
 use Rattle.cave_base.specs.Box.{Point, is_small, is_within}
 use Rattle.scan_core.specs.Scan.{Structure, Entry, point_value, IsEntryState, IsEntryOf, AreEach, IsListOf, IsScanOf}
 use Rattle.scan_core.specs.Faults.{list_fault, name_fault, entry_faults, told_size, told_states, fault_of}
-use Rattle.nbt_core.specs.Parts.{is_compound, are_compounds}
+use Rattle.nbt_views.specs.Parts.{is_compound, are_compounds}
 use Rattle.scan_core.specs.Judging.{first_fault, on_field, on_compounds, each_from}
 use Rattle.scan_core.specs.declared.state.BlockState.{BlockState}
 use Rattle.scan_core.specs.declared.fault.Field.{Field}

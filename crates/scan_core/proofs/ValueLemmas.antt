@@ -4,7 +4,7 @@ use Rattle.std.proofs.Common.{refl, sym, ap, ◌∙◌, arith}
 use Rattle.std.proofs.lemmas.List.{nil_from_length}
 use Rattle.nbt_core.specs.Value.{Nbt, leaf, list, compound, items_of, listed}
 use Rattle.nbt_core.specs.Value as values
-use Rattle.nbt_core.specs.Parts.{items_in, are_compounds}
+use Rattle.nbt_views.specs.Parts.{items_in, are_compounds}
 use Rattle.cave_base.specs.Box.{Point}
 use Rattle.scan_core.specs.Judging.{on_triple, point_of}
 use Rattle.scan_core.specs.Scan.{point_value, triple}

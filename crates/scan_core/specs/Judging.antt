@@ -2,7 +2,7 @@
 use Rattle.std.specs.Prelude.{ℕ, suc, ℤ, pos, List, [], ◌∷◌, ◌++◌, Option, Some, None, if◌then◌else◌}
 use Rattle.nbt_core.specs.Value.{Nbt, leaf, list, compound, no_items, item, listed}
 use Rattle.nbt_core.specs.Value as values
-use Rattle.nbt_core.specs.Parts.{are_compounds}
+use Rattle.nbt_views.specs.Parts.{are_compounds}
 use Rattle.cave_base.specs.Box.{Point}
 use Rattle.scan_core.specs.declared.fault.ScanFault.{ScanFault}
 

@@ -1,7 +1,7 @@
 -- What single values tell, and a size and a palette that were found.
 use Rattle.std.specs.Prelude.{◌≡◌, ◌≢◌, ℤ, pos, true, false, IsTrue, List, Option, Some, None, slice_index_or}
 use Rattle.nbt_core.specs.Value.{Nbt, list, items_of}
-use Rattle.nbt_core.specs.Parts.{are_compounds}
+use Rattle.nbt_views.specs.Parts.{are_compounds}
 use Rattle.cave_base.specs.Box.{Point, is_small}
 use Rattle.scan_core.specs.Scan.{triple, point_value, IsEntryState, IsListOf}
 use Rattle.scan_core.specs.Judging.{point_of}

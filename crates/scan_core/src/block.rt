@@ -2,8 +2,8 @@
 //! `blocks_fault` of specs/Faults.antt.
 ghost use Rattle.std.specs.Prelude.{◌≡◌, ◌<◌, ◌∷◌, ℕ, All, Some, None, pos, codes, length, IfSome, IsTrue};
 ghost use Rattle.cave_base.specs.Box as grid;
-ghost use Rattle.nbt_core.specs.Fields.{two_fields};
 ghost use Rattle.nbt_core.specs.Value.{Nbt};
+ghost use Rattle.nbt_views.specs.Fields.{two_fields};
 ghost use Rattle.scan_core.specs.Answer.{TellsOrFaults, TellsInRoom};
 ghost use Rattle.scan_core.specs.Cells.{AreCellsOf, IsIndexOf, IsPlaced, IsPointOf, ShowEntries};
 ghost use Rattle.scan_core.specs.Faults.{blocks_fault, entry_faults, index_fault, pos_fault, state_fault};
@@ -13,7 +13,7 @@ ghost use Rattle.scan_core.specs.declared.fault.ScanFault.{ScanFault};
 use crate::fault::{Field, ScanFault};
 use crate::value::{compounds, int, natural, triple};
 use cave_base::{Cell, is_within, number};
-use nbt_core::{ItemsView, View};
+use nbt_views::{ItemsView, View};
 use std::alloc::Global;
 
 /// For each cell of a box of this size the state that the root's blocks tell: an index below `states`, or none.

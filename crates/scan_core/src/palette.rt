@@ -1,8 +1,8 @@
 //! The block states of a structure: `IsPaletteOf` of specs/Told.antt, and where there are none `palette_fault` of
 //! specs/Faults.antt.
 ghost use Rattle.std.specs.Prelude.{◌≡◌, codes};
-ghost use Rattle.nbt_core.specs.Fields.{two_fields};
 ghost use Rattle.nbt_core.specs.Value.{Nbt};
+ghost use Rattle.nbt_views.specs.Fields.{two_fields};
 ghost use Rattle.scan_core.specs.Answer.{TellsInRoom};
 ghost use Rattle.scan_core.specs.Faults.{name_fault, palette_fault};
 ghost use Rattle.scan_core.specs.Judging.{each_from, first_fault};
@@ -13,7 +13,7 @@ use crate::fault::{Field, ScanFault};
 use crate::property::{copy, properties};
 use crate::state::BlockState;
 use crate::value::{compounds, text};
-use nbt_core::{ItemsView, View};
+use nbt_views::{ItemsView, View};
 use std::alloc::Global;
 
 /// The states that the root's palette tells.

@@ -10,7 +10,7 @@ ghost use Rattle.scan_core.specs.declared.fault.ScanFault.{ScanFault};
 use crate::fault::ScanFault;
 use crate::value::text;
 use cave_base::Sequence;
-use nbt_core::{EntriesView, View};
+use nbt_views::{EntriesView, View};
 use std::alloc::Global;
 use std::collections::BTreeSet;
 

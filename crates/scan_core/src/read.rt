@@ -1,9 +1,9 @@
 //! A structure from its bytes: `Scans` of specs/Scan.antt, and where there is none `IsFaultOf` of specs/Faults.antt.
 ghost use Rattle.std.specs.Prelude.{◌≡◌, ◌≢◌, IfOk, IfErr, codes};
 ghost use Rattle.cave_base.specs.Answer.{IsAnswer, IsRefusal};
-ghost use Rattle.nbt_core.specs.Fields.{four_fields};
 ghost use Rattle.nbt_core.specs.Spelling.{Root};
 ghost use Rattle.nbt_core.specs.Value.{Nbt};
+ghost use Rattle.nbt_views.specs.Fields.{four_fields};
 ghost use Rattle.scan_core.specs.Answer.{TellsInRoom};
 ghost use Rattle.scan_core.specs.Faults.{IsFaultOf, fault_of};
 ghost use Rattle.scan_core.specs.Scan.{IsScanOf, Scans, Structure};
@@ -14,7 +14,7 @@ use crate::fault::ScanFault;
 use crate::palette::palette_of;
 use crate::scan::Scan;
 use crate::size::size_of;
-use nbt_core::{View, root_fields};
+use nbt_views::{View, root_fields};
 use std::alloc::Global;
 
 /// Reads the bytes of a structure file: an NBT root with a size, a palette and blocks. What else stands

@@ -8,7 +8,7 @@ ghost use Rattle.scan_core.specs.Told.{IsSizeOf};
 use crate::fault::{Field, ScanFault};
 use crate::value::{natural, triple};
 use cave_base::is_small;
-use nbt_core::View;
+use nbt_views::View;
 
 /// The sides of the box that the root's size tells.
 pub fn size_of(found: Option<View<'_>>) -> Result<[u32; 3], ScanFault>

@@ -6,7 +6,7 @@ ghost use Rattle.nbt_core.specs.Value as values;
 ghost use Rattle.nbt_core.specs.Value.{leaf};
 ghost use Rattle.scan_core.specs.Told.{AreCompoundsOf, IsReadAs, point_of_list, triple_value};
 
-use nbt_core::{ItemsView, View};
+use nbt_views::{ItemsView, View};
 
 /// The number of an Int.
 pub fn int(value: &View<'_>) -> Option<i32>

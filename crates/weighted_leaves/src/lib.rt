@@ -15,6 +15,7 @@ mod lane_runs;
 mod leaf;
 mod parts;
 mod picking;
+mod raising;
 mod solving;
 mod sought;
 mod starting;

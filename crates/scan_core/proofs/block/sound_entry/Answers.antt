@@ -3,7 +3,7 @@ use Rattle.std.specs.Int.{w32}
 use Rattle.std.proofs.lemmas.Int.{to_z-of_z}
 use Rattle.nbt_core.specs.Value.{Nbt, leaf}
 use Rattle.nbt_core.specs.Value as values
-use Rattle.nbt_core.specs.Parts.{numbers}
+use Rattle.nbt_views.specs.Parts.{numbers}
 use Rattle.cave_base.specs.Box as grid
 use Rattle.scan_core.proofs.ValueLemmas.{point_triple}
 use Rattle.scan_core.proofs.block.sound_entry.Goals as goal

@@ -1,5 +1,0 @@
-use Rattle.nbt_core.proofs.KindLemmas.{field_entries}
-use Rattle.nbt_core.proofs.view.View.field.Goals as goal
-
-pub loop-key-init : goal.loop-key-init
-loop-key-init c = field_entries c.args.name.now c.args.self.now c.in-Some.entries c.in-Some.ensures

@@ -1,0 +1,10 @@
+pub mod KindLemmas
+pub mod MemberLemmas
+pub mod FieldLemmas
+pub mod FieldViews
+pub mod ItemLemmas
+pub mod IntItems
+pub mod EntryLemmas
+pub mod ViewLemmas
+pub mod NextLemmas
+pub mod RootFields

@@ -1,0 +1,6 @@
+-- public clauses cite
+pub mod Parts
+pub mod Fields
+pub mod Borrowed
+-- private
+pub mod Entry
