@@ -1,6 +1,6 @@
 //! Plain entries, an Int or a list of Ints, as a structure's blocks have them: `IsPassed` and `AreInts` of
-//! specs/Skipping.antt. The code here is short and calls nothing, so that it is several times faster than the general
-//! way. `None` and `false` say only that the general way has to be taken.
+//! specs/Skipping.antt. The code here is short and inlined whole, so that it is several times faster than the
+//! general way. `None` and `false` say only that the general way has to be taken.
 ghost use Rattle.std.specs.Prelude.{◌≡◌, ◌≤◌, length, IfSome, IsTrue};
 ghost use Rattle.nbt_core.specs.Skipping.{AreInts, IsPassed, IsRead};
 ghost use Rattle.nbt_core.specs.TreeReading.{members_at, value_at};
