@@ -1,5 +1,6 @@
 //! Numbers in fixed point, and lists of them. Sums wrap: nothing rests on them.
 
+use number_lists::NumberLists;
 use std::alloc::{AllocError, Global};
 
 /// How many bits stand behind the point.
@@ -66,6 +67,18 @@ pub fn add_at(numbers: &mut [i64], indices: &[u32], amount: i64) {
         let index = *index as usize;
         if index < numbers.len() {
             numbers[index] = numbers[index].wrapping_add(amount);
+        }
+    }
+}
+
+/// Writes for each index the sum of the numbers in whose lists it is.
+pub(crate) fn put_loads(loads: &mut [i64], lists: &NumberLists, numbers: &[i64]) {
+    for load in loads.iter_mut() {
+        *load = 0;
+    }
+    for (index, number) in numbers.iter().enumerate() {
+        if *number != 0 {
+            add_at(loads, lists.list(index), *number);
         }
     }
 }

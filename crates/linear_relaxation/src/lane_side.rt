@@ -1,7 +1,7 @@
 //! One side of relaxations that are solved side by side, as `side` has that of one: each number has a lane for each of
 //! them. A number that a lane is without stays 0 there.
 
-use crate::runs::{ranked_runs, runs_of};
+use crate::run_lists::RunLists;
 use crate::side::Lack;
 use number_lists::NumberLists;
 use std::alloc::{AllocError, Global};
@@ -12,7 +12,7 @@ use std::simd::prelude::*;
 #[derive(Drop)]
 pub(crate) struct LaneSide {
     /// The runs of what each number meets, and the sums of the other side that these are read by.
-    runs: NumberLists,
+    runs: RunLists,
     sums: Vec<f32x8>,
     /// How many numbers each meets in each lane; no end of them where the lane is without it.
     counts: Vec<f32x8>,
@@ -30,13 +30,13 @@ impl LaneSide {
         meets: &NumberLists,
         others: usize,
     ) -> Result<LaneSide, AllocError> {
-        LaneSide::of(alloc, runs_of(alloc, meets)?, others)
+        LaneSide::of(alloc, RunLists::of(alloc, meets)?, others)
     }
 
     /// The side of numbers of which each meets those of its runs.
-    fn of(alloc: Global, runs: NumberLists, others: usize) -> Result<LaneSide, AllocError> {
+    fn of(alloc: Global, runs: RunLists, others: usize) -> Result<LaneSide, AllocError> {
         let none = f32x8::splat(0.0);
-        let count = runs.count();
+        let count = runs.runs().count();
         Ok(LaneSide {
             runs,
             sums: vec![in alloc; none; others.saturating_add(1)]?,
@@ -58,7 +58,7 @@ impl LaneSide {
         others: &[f32x8],
     ) -> Result<LaneSide, AllocError> {
         let none = f32x8::splat(0.0);
-        let runs = ranked_runs(alloc, &self.runs, indices, ranks)?;
+        let runs = self.runs.ranked(alloc, indices, ranks)?;
         let mut part = LaneSide::of(alloc, runs, others.len())?;
         put_sums(part.sums.as_mut_slice(), others);
         let numbers = part.numbers.as_mut_slice();
@@ -66,7 +66,7 @@ impl LaneSide {
         for (number, index) in indices.iter().enumerate() {
             let index = *index as usize;
             if number < numbers.len() && number < counts.len() {
-                let count = sum_of_runs(part.sums.as_slice(), part.runs.list(number));
+                let count = sum_of_runs(part.sums.as_slice(), part.runs.runs().list(number));
                 let has_it = lanes_at(self.steps.as_slice(), index).simd_gt(none);
                 numbers[number] = lanes_at(self.numbers.as_slice(), index);
                 counts[number] = has_it.select(count, f32x8::splat(f32::INFINITY));
@@ -195,22 +195,31 @@ impl LaneSide {
         let part = f32x8::splat(back.unwrap_or(0.0));
         let numbers = self.numbers.as_mut_slice();
         let ahead = self.ahead.as_mut_slice();
-        for index in 0..numbers.len() {
-            let met = sum_of_runs(self.sums.as_slice(), self.runs.list(index));
-            let lacks = (one - met) * lanes_at(self.steps.as_slice(), index);
-            let before = numbers[index];
-            let next = match lack {
-                Lack::Lowers => (before - lacks).simd_max(none),
-                Lack::Raises => (before + lacks).simd_max(none),
-            };
-            let farther = next + (next - before);
-            if index < ahead.len() {
-                ahead[index] = farther;
+        let mut ends = self.runs.ends();
+        for length in 0..self.runs.by_length().count() {
+            for list in self.runs.by_length().list(length) {
+                let (these, later) = ends.split_at(length.min(ends.len()));
+                ends = later;
+                let index = *list as usize;
+                if index < numbers.len() {
+                    let met = sum_of_runs(self.sums.as_slice(), these);
+                    let lacks = (one - met) * lanes_at(self.steps.as_slice(), index);
+                    let before = numbers[index];
+                    let next = match lack {
+                        Lack::Lowers => (before - lacks).simd_max(none),
+                        Lack::Raises => (before + lacks).simd_max(none),
+                    };
+                    let farther = next + (next - before);
+                    if index < ahead.len() {
+                        ahead[index] = farther;
+                    }
+                    numbers[index] = match back {
+                        Some(_) => farther
+                            + (lanes_at(self.first.as_slice(), index) - farther) * part,
+                        None => next,
+                    };
+                }
             }
-            numbers[index] = match back {
-                Some(_) => farther + (lanes_at(self.first.as_slice(), index) - farther) * part,
-                None => next,
-            };
         }
     }
 
@@ -218,7 +227,7 @@ impl LaneSide {
     pub(crate) fn write_met(&mut self, others: &[f32x8], met: &mut [f32x8]) {
         put_sums(self.sums.as_mut_slice(), others);
         for index in 0..met.len() {
-            met[index] = sum_of_runs(self.sums.as_slice(), self.runs.list(index));
+            met[index] = sum_of_runs(self.sums.as_slice(), self.runs.runs().list(index));
         }
     }
 
@@ -229,7 +238,7 @@ impl LaneSide {
         let most = f32x8::splat(f32::INFINITY);
         let mut least = most;
         for index in 0..self.numbers.len() {
-            let met = sum_of_runs(self.sums.as_slice(), self.runs.list(index));
+            let met = sum_of_runs(self.sums.as_slice(), self.runs.runs().list(index));
             let has_it = lanes_at(self.steps.as_slice(), index).simd_gt(none);
             least = least.simd_min(has_it.select(met, most));
         }

@@ -54,6 +54,16 @@ impl RunLists {
         &self.runs
     }
 
+    /// For each number of ends the lists that have as many.
+    pub(crate) fn by_length(&self) -> &NumberLists {
+        &self.by_length
+    }
+
+    /// The ends of all lists, in that order.
+    pub(crate) fn ends(&self) -> &[u32] {
+        self.ends.as_slice()
+    }
+
     /// Writes for each list the sum over its runs, by the sums of all that stands before each number.
     pub(crate) fn write_sums(&self, sums: &[i64], found: &mut [i64]) {
         let mut ends = self.ends.as_slice();

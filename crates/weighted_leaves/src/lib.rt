@@ -7,6 +7,7 @@ mod branch_on;
 mod branching;
 mod effort;
 mod grouping;
+mod joining;
 mod kernel;
 mod kid_bounds;
 mod kid_lanes;
