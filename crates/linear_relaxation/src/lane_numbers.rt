@@ -26,6 +26,15 @@ pub(crate) fn most_of(numbers: &[f32x8], indices: &[u32]) -> f32x8 {
     most
 }
 
+/// The sum of all.
+pub(crate) fn sum_of(numbers: &[f32x8]) -> f32x8 {
+    let mut total = f32x8::splat(0.0);
+    for number in numbers {
+        total = total + *number;
+    }
+    total
+}
+
 /// Adds an amount to the numbers at these indices.
 pub(crate) fn add_lanes(numbers: &mut [f32x8], indices: &[u32], amount: f32x8) {
     for index in indices {

@@ -7,6 +7,7 @@
 #![tactic(auto)]
 
 mod active_set;
+mod ends;
 mod fewer_cells;
 mod fixed_point;
 mod in_part;
@@ -14,6 +15,7 @@ mod indices;
 mod lane_numbers;
 mod lane_side;
 mod lane_steps;
+mod lane_weights;
 mod lanes;
 mod relaxation;
 mod rounding;
@@ -21,6 +23,7 @@ mod run_lists;
 mod runs;
 mod side;
 mod sides;
+mod unrounded;
 mod whole_weights;
 
 pub use fixed_point::{BITS, ONE, add_at, at, most_at, numbers_at, ones};

@@ -29,12 +29,23 @@ pub(crate) fn push_group(
     cells: &[u32],
     whole: &WholeWeights<'_>,
 ) -> Result<(), AllocError> {
+    let shares = shares_of(alloc, left, cells, whole)?;
+    push_shares(groups, whole.capacity(), shares)
+}
+
+/// The shares of those of these cells that are left and weigh anything.
+pub(crate) fn shares_of(
+    alloc: Global,
+    left: RowsLeft<'_>,
+    cells: &[u32],
+    whole: &WholeWeights<'_>,
+) -> Result<Vec<Share>, AllocError> {
     let mut shares = Vec::new(alloc);
     for (index, cell) in cells.iter().enumerate() {
         let weight = whole.weight(InPart::at(index));
         push_share(&mut shares, left, InInstance::of(*cell), weight)?;
     }
-    push_shares(groups, whole.capacity(), shares)
+    Ok(shares)
 }
 
 /// Adds the share of a cell, if it is left and weighs anything.
@@ -56,7 +67,7 @@ fn push_share(
 }
 
 /// Adds the group of these shares, where there are any.
-fn push_shares(
+pub(crate) fn push_shares(
     groups: &mut Vec<Group>,
     capacity: u32,
     shares: Vec<Share>,

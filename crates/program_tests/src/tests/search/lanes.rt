@@ -17,18 +17,8 @@ fn lanes(alloc: Global) -> Result<Lanes, AllocError> {
     Lanes::new(alloc, lights, &[ONE / 32; 3], &[ONE / 8; 3])
 }
 
-/// A number of hundredths, nearest to what a lane shows.
-fn hundredths(lanes: &Lanes, lane: usize) -> i64 {
-    lanes
-        .bound(lane)
-        .saturating_mul(100)
-        .saturating_add(ONE / 2)
-        / ONE
-}
-
-#[test]
-fn each_lane_shows_its_own_value(rt: HostRuntime) -> Result<(), Fail> {
-    let alloc = rt.alloc();
+/// The same lanes after four runs: in one the third place is barred, in the next the cell 0 is lit.
+fn solved_lanes(alloc: Global) -> Result<Lanes, AllocError> {
     let mut lanes = lanes(alloc)?;
     lanes.begin();
     lanes.bar(1, InPart::of(2));
@@ -37,10 +27,47 @@ fn each_lane_shows_its_own_value(rt: HostRuntime) -> Result<(), Fail> {
     for _ in 0..4u32 {
         lanes.run(alloc)?;
     }
-    assert_eq!(rt; hundredths(&lanes, 0), 150);
-    assert_eq!(rt; hundredths(&lanes, 1), 200);
-    assert_eq!(rt; hundredths(&lanes, 2), 100);
+    Ok(lanes)
+}
+
+/// A number of hundredths, nearest to this one in fixed point.
+fn hundredths(number: i64) -> i64 {
+    number.saturating_mul(100).saturating_add(ONE / 2) / ONE
+}
+
+#[test]
+fn each_lane_shows_its_own_value(rt: HostRuntime) -> Result<(), Fail> {
+    let alloc = rt.alloc();
+    let lanes = solved_lanes(alloc)?;
     // The last lane is told nothing, like the first.
-    assert_eq!(rt; hundredths(&lanes, 7), 150);
+    for (lane, shown) in [(0usize, 150i64), (1, 200), (2, 100), (7, 150)] {
+        assert_eq!(rt; hundredths(lanes.bound(lane)), shown);
+        assert_eq!(rt; hundredths(lanes.estimate(lane)), shown);
+    }
+    Ok(())
+}
+
+#[test]
+fn whole_weights_are_those_of_the_lane(rt: HostRuntime) -> Result<(), Fail> {
+    let alloc = rt.alloc();
+    let lanes = solved_lanes(alloc)?;
+    // By the halves of all three cells no place lights more than two of a capacity of two.
+    let Some(halves) = lanes.whole_weights(alloc, 0, 2)? else {
+        return Err(Fail::from("no weights"));
+    };
+    assert_eq!(rt; halves.capacity(), 2);
+    for cell in 0..3u32 {
+        assert_eq!(rt; halves.weight(InPart::of(cell)), 1);
+    }
+    // Where the place of the cells 0 and 2 is barred each of these needs a place.
+    let Some(apart) = lanes.whole_weights(alloc, 1, 2)? else {
+        return Err(Fail::from("no weights"));
+    };
+    assert_eq!(rt; apart.capacity(), 1);
+    assert_eq!(rt; apart.weight(InPart::of(0)), 1);
+    assert_eq!(rt; apart.weight(InPart::of(1)), 0);
+    assert_eq!(rt; apart.weight(InPart::of(2)), 1);
+    // Where the cell 0 is lit one place is enough.
+    assert!(rt; lanes.whole_weights(alloc, 2, 2)?.is_none());
     Ok(())
 }
