@@ -21,6 +21,9 @@ const LAST_CAPACITY: u32 = 1 << BITS;
 /// What weights have to weigh beyond, times a capacity, that it is tried: nearly one, since rounding may gain a little.
 const NEARLY: u64 = (1 << BITS) / 16 * 15;
 
+/// Of what rounding leaves out raising weights seldom makes up for all: one part of these is left.
+const NOT_MADE_UP: u64 = 96;
+
 /// What a place that is barred is said to light, so that it binds no weight.
 pub(crate) const BARRED: i64 = -(1 << 50);
 
@@ -66,8 +69,8 @@ impl Unrounded<'_> {
         let beyond = beyond.max(0).unsigned_abs();
         for capacity in CAPACITIES {
             let times = u64::from(capacity);
-            if beyond.saturating_mul(times) >= NEARLY {
-                let least = fewer.saturating_mul(times).saturating_add(1);
+            let least = fewer.saturating_mul(times).saturating_add(1);
+            if beyond.saturating_mul(times) >= NEARLY && self.may_reach(capacity, least) {
                 let mut found = self.rounded(alloc, coverage, capacity)?;
                 if found.total() >= least {
                     found.leave_out_cells(alloc, least)?;
@@ -76,6 +79,19 @@ impl Unrounded<'_> {
             }
         }
         self.rounded(alloc, coverage, LAST_CAPACITY)
+    }
+
+    /// Whether weights rounded at a capacity are likely to weigh `least` once they are raised.
+    fn may_reach(self, capacity: u32, least: u64) -> bool {
+        let mut rounded: u64 = 0;
+        let mut lost: u64 = 0;
+        for weight in self.weights {
+            rounded = rounded.saturating_add(u64::from(whole(*weight, capacity)));
+            lost = lost.saturating_add(left_out(*weight, capacity));
+        }
+        let lost = lost.div_ceil(1 << BITS);
+        let lacks = least.saturating_sub(rounded);
+        lacks <= lost.saturating_sub(lost / NOT_MADE_UP)
     }
 
     /// The whole weights at a capacity.
