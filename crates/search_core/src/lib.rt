@@ -5,6 +5,7 @@
 mod beginning;
 mod carrying;
 mod core_rounds;
+mod leaf_sizes;
 mod one_worker;
 mod rounds;
 mod shared_rounds;
