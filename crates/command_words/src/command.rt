@@ -7,7 +7,7 @@ use clap::{Arg, ArgAction, Command};
 use std::alloc::{AllocError, Global};
 
 /// The version, and the toolchain that it was proved with.
-const VERSION: &str = "0.28.0 (proved with rattle-kit-13f)";
+const VERSION: &str = "0.29.0 (proved with rattle-kit-13f)";
 
 /// An argument that has to be there.
 fn placed<'a>(alloc: Global, name: &'a str, help: &'a str) -> Arg<'a>

@@ -7,6 +7,7 @@ mod covers;
 mod descent;
 mod leaves;
 mod moves;
+mod node_count;
 mod strategy;
 
 pub use moves::Moves;
